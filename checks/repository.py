@@ -1,7 +1,7 @@
 #!/usr/bin/env python3
 """The repository's own checks: quick looks that no proof makes. Ends with status 1 where one finds something.
 
-With `--table`, writes the table of crates of docs/architecture.md anew, from crates.txt and the crates' pages.
+With `--table`, writes the maps of README and docs/architecture.md anew, from crates.txt and the crates' pages.
 """
 
 import pathlib
@@ -11,6 +11,7 @@ import subprocess
 import sys
 
 import lemmas
+import style
 
 TOP = pathlib.Path(__file__).resolve().parent.parent
 
@@ -37,6 +38,35 @@ def lines_of_crates():
 def crates():
     """The names in crates.txt, in the order of its lines."""
     return [name for name, _ in lines_of_crates()]
+
+
+def layers():
+    """The layers of crates.txt in its order: each with its prefix, what it does, and its crates."""
+    found = []
+    for line in (TOP / "crates.txt").read_text().splitlines():
+        head = re.match(r"# (\w+_): (.*)", line)
+        if head:
+            found.append((head[1], head[2], []))
+        elif ":" in line and not line.startswith("#"):
+            found[-1][2].append(line.partition(":")[0].split()[0])
+    return found
+
+
+def crates_are_in_layers():
+    """Each crate's name begins with its layer's prefix (the program `cec` is the layer's word), it uses crates above it in
+    the list alone, and `X_laws` is next to `X`."""
+    found = []
+    place = {name: number for number, name in enumerate(crates())}
+    for prefix, _, names in layers():
+        for name in names:
+            if not f"{name}_".startswith(prefix):
+                found.append(f"crates.txt: {name} is in the section {prefix}")
+            about = name.removesuffix("_laws")
+            if about != name and place.get(about) != place[name] - 1:
+                found.append(f"crates.txt: {name} is not next to {about}")
+    for name, below in lines_of_crates():
+        found += [f"crates.txt: {name} is above {it}, which it uses" for it in below if place[it] > place[name]]
+    return found
 
 
 CITES = re.compile(
@@ -81,41 +111,157 @@ def first_sentence(name):
     return re.split(r"\.(?= [A-Z`]|$)", text)[0]
 
 
-def table_of_crates():
-    """The rows of the table of crates, in the order of crates.txt."""
-    rows = []
-    for name, below in lines_of_crates():
-        stands = ", ".join(f"`{it}`" for it in below) or "none"
-        rows.append(f"| [`{name}`](../crates/{name}/README.md) | {first_sentence(name)} | {stands} |")
+def section_of_crates():
+    """The lines of docs/architecture.md from its first layer on: each layer with a table of its crates."""
+    uses = dict(lines_of_crates())
+    lines = []
+    for prefix, what, names in layers():
+        lines += [f"### `{prefix}`", "", what, "", "| Crate | What it is | Uses |", "|---|---|---|"]
+        for name in names:
+            below = ", ".join(f"`{it}`" for it in uses[name]) or "none"
+            lines.append(f"| [`{name}`](../crates/{name}/README.md) | {first_sentence(name)} | {below} |")
+        lines.append("")
+    return lines
+
+
+def map_of_layers():
+    """The rows of README's map: each layer with what it does and its crates."""
+    rows = ["| Layer | What it does | Crates |", "|---|---|---|"]
+    for prefix, what, names in layers():
+        rows.append(f"| `{prefix}` | {what} | {', '.join(f'[`{it}`](crates/{it}/README.md)' for it in names)} |")
     return rows
 
 
+MAPS = [("docs/architecture.md", "### `", section_of_crates), ("README.md", "| Layer |", map_of_layers)]
+
+
+def with_map(page, begins, lines):
+    """The page's lines with these in place of its map, which begins at the first line that begins so and ends before the next
+    heading of the page's second level, or for a table at its last row."""
+    old = (TOP / page).read_text().split("\n")
+    first = next((number for number, line in enumerate(old) if line.startswith(begins)), None)
+    if first is None:
+        return None
+    is_table = begins.startswith("|")
+    last = first
+    while last < len(old) and (old[last].startswith("|") if is_table else not old[last].startswith("## ")):
+        last += 1
+    return old[:first] + lines + old[last:]
+
+
 def crates_are_introduced():
-    """The table of docs/architecture.md has a row for each crate, with the first sentence of its page and the crates that it
-    stands on, and each crate has a `//!` head in its root file."""
+    """The maps of README and docs/architecture.md have the layers and crates of crates.txt, in its order, with the first
+    sentence of each crate's page and the crates that it uses; and each crate has a `//!` head in its root file."""
     found = []
     for name in crates():
         folder = TOP / "crates" / name / "src"
         root = folder / "lib.rt" if (folder / "lib.rt").exists() else folder / "main.rt"
         if not root.exists() or not root.read_text().startswith("//!"):
             found.append(f"crates/{name}: the root file has no `//!` head")
-    rows = table_of_crates()
-    lines = [line for line in (TOP / "docs" / "architecture.md").read_text().splitlines() if line.startswith("| [`")]
-    for line in lines:
-        if line not in rows:
-            found.append(f"docs/architecture.md: `{line[:60]}..` is no row (checks/repository.py --table writes them)")
-    if not found and lines != rows:
-        found.append("docs/architecture.md: the rows are not those of crates.txt (checks/repository.py --table writes them)")
+    for page, begins, lines in MAPS:
+        wanted = with_map(page, begins, lines())
+        if wanted is None or (TOP / page).read_text().rstrip("\n") != "\n".join(wanted).rstrip("\n"):
+            found.append(f"{page}: its map is not that of crates.txt (checks/repository.py --table writes it)")
     return found
 
 
 def write_table():
-    """Writes the table of crates of docs/architecture.md."""
-    page = TOP / "docs" / "architecture.md"
-    lines = page.read_text().split("\n")
-    places = [place for place, line in enumerate(lines) if line.startswith("| [`")]
-    lines[places[0] : places[-1] + 1] = table_of_crates()
-    page.write_text("\n".join(lines))
+    """Writes the maps of README and docs/architecture.md."""
+    for page, begins, lines in MAPS:
+        wanted = with_map(page, begins, lines())
+        if wanted:
+            (TOP / page).write_text("\n".join(wanted).rstrip("\n") + "\n")
+
+
+LINKED_CRATE = re.compile(r"crates/(\w+)")
+
+
+def pages_name_crates_that_are():
+    """Each crate that a page, a check or a tool names by its folder is there."""
+    found = []
+    for path in tracked():
+        name = path.relative_to(TOP).as_posix()
+        if path.suffix not in READ or not path.is_file() or name.startswith("crates/") and path.suffix != ".md":
+            continue
+        for number, line in enumerate(path.read_text(errors="replace").splitlines(), 1):
+            for crate in LINKED_CRATE.findall(line):
+                if "_" in crate and not (TOP / "crates" / crate).is_dir():
+                    found.append(f"{name}:{number}: no crate {crate}")
+    return found
+
+
+EXPORTED = re.compile(r"^pub use ([\s\S]*?);", re.M)
+DECLARED = re.compile(r"^pub (?:const )?(?:fn|struct|enum|trait|type|const) (\w+)", re.M)
+DEFINED = re.compile(r"^(?:(?:abbrev )?pub (?:abbrev |record |data )?|(?:record|data) pub )([^\s:({]+)\s*[:({]", re.M)
+# Crates of target languages may use one word for one role: the crate says of which language.
+TARGETS = ("blif_", "csub_", "vlog_")
+
+
+def public_words():
+    """Each public word with the crates that define it: what a root file exports, and the definitions that a reader of the
+    theorem must believe."""
+    words = {}
+    ours = set(crates())
+    for name in crates():
+        folder = TOP / "crates" / name
+        root = folder / "src" / "lib.rt"
+        exported = set()
+        for item in EXPORTED.findall(root.read_text()) if root.exists() else []:
+            if item.split("::")[0] not in ours:
+                listed = re.search(r"\{([\s\S]*)\}", item)
+                parts = listed[1].split(",") if listed else [item]
+                exported |= {re.split(r"::| as ", part.strip())[-1].strip() for part in parts}
+        declared = {it for path in folder.glob("src/**/*.rt") for it in DECLARED.findall(path.read_text())}
+        believed = [path.read_text() for path in folder.glob("specs/**/*.antt")]
+        defined = {it for text in believed if text.startswith("-- To believe:") for it in DEFINED.findall(text)}
+        for word in (exported & declared) | (defined - {"use", "mod"}):
+            words.setdefault(word, set()).add(name)
+    return words
+
+
+def words_have_one_meaning():
+    """No public word has meanings in two crates, but for target languages and the words that checks/shared_words.txt lists
+    with a reason, each of which must still be needed."""
+    listed = set()
+    for line in (TOP / "checks" / "shared_words.txt").read_text().splitlines():
+        if not line.startswith("#"):
+            listed |= set(line.rpartition(":")[2].split())
+    shared = {}
+    for word, names in public_words().items():
+        groups = {"a target" if name.startswith(TARGETS) else name for name in names}
+        if len(groups) > 1:
+            shared[word] = names
+    found = [f"{word} is defined in {', '.join(sorted(names))}" for word, names in sorted(shared.items()) if word not in listed]
+    return found + [f"checks/shared_words.txt: {word} has one meaning now" for word in sorted(listed - set(shared))]
+
+
+FREE_FUNCTION = re.compile(r"^pub fn (\w+)(?:<[^(]*>)?\(([^)]*)\)([^{;]*)", re.M)
+
+
+def functions_have_callers():
+    """Each public function that computes something is called by another crate that is no test, or is listed in
+    checks/uncalled.txt with a reason, which must still be needed. (A law is a function without parameters that computes
+    nothing: its caller is the reader.)"""
+    code = {name: "\n".join(it.read_text() for it in (TOP / "crates" / name / "src").rglob("*.rt")) for name in crates()}
+    listed = {}
+    for line in (TOP / "checks" / "uncalled.txt").read_text().splitlines():
+        if not line.startswith("#"):
+            word, _, reason = line.partition(": ")
+            listed[word] = reason
+    uncalled = set()
+    for name in crates():
+        root = TOP / "crates" / name / "src" / "lib.rt"
+        if not root.exists() or name.startswith("test_"):
+            continue
+        for function, parameters, rest in FREE_FUNCTION.findall(code[name]):
+            handed = re.search(rf"\b{function}\b", "".join(EXPORTED.findall(root.read_text())))
+            is_law = not parameters.strip() and "->" not in rest.partition("ensures")[0]
+            called = re.compile(rf"\b{function}\b")
+            if handed and not is_law and not any(called.search(text) for other, text in code.items()
+                                                 if other != name and not other.startswith("test_")):
+                uncalled.add(f"{name}::{function}")
+    found = [f"{word} is called by no other crate" for word in sorted(uncalled - listed.keys())]
+    return found + [f"checks/uncalled.txt: {word} has a caller, or is gone" for word in sorted(listed.keys() - uncalled)]
 
 
 def lemmas_are_said_once():
@@ -205,9 +351,9 @@ PROOF_RULES = re.compile(r"\busing\((?:[^()]*\b)?(\w+)::proofs::(\w+)::(\w+)")
 
 
 def exports_are_listed():
-    """What other crates use of a crate's proofs by name is what its `proofs/Exports.antt` lists; all of `facts` is for others."""
+    """What other crates use of a crate's proofs by name is what its `proofs/Exports.antt` lists; all of `base_facts` is for others."""
     found, listed, used = [], set(), set()
-    ours = set(crates()) - {"facts"}
+    ours = set(crates()) - {"base_facts"}
     for path in sorted(TOP.glob("crates/*/proofs/**/*.antt")) + sorted(TOP.glob("crates/*/src/**/*.rt")):
         name = path.relative_to(TOP).as_posix()
         crate, text = path.relative_to(TOP / "crates").parts[0], path.read_text()
@@ -227,14 +373,24 @@ def exports_are_listed():
     return found
 
 
+def texts_are_plain():
+    """Texts that people read have no finding of style that is new: see checks/style.py."""
+    return style.new_findings()
+
+
 CHECKS = [
     ("the repository stands alone", stands_alone, "git"),
+    ("every crate is in its layer", crates_are_in_layers, None),
     ("every crate is introduced", crates_are_introduced, None),
+    ("pages name crates that are there", pages_name_crates_that_are, "git"),
+    ("one word has one meaning", words_have_one_meaning, None),
+    ("public functions have callers", functions_have_callers, None),
     ("every edit is named in words", edits_are_named, None),
     ("every edit has its text", edits_apply, None),
     ("no handle is allowed", handles_are_none, None),
     ("lines are short", lines_are_short, "git"),
     ("every page is whole", pages_are_whole, None),
+    ("texts are plain", texts_are_plain, "git"),
     ("each lemma is said once", lemmas_are_said_once, None),
     ("what other crates use is exported", exports_are_listed, None),
 ]

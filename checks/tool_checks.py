@@ -11,7 +11,7 @@ import time
 TOP = pathlib.Path(__file__).resolve().parent.parent
 BUILT = TOP / "crates/cec/out/cec"
 EXAMPLES = TOP / "examples"
-SECONDS = 60
+SECONDS = 120
 
 
 def program(check, count=None):
@@ -27,6 +27,20 @@ def program(check, count=None):
     return words
 
 
+def optimizer():
+    """The words that call the built cec-opt, or `$CEC_OPT`; none where it is not there."""
+    words = shlex.split(os.environ.get("CEC_OPT", "")) or [str(TOP / "crates/cec_opt/out/cec_opt")]
+    return words if shutil.which(words[0]) else None
+
+
+def program_file(folder, words, name="program"):
+    """One executable file that is a program."""
+    file = folder / name
+    file.write_text('#!/bin/sh\nexec %s "$@"\n' % " ".join(words))
+    file.chmod(0o755)
+    return file
+
+
 def has(check, *tools):
     """Whether all these tools are here; one line about each that is not."""
     missing = [tool for tool in tools if not shutil.which(tool)]
@@ -38,7 +52,7 @@ def has(check, *tools):
 def run(words, text="", folder=None, timeout=300):
     """A run of some words, over a text on standard input."""
     return subprocess.run(
-        list(map(str, words)), input=text, cwd=folder, capture_output=True, text=True, timeout=timeout, check=False
+        list(map(str, words)), input=text, cwd=folder, capture_output=True, text=True, errors="replace", timeout=timeout, check=False
     )
 
 
@@ -144,7 +158,7 @@ class Count:
         self.looked += 1
         if not is_right:
             self.failed += 1
-            print("%s: not so: %s%s" % (self.check, what, ":\n%s" % shown if shown else ""))
+            print("%s: not so: %s%s" % (self.check, what, ":\n%s" % (shown,) if shown else ""))
 
     def same(self, what, found, wanted):
         """Takes up a comparison."""

@@ -1,7 +1,7 @@
 /* Two compiled controllers in one main loop: abro.strl and traffic_light.strl, each with its own names, states and reset.
  *
- *   ./cec c examples/abro.strl > abro.c
- *   ./cec c examples/traffic_light.strl > traffic_light.c
+ *   ./cec blif --encode examples/abro.strl > abro.blif && ./cec-opt c abro.blif > abro.c
+ *   ./cec blif --encode examples/traffic_light.strl > traffic_light.blif && ./cec-opt c traffic_light.blif > traffic_light.c
  *   tools/c_interface abro.c
  *   tools/c_interface traffic_light.c
  *   gcc -std=c99 -O2 -I. examples/embed/two_controllers.c examples/embed/pins_of_a_terminal.c \

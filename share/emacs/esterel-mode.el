@@ -5,7 +5,8 @@
 ;;   (add-to-list 'load-path "/usr/local/share/cec/emacs")
 ;;   (require 'esterel-mode)
 ;;
-;; C-c C-c explains the file; M-g n goes from line to line of what it says.
+;; C-c C-c explains the file; M-g n goes from line to line of what it says. M-x eglot starts the language server, for definitions,
+;; renamings and hovers.
 
 ;;; Code:
 
@@ -84,44 +85,55 @@
   '("when" "await" "present" "every" "each" "case" "immediate" "and" "or" "not" "(" "[")
   "What stands before a bracket of a test; a number does too.")
 
-(defun esterel-open-columns (place)
-  "The columns of the lines that opened what is open at PLACE, the innermost first."
-  (let ((tokens (esterel-tokens)) (number 0) columns)
+(defun esterel-drop-case (opened)
+  "OPENED without a case at its head."
+  (if (eq (caar opened) 'case) (cdr opened) opened))
+
+(defun esterel-open-statements (place)
+  "What is open at PLACE, the innermost first: pairs of a kind and a column.
+The kind is `case' or `statement', the column that of its first line."
+  (let ((tokens (esterel-tokens)) (number 0) opened)
     (while (and (< number (length tokens)) (< (cdr (aref tokens number)) place))
       (let* ((before (esterel-token tokens (1- number)))
              (next (1+ number))
-             (column (save-excursion (goto-char (cdr (aref tokens number))) (current-indentation))))
+             (column (save-excursion (goto-char (cdr (aref tokens number))) (current-indentation)))
+             (opens (lambda (kind) (push (cons kind column) opened)))
+             (closes (lambda () (setq opened (cdr (esterel-drop-case opened)))))
+             (goes-on (lambda () (or (equal (esterel-token tokens next) "case")
+                                     (equal (esterel-token tokens (esterel-behind-delay tokens next)) "do")))))
         (pcase (esterel-token tokens number)
-          ("module" (setq columns nil))
-          ("end" (pop columns)
+          ("module" (setq opened nil))
+          ("end" (funcall closes)
            (when (member (esterel-token tokens next)
                          '("await" "present" "loop" "every" "repeat" "abort" "trap" "signal" "module"))
              (setq next (1+ next))))
-          ((or "each" "]") (pop columns))
-          ((or "loop" "abort" "suspend" "trap" "present" "every" "repeat" "signal") (push column columns))
+          ((or "each" "]") (funcall closes))
+          ("case" (setq opened (esterel-drop-case opened)) (funcall opens 'case))
+          ("else" (setq opened (esterel-drop-case opened)))
+          ((or "loop" "abort" "suspend" "trap" "present" "every" "repeat" "signal") (funcall opens 'statement))
           ("[" (if (or (equal (esterel-token tokens next) "signal")
                        (member before esterel-before-test)
                        (string-match-p "\\`[0-9]" (or before "")))
                    (setq next (esterel-behind-bracket tokens number))
-                 (push column columns)))
-          ("await" (when (or (equal (esterel-token tokens next) "case")
-                             (equal (esterel-token tokens (esterel-behind-delay tokens next)) "do"))
-                     (push column columns)))
-          ("when" (unless (or (equal (esterel-token tokens next) "case")
-                              (equal (esterel-token tokens (esterel-behind-delay tokens next)) "do"))
-                    (pop columns)
+                 (funcall opens 'statement)))
+          ("await" (when (funcall goes-on) (funcall opens 'statement)))
+          ("when" (unless (funcall goes-on)
+                    (funcall closes)
                     (setq next (esterel-behind-delay tokens next)))))
         (setq number next)))
-    columns))
+    opened))
 
 (defun esterel-indent-of-line ()
   "The column of this line."
   (save-excursion
     (back-to-indentation)
-    (let ((columns (esterel-open-columns (point))))
-      (cond ((null columns) 0)
-            ((looking-at "\\(?:\\(?:end\\|each\\|when\\|handle\\|else\\)\\_>\\|||\\|\\]\\)") (car columns))
-            (t (+ (car columns) esterel-offset))))))
+    (let ((opened (esterel-open-statements (point))))
+      (cond ((null opened) 0)
+            ((looking-at "case\\_>") (+ (cdar opened) (if (eq (caar opened) 'case) 0 esterel-offset)))
+            ((looking-at "||") (cdar opened))
+            ((looking-at "\\(?:\\(?:end\\|each\\|when\\|handle\\|else\\)\\_>\\|\\]\\)")
+             (or (cdar (esterel-drop-case opened)) 0))
+            (t (+ (cdar opened) esterel-offset))))))
 
 (defun esterel-indent-line ()
   "Indents this line."
@@ -153,6 +165,11 @@
 
 ;;;###autoload
 (add-to-list 'auto-mode-alist '("\\.strl\\'" . esterel-mode))
+
+;; Eglot (part of Emacs since 29) knows the server once it is loaded.
+(defvar eglot-server-programs)
+(with-eval-after-load 'eglot
+  (add-to-list 'eglot-server-programs '(esterel-mode "cec-language_server")))
 
 (provide 'esterel-mode)
 

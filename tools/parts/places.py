@@ -280,7 +280,8 @@ class Expander:
     def repeat(self, the_count, the_body):
         return self.seq(*[self.of(the_body) for _ in range(the_count)])
 
-    def trapping(self, the_trap, the_body, the_handler):
+    def trapping(self, the_trap, the_body, the_handler, the_handled):
+        del the_handled  # It names the trap once more.
         kept = self.traps
 
         def inside(trap, after=None):

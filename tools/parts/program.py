@@ -62,6 +62,11 @@ def ask(*words):
 def text_of(*words):
     """What the program writes for these words; its line and its status where it refuses."""
     answer = ask(*words)
+    if answer.status == CYCLIC:
+        # The wires of a cycle fill a screen; explain shows its statements.
+        raise Stop(CYCLIC, "%s: the dependencies have a cycle; `explain` shows it" % words[-1])
+    if answer.status == STATIC:
+        raise Stop(STATIC, "%s:%s; `explain` says more" % (words[-1], answer.err.decode("latin-1").strip().removeprefix("cec: ")))
     if answer.status != DONE:
         raise Stop(answer.status, answer.err.decode("latin-1").strip().removeprefix("cec: "))
     return answer.out.decode("latin-1")

@@ -256,11 +256,11 @@ class Reader:
         return "suspend", {"body": body, "delay": self.delay()}
 
     def item_trap(self):
-        parts = {"trap": self.word(), "handler": None}
+        parts = {"trap": self.word(), "handler": None, "handled": None}
         self.take("in")
         parts["body"] = self.statement()
         if self.takes("handle"):
-            self.word()
+            parts["handled"] = self.word()
             self.take("do")
             parts["handler"] = self.statement()
         self.ends("trap")

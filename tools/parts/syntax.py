@@ -1,68 +1,47 @@
 """What could stand at the place of a syntax fault: the program is asked, token by token, whether the fault moves on."""
+import difflib
 import os
 import re
 import tempfile
+from concurrent.futures import ThreadPoolExecutor
 
 from program import DONE, ask, main_words
-from tokens import MARKS, WORDS, Unread, byte_at, tokens_of
+from tokens import MARKS, WORDS, byte_at, readable_tokens
 
 # Words that begin a statement, and those that begin a test.
 STATEMENTS = frozenset(
     "abort await emit every exit halt loop nothing pause positive present repeat run signal suspend sustain trap weak [".split()
 )
 PLACE = re.compile(r"cec: (\d+):(\d+): (.*)")
-# Words of Esterel V5 that are no words here, and what to do about them.
-V5_WORDS = {
-    "watching": "`do p watching e` is written `abort p when e`",
-    "upto": "`do p upto e` is written `abort p; halt when e`",
-    "timeout": "`do p watching e timeout q end` is written `abort p when e do q end`",
-    "sensor": "a sensor has a value; what is only tested can be an input",
-    "var": "variables are no part of Pure Esterel",
-    "if": "`if` tests values; signals are tested by `present`",
-    "call": "procedures are no part of Pure Esterel",
-    "exec": "tasks are no part of Pure Esterel",
-    "type": "types are no part of Pure Esterel",
-    "constant": "constants are no part of Pure Esterel",
-    "function": "functions are no part of Pure Esterel",
-    "procedure": "procedures are no part of Pure Esterel",
-    "task": "tasks are no part of Pure Esterel",
-    "return": "tasks are no part of Pure Esterel",
-    "copymodule": "`copymodule` is written `run`",
+MARKS_OF_OTHERS = {
+    "//": "a comment is written `%` and the rest of the line",
+    "/*": "a comment is written `%{ .. }%`",
+    "||": "`||` runs two statements in parallel; a test has `or`",
 }
-VALUES = "signals have no values in Pure Esterel"
+TESTS = ("await", "when", "every", "each", "immediate")
 
 
-def ends_weak_abort(before):
-    """Whether the last `when` of some tokens is a weak abort's."""
-    opened, is_weak = [], False
-    for token, earlier in zip(before, [None, *before]):
-        if token.kind in ("abort", "suspend"):
-            opened.append(earlier is not None and earlier.kind == "weak")
-        elif token.kind == "when":
-            is_weak = bool(opened) and opened.pop()
-    return is_weak
-
-
-def v5_note(text, at, tokens):
-    """What is written here in place of what Esterel V5 has at a place; none where that is not known."""
-    try:
-        before, now = tokens_of(text[:at])[:-1], tokens_of(text[at:])[0]
-    except Unread:
-        return None
-    last = before[-1] if before else now
-    if now.kind == "do" and "halt" in tokens:
-        return V5_WORDS["watching"]
-    if now.kind in ("do", "case") and ends_weak_abort(before):
-        return "a weak abort has no `do` part and no cases here; two traps do the same"
-    if now.kind == "," and len(before) > 1 and before[-2].kind == "trap":
-        return "one `trap` has one name here; put a trap into another"
-    if now.kind in ("number", "immediate") and last.kind == "case":
-        return "a case has no delay here; a branch that counts can emit what it tests"
-    if now.kind == "(" and last.text == "pre":
-        return "a signal that is emitted behind a `pause` holds the status of the instant before"
-    if now.kind in ("(", ":") and last.kind == "name":
-        return VALUES
-    return V5_WORDS.get(now.text)
+def habit_note(text, at, expected):
+    """What is written here in place of a habit from other languages, or of a word with a slip; none where nothing is known."""
+    before, now = readable_tokens(text[:at])[:-1], readable_tokens(text[at:])[0]
+    last = before[-1].kind if before else ""
+    for mark, note in MARKS_OF_OTHERS.items():
+        if text[at:].startswith(mark) or (mark != "||" and text[at - 1 :].startswith(mark)):
+            return note
+    if now.kind in ("and", "or") and last in ("name", "tick", "]"):
+        return "a test of several signals is put between brackets: `[A %s B]`" % now.kind
+    if now.kind == "not" and last in (*TESTS, "number"):
+        return "a negation is put between brackets: `[not A]`"
+    if now.kind == "," and len(before) > 1 and before[-2].kind in ("emit", "sustain", "exit", "await"):
+        return "`%s` takes one name; write one for each, with `;` between" % before[-2].kind
+    if now.kind == "immediate" and last == "each":
+        return "`loop .. each` starts at once by itself, so it has no `immediate`"
+    near = difflib.get_close_matches(now.text, [it for it in expected if it.isalpha()], 1, 0.7) if now.kind == "name" else []
+    if near:
+        return "did you mean `%s`?" % near[0]
+    if now.kind == "name" and "emit" in expected:
+        return "a statement begins with a word such as `emit` or `await`, and not with a name"
+    return None
 
 
 def asked(text, main=None, command="check"):
@@ -97,13 +76,15 @@ def goes_on(text, at, word):
 def tokens_that_could(text, at):
     """The tokens that could stand at a place: marks, words, and what a name or a number is called."""
     words = [*MARKS, *sorted(WORDS), "x", "3"]
-    return [{"x": "a name", "3": "a number"}.get(word, word) for word in words if goes_on(text, at, word)]
+    with ThreadPoolExecutor(os.cpu_count()) as asking:
+        could = list(asking.map(lambda word: goes_on(text, at, word), words))
+    return [{"x": "a name", "3": "a number"}.get(word, word) for word, is_one in zip(words, could) if is_one]
 
 
 def in_words(tokens):
-    """A list of tokens for a reader: all that begin a statement are told as one."""
-    left, told = list(tokens), []
+    """A list of tokens for a reader: all that begin a statement are one."""
+    left, words = list(tokens), []
     if STATEMENTS <= set(left):
         left = [token for token in left if token not in STATEMENTS]
-        told.append("a statement")
-    return ", ".join(told + [token if token.startswith("a n") else "`%s`" % token for token in left])
+        words.append("a statement")
+    return ", ".join(words + [token if token.startswith("a n") else "`%s`" % token for token in left])

@@ -33,13 +33,21 @@ def tokens_of(text):
     while at < len(text):
         match = TOKEN.match(text, at)
         if not match:
-            raise Unread("no token at byte %d" % at)
+            raise Unread("no token at byte %d" % at, at)
         if match.lastgroup != "space":
             word = match.group()
             kind = match.lastgroup if match.lastgroup in ("name", "number") and word not in WORDS else word
             found.append(Token(kind, word, at, match.end()))
         at = match.end()
     return found + [Token("", "", len(text), len(text))]
+
+
+def readable_tokens(text):
+    """The tokens of a text up to its first byte that begins none, and an empty one there."""
+    try:
+        return tokens_of(text)
+    except Unread as unread:
+        return tokens_of(text[: unread.args[1]])
 
 
 def line_and_column(text, at):

@@ -2,7 +2,7 @@
 use Rattle.std.proofs.Common.{◌≡◌, ℕ, ◌+◌, ◌<◌, ◌≤◌, ◌^◌, suc, Bool, false, List, [], ◌∷◌, ◌++◌, length, refl, sym, ap, ◌∙◌, arith, append_assoc}
 use Rattle.std.proofs.Common.{Option, Some, None, All}
 use Rattle.std.proofs.lemmas.List.{append-nil, length-append, length_push, get_or_push}
-use Rattle.est_base.specs.declared.indices.NetId.{NetId}
+use Rattle.base_types.specs.declared.indices.NetId.{NetId}
 use Rattle.net_ir.specs.declared.netlist.Op.{Op}
 use Rattle.net_ir.specs.declared.netlist.Gate.{Gate}
 use Rattle.net_ir.specs.Gates.{operand_end, op_value, value_in, gate_values}

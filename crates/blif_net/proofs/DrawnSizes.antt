@@ -4,7 +4,7 @@ use Rattle.std.specs.List.{sum_by}
 use Rattle.std.proofs.lemmas.List.{length-map, take_all}
 use Rattle.std.proofs.lemmas.List.Sums.{sum_by_more, sum_by_more_le}
 use Rattle.blif_text.specs.Circuits.{Circuit, Table}
-use Rattle.step_run.specs.Order.{IsAgainst, IsEvaluationOrder}
+use Rattle.run_steps.specs.Order.{IsAgainst, IsEvaluationOrder}
 use Rattle.blif_run.specs.Loops.{equation_of, equations_of}
 use Rattle.blif_run.specs.Plans.{given_names}
 use Rattle.blif_run.specs.Truths.{no_table}

@@ -5,9 +5,9 @@ use Rattle.std.proofs.lemmas.Bool.{cases_lt}
 use Rattle.std.proofs.lemmas.List.{take-append-drop, drop_more, get_or-take, length-take-le, get_or_default}
 use Rattle.blif_run.specs.CircuitAnswers.{tells_pause, listed_count, listed_names}
 use Rattle.std.specs.Result.{OnOk}
-use Rattle.est_base.specs.declared.stop.Stop.{Stop}
-use Rattle.est_base.specs.declared.stop.Stop.TheVariants.{Fault, NoMemory}
-use Rattle.est_base.specs.Stops.{IfFault}
+use Rattle.base_types.specs.declared.stop.Stop.{Stop}
+use Rattle.base_types.specs.declared.stop.Stop.TheVariants.{Fault, NoMemory}
+use Rattle.base_types.specs.Stops.{IfFault}
 use Rattle.net_ir.specs.NameLists.{first_again}
 use Rattle.blif_text.specs.Circuits.{Circuit}
 use Rattle.blif_net.specs.declared.fault.CircuitFault.{CircuitFault}

@@ -6,12 +6,12 @@ use Rattle.std.proofs.Math.Seq.{get_or-append_seam}
 use Rattle.std.proofs.lemmas.Bool.{and_parts}
 use Rattle.std.proofs.lemmas.List.{length-map, length-append, length-replicate, get_or-map, take_more, take_all, take_at, map-append}
 use Rattle.std.proofs.lemmas.List.Elements.{All-from_recursion}
-use Rattle.facts.proofs.Lists.{all-unmapped, map-twice}
-use Rattle.machines.specs.Machines.{Follows}
-use Rattle.est_base.specs.declared.indices.NetId.{NetId}
-use Rattle.est_base.specs.Distinct.{all_differ, none_shared}
-use Rattle.est_base.specs.Names.{is_name, is_same_name}
-use Rattle.est_base.proofs.Exports.{same_name-is}
+use Rattle.base_facts.proofs.Lists.{all-unmapped, map-twice}
+use Rattle.base_machines.specs.Machines.{Follows}
+use Rattle.base_types.specs.declared.indices.NetId.{NetId}
+use Rattle.base_types.specs.Distinct.{all_differ, none_shared}
+use Rattle.base_types.specs.Names.{is_name, is_same_name}
+use Rattle.base_types.proofs.Exports.{same_name-is}
 use Rattle.net_ir.specs.declared.netlist.Gate.{Gate}
 use Rattle.net_ir.specs.declared.netlist.Latch.{Latch}
 use Rattle.net_ir.specs.declared.netlist.NetOut.{NetOut}
@@ -25,11 +25,11 @@ use Rattle.blif_text.specs.OutputNames.{output_word, paused_word}
 use Rattle.blif_text.specs.Runs.{IsInstant, circuit_machine, driven_names}
 use Rattle.blif_text.specs.Written.{output_words}
 use Rattle.blif_text.proofs.Exports.{IsSound}
-use Rattle.step_run.specs.Slots.{slot_in, value_at, memory_in}
-use Rattle.step_run.specs.Steps.{settled, AreSolved, driven}
-use Rattle.step_run.specs.Order.{IsEvaluationOrder}
-use Rattle.step_run.specs.Solvers.{ordered_steps, equation_edges}
-use Rattle.step_run.proofs.Exports.{all-made, driven-count, solved}
+use Rattle.run_steps.specs.Slots.{slot_in, value_at, memory_in}
+use Rattle.run_steps.specs.Steps.{settled, AreSolved, driven}
+use Rattle.run_steps.specs.Order.{IsEvaluationOrder}
+use Rattle.run_steps.specs.Solvers.{ordered_steps, equation_edges}
+use Rattle.run_steps.proofs.Exports.{all-made, driven-count, solved}
 use Rattle.blif_run.specs.CircuitAnswers.{tells_pause, listed_count, listed_names}
 use Rattle.blif_run.specs.Loops.{equations_of}
 use Rattle.blif_run.specs.Plans.{given_names, all_names}

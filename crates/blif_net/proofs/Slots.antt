@@ -5,7 +5,7 @@ use Rattle.std.specs.List.{AllByRecursion, list_any}
 use Rattle.std.proofs.lemmas.Bool.{cases_lt, cases_eq}
 use Rattle.std.proofs.lemmas.List.{length-map, length-append, get_or-map, map-set, map-append, ext_get_or, length-replicate, get_or-replicate}
 use Rattle.std.proofs.lemmas.List.{get_or_append_left, get_or-append-add, take_more, get_or_push}
-use Rattle.est_base.specs.declared.indices.NetId.{NetId}
+use Rattle.base_types.specs.declared.indices.NetId.{NetId}
 use Rattle.net_ir.specs.declared.netlist.Gate.{Gate}
 use Rattle.net_ir.specs.declared.netlist.Op.TheVariants.{Const}
 use Rattle.net_ir.specs.Gates.{operand_end, value_in, gate_values}
@@ -18,12 +18,12 @@ use Rattle.blif_text.specs.Plain.{plain_row, plain_table}
 use Rattle.blif_text.specs.Circuits.{Circuit, Table}
 use Rattle.blif_text.specs.Runs.{row_fits}
 use Rattle.blif_text.proofs.Exports.{IsSound}
-use Rattle.step_run.specs.Slots.{slot_in, value_at, memory_in}
-use Rattle.step_run.specs.Equations.{Equation}
-use Rattle.step_run.specs.Steps.{Step, settled, step_made, equation_step}
-use Rattle.step_run.specs.Order.{slots_read, no_equation}
-use Rattle.step_run.specs.Solvers.{ordered_steps}
-use Rattle.step_run.proofs.Exports.{reads-at, same-step, through, output-slot}
+use Rattle.run_steps.specs.Slots.{slot_in, value_at, memory_in}
+use Rattle.run_steps.specs.Equations.{NameEquation}
+use Rattle.run_steps.specs.Steps.{Step, settled, step_made, equation_step}
+use Rattle.run_steps.specs.Order.{slots_read, no_equation}
+use Rattle.run_steps.specs.Solvers.{ordered_steps}
+use Rattle.run_steps.proofs.Exports.{reads-at, same-step, through, output-slot}
 use Rattle.blif_run.specs.Loops.{equation_of, equations_of}
 use Rattle.blif_run.specs.Plans.{given_names, all_names}
 use Rattle.blif_run.specs.Truths.{no_table}
@@ -163,13 +163,13 @@ module _ (c : Circuit) (sound : IsSound c) where
       let is = equation-at c k h in
       let low : k < length es = omega (arith, h, length-map c.tables equation_of) in
       let own : get_or reads k [] ≡ map (slot_in names) t.inputs =
-      reads-at given es (sound-equations c sound) k low ∙ ap (λ (e : Equation). map (slot_in names) e.reads) is in
+      reads-at given es (sound-equations c sound) k low ∙ ap (λ (e : NameEquation). map (slot_in names) e.reads) is in
       same-step (drawn_step c.tables (length given) reads k) (equation_step names (get_or es k no_equation))
       (sym (output-slot given es (sound-equations c sound).differ k low))
       (λ values.
       ap (λ l. list_any (λ row. row_fits row (map (value_at values) l)) t.rows) own
       ∙ ap (λ l. list_any (λ row. row_fits row l) t.rows) (through names values t.inputs)
-      ∙ sym (ap (λ (e : Equation). e.value (memory_in names values)) is))
+      ∙ sym (ap (λ (e : NameEquation). e.value (memory_in names values)) is))
 
   pub table-steps : (order : List ℕ) → AllByRecursion (λ k. k < length c.tables) order
       → map (drawn_step c.tables (length given) reads) order ≡ ordered_steps given (equations_of c) order

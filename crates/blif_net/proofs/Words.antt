@@ -7,10 +7,10 @@ use Rattle.std.specs.Cmp.Lexicographic.{nat_list_eq_equiv}
 use Rattle.std.proofs.Math.Seq.{drop-append_seam}
 use Rattle.std.proofs.lemmas.Bool.{and_parts, and_from, not-true, not_from_false, false≢true, cases_lt}
 use Rattle.std.proofs.lemmas.List.{append_cancel_right, take-append-drop, take_more, take_all, length-append}
-use Rattle.facts.proofs.Tests.{and-false}
-use Rattle.est_base.specs.Names.{is_name, is_name_byte, is_letter, is_same_name}
-use Rattle.est_base.specs.Distinct.{all_differ}
-use Rattle.est_base.proofs.Exports.{same_name-is, same_name-self}
+use Rattle.base_facts.proofs.Tests.{and-false}
+use Rattle.base_types.specs.Names.{is_name, is_name_byte, is_letter, is_same_name}
+use Rattle.base_types.specs.Distinct.{all_differ}
+use Rattle.base_types.proofs.Exports.{same_name-is, same_name-self}
 use Rattle.net_ir.specs.NameLists.{is_among, first_again}
 use Rattle.net_ir.proofs.Exports.{all_differ-push, found-low, found-at, new-at, any-none}
 use Rattle.blif_text.specs.OutputNames.{output_word}

@@ -1,6 +1,6 @@
 -- Inner: the faults of names, one after another.
 use Rattle.std.specs.Prelude.{◌≡◌, ℕ, false, List, [], Some, IsTrue}
-use Rattle.est_base.specs.Names.{is_name}
+use Rattle.base_types.specs.Names.{is_name}
 use Rattle.net_ir.specs.NameLists.{first_again}
 use Rattle.blif_net.specs.declared.fault.CircuitFault.{CircuitFault}
 use Rattle.blif_net.specs.declared.fault.CircuitFault.TheVariants.{Model, Input, Output, Again}

@@ -1,6 +1,6 @@
 -- Contract: what the netlist of a circuit is.
 use Rattle.std.specs.Prelude.{◌≡◌, ℕ, Bool, List, [], ◌∷◌, ◌++◌, length, map}
-use Rattle.machines.specs.Machines.{Follows}
+use Rattle.base_machines.specs.Machines.{Follows}
 use Rattle.net_ir.specs.Gates.{carried}
 use Rattle.net_ir.specs.Netlists.{Netlist}
 use Rattle.net_ir.specs.Runs.{net_machine, shown}

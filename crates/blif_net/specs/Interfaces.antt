@@ -1,6 +1,6 @@
 -- Contract: which circuits have a netlist, and why another has none.
 use Rattle.std.specs.Prelude.{◌≡◌, ℕ, ◌<◌, ◌^◌, false, List, [], ◌∷◌, ◌++◌, Some, None, All, IsTrue}
-use Rattle.est_base.specs.Names.{is_name}
+use Rattle.base_types.specs.Names.{is_name}
 use Rattle.net_ir.specs.NameLists.{first_again}
 use Rattle.blif_text.specs.Circuits.{Circuit}
 use Rattle.blif_text.specs.OutputNames.{output_word}

@@ -2,8 +2,8 @@
 use Rattle.std.specs.Prelude.{◌≡◌, ℕ, ◌+◌, ◌<◌, Bool, false, List, [], ◌∷◌, ◌++◌, length, map, replicate}
 use Rattle.std.specs.Prelude.{slice_index_or, All, IsTrue}
 use Rattle.std.specs.List.{list_any}
-use Rattle.est_base.specs.declared.indices.NetId.{NetId}
-use Rattle.est_base.specs.Names.{is_name}
+use Rattle.base_types.specs.declared.indices.NetId.{NetId}
+use Rattle.base_types.specs.Names.{is_name}
 use Rattle.net_ir.specs.declared.netlist.Gate.{Gate}
 use Rattle.net_ir.specs.declared.netlist.Latch.{Latch}
 use Rattle.net_ir.specs.Gates.{gate_values}
@@ -14,8 +14,8 @@ use Rattle.blif_text.specs.OutputNames.{output_word, paused_word}
 use Rattle.blif_text.specs.Runs.{row_fits, driven_names}
 use Rattle.blif_run.specs.CircuitAnswers.{listed_names}
 use Rattle.blif_run.specs.Truths.{no_table}
-use Rattle.step_run.specs.Slots.{slot_in, value_at}
-use Rattle.step_run.specs.Steps.{Step, settled}
+use Rattle.run_steps.specs.Slots.{slot_in, value_at}
+use Rattle.run_steps.specs.Steps.{Step, settled}
 use Rattle.blif_net.specs.declared.assembling.Named.{Named}
 use Rattle.blif_net.specs.Drawings.{IsDrawing, read_values}
 

@@ -1,28 +1,28 @@
 // The netlist of a circuit, from the nets of its names.
 
 ghost use Rattle.std.specs.Prelude.{◌≡◌, ◌+◌, ◌<◌, map, length, All, IsTrue, IfOk};
-ghost use Rattle.est_base.specs.Names.{is_name};
+ghost use Rattle.base_types.specs.Names.{is_name};
 ghost use Rattle.net_ir.specs.Runs.{netlist_of};
 ghost use Rattle.blif_text.specs.OutputNames.{output_word};
 ghost use Rattle.blif_text.specs.Plain.{plain_circuit, plain_latch};
 ghost use Rattle.blif_text.specs.Runs.{driven_names};
 ghost use Rattle.blif_run.specs.Loops.{IsDescribed};
 ghost use Rattle.blif_run.specs.Plans.{given_names};
-ghost use Rattle.step_run.specs.Slots.{slot_in};
+ghost use Rattle.run_steps.specs.Slots.{slot_in};
 ghost use Rattle.blif_net.specs.Drawings.{IsDrawing};
 ghost use Rattle.blif_net.specs.Interfaces.{HasName, IsFit};
 ghost use Rattle.blif_net.specs.Tables.{IsAssembled, IsNamed, net_with, net_named, latch_named};
 
 use crate::drawing::Drawing;
 use crate::interface::output_name;
+use base_types::{NetId, NoMemory, Text};
 use blif_run::listed_count;
 use blif_text::{Blif, BlifLatch};
-use est_base::{NetId, NoMemory, Text};
 use indexmap::IndexSet;
 use net_ir::{Latch, Net, NetOut};
 use net_simp::copied_names;
+use run_steps::slot_of;
 use std::alloc::Global;
-use step_run::slot_of;
 
 /// The netlist of a circuit whose names have these nets.
 pub(crate) fn assembled_net(

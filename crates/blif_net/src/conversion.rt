@@ -1,13 +1,13 @@
 // The netlist of a circuit.
 
 ghost use Rattle.std.specs.Prelude.{◌≡◌, ◌≤◌, ◌^◌, map, length, IfOk, OnOk};
-ghost use Rattle.est_base.specs.Stops.{IfFault};
+ghost use Rattle.base_types.specs.Stops.{IfFault};
 ghost use Rattle.net_ir.specs.Runs.{netlist_of};
 ghost use Rattle.blif_text.specs.Plain.{plain_circuit};
 ghost use Rattle.blif_run.specs.Loops.{HasNoLoop, IsDescribed, equations_of};
 ghost use Rattle.blif_run.specs.Plans.{given_names};
-ghost use Rattle.step_run.specs.Order.{IsEvaluationOrder};
-ghost use Rattle.step_run.specs.Solvers.{IsResolved, equation_edges};
+ghost use Rattle.run_steps.specs.Order.{IsEvaluationOrder};
+ghost use Rattle.run_steps.specs.Solvers.{IsResolved, equation_edges};
 ghost use Rattle.blif_net.specs.Conversions.{IsNetOf};
 ghost use Rattle.blif_net.specs.Interfaces.{IsFit, IsCircuitFault};
 ghost use Rattle.blif_net.specs.Sizes.{nets_at_most};
@@ -17,9 +17,9 @@ use crate::drawing::drawn_tables;
 use crate::fault::CircuitFault;
 use crate::interface::check_interface;
 use crate::sizes::has_few_nets;
+use base_types::{NoMemory, Stop};
 use blif_run::{Resolved, RunError, resolved_names, table_order};
 use blif_text::Blif;
-use est_base::{NoMemory, Stop};
 use net_ir::Net;
 use std::alloc::Global;
 

@@ -2,20 +2,20 @@
 
 ghost use Rattle.std.specs.Prelude.{◌≡◌, ℕ, ◌+◌, ◌<◌, ◌≤◌, ◌^◌, [], None, false, length, map, min, slice_index_or, All};
 ghost use Rattle.std.specs.Prelude.{IfOk, OnOk};
-ghost use Rattle.est_base.specs.declared.indices.NetId.{NetId};
+ghost use Rattle.base_types.specs.declared.indices.NetId.{NetId};
 ghost use Rattle.blif_text.specs.Plain.{plain_circuit, plain_row};
 ghost use Rattle.blif_run.specs.Loops.{IsDescribed, equations_of};
 ghost use Rattle.blif_run.specs.Plans.{given_names};
-ghost use Rattle.step_run.specs.Order.{IsEvaluationOrder};
-ghost use Rattle.step_run.specs.Solvers.{IsResolved, equation_edges, ordered_steps};
+ghost use Rattle.run_steps.specs.Order.{IsEvaluationOrder};
+ghost use Rattle.run_steps.specs.Solvers.{IsResolved, equation_edges, ordered_steps};
 ghost use Rattle.blif_net.specs.Drawings.{IsDrawing};
 ghost use Rattle.blif_net.specs.Sizes.{nets_at_most, table_nets};
 ghost use Rattle.blif_net.specs.Tables.{Settles, AddsStep, rows_step};
 
 use crate::tables::table_net;
+use base_types::{NetId, NoMemory};
 use blif_run::Resolved;
 use blif_text::{Blif, Row};
-use est_base::{NetId, NoMemory};
 use net_ir::{Gate, Op};
 use std::alloc::Global;
 

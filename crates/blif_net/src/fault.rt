@@ -1,6 +1,6 @@
 // Why a circuit is no netlist's.
 
-use est_base::Text;
+use base_types::Text;
 
 /// Why a circuit has no netlist, the first of its faults in this order.
 #[derive(Debug, Drop)]

@@ -5,7 +5,7 @@ ghost use Rattle.std.specs.Prelude.{IfOk, OnOk};
 ghost use Rattle.net_ir.specs.Gates.{op_value, operand_end, value_in};
 ghost use Rattle.blif_net.specs.Drawings.{IsDrawing, Draws, is_low, said};
 
-use est_base::{NetId, NoMemory};
+use base_types::{NetId, NoMemory};
 use net_ir::{Gate, Op};
 
 /// One more gate, and its net, where `first` is the number of the first gate.

@@ -3,8 +3,8 @@
 ghost use Rattle.std.specs.Prelude.{◌≡◌, ◌++◌, ℕ, List, [], None, true, false, map, codes, All, IsTrue, OnOk};
 ghost use Rattle.std.specs.Prelude.{MatchOption};
 ghost use Rattle.std.specs.List.{list_all};
-ghost use Rattle.est_base.specs.Names.{is_name, is_name_byte};
-ghost use Rattle.est_base.specs.Stops.{IfFault};
+ghost use Rattle.base_types.specs.Names.{is_name, is_name_byte};
+ghost use Rattle.base_types.specs.Stops.{IfFault};
 ghost use Rattle.net_ir.specs.NameLists.{is_among, first_again};
 ghost use Rattle.blif_text.specs.OutputNames.{output_word};
 ghost use Rattle.blif_text.specs.Plain.{plain_circuit};
@@ -13,13 +13,13 @@ ghost use Rattle.blif_net.specs.Interfaces.{IsFit, IsCircuitFault, HasName};
 ghost use Rattle.blif_net.specs.Checking.{IsModel, IsInput, IsOutput, IsAgain};
 
 use crate::fault::CircuitFault;
+use base_types::{NoMemory, Stop, Text, is_letter, is_name_byte};
 use blif_run::{listed_count, tells_pause};
 use blif_text::Blif;
-use est_base::{NoMemory, Stop, Text, is_letter, is_name_byte};
 use indexmap::IndexSet;
+use run_steps::slot_of;
 use std::alloc::Global;
 use std::collections::HashSet;
-use step_run::slot_of;
 
 /// Whether the names of a circuit are those of a netlist's interface. The slots of the inputs stand first.
 pub(crate) fn check_interface(

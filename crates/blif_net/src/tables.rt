@@ -9,8 +9,8 @@ ghost use Rattle.blif_net.specs.Drawings.{IsDrawing, Draws, is_low, said, read_v
 ghost use Rattle.blif_net.specs.Sizes.{row_nets, table_nets};
 
 use crate::gates::{both, either, push_gate};
+use base_types::{NetId, NoMemory};
 use blif_text::{Cell, Row};
-use est_base::{NetId, NoMemory};
 use net_ir::{Gate, Op};
 
 /// The net of a table with these rows, over the nets of its inputs.

@@ -1,6 +1,6 @@
 -- Contract: what the reader answers of a text, by the reading that the text has.
 use Rattle.std.specs.Prelude.{◌≡◌, ℕ, ◌<◌, ◌≤◌, ⊤, List, length, Ok, Err}
-use Rattle.est_base.specs.declared.bounds.TheConstants.Limits.{TEXT_BYTES}
+use Rattle.base_types.specs.declared.bounds.TheConstants.Limits.{TEXT_BYTES}
 use Rattle.blif_text.specs.declared.circuit.Blif.{Blif}
 use Rattle.blif_read.specs.declared.refusal.BlifError.{BlifError}
 use Rattle.blif_read.specs.declared.refusal.BlifError.TheVariants.{TooLong, NoMemory}

@@ -7,8 +7,8 @@ ghost use Rattle.blif_read.specs.PlainStatements.{plain_statement};
 ghost use Rattle.blif_read.specs.Drafts.{draft_parts, in_front, parts_circuit};
 
 use crate::statements::Statement;
+use base_types::{NoMemory, Text};
 use blif_text::{Blif, BlifLatch, Row, Table};
-use est_base::{NoMemory, Text};
 use std::alloc::Global;
 use std::mem;
 

@@ -2,14 +2,14 @@
 
 ghost use Rattle.std.specs.Prelude.{◌≡◌, ℕ, List, [], ◌++◌, None, map, flat_map, find, not, IfOk, IfErr, OnOk};
 ghost use Rattle.std.specs.HashSet.{contains_by};
-ghost use Rattle.est_base.specs.Names.{is_same_name};
+ghost use Rattle.base_types.specs.Names.{is_same_name};
 ghost use Rattle.net_ir.specs.NameLists.{is_among, first_again};
 ghost use Rattle.blif_text.specs.Circuits.{driven_by, used_by, driven_again, not_driven};
 ghost use Rattle.blif_read.specs.PlainStatements.{plain_statement, DriverFault, AgainFault, FoundFault};
 
 use crate::refusal::BlifError;
 use crate::statements::Statement;
-use est_base::{NoMemory, Text};
+use base_types::{NoMemory, Text};
 use std::alloc::Global;
 use std::collections::HashSet;
 

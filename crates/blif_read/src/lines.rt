@@ -6,7 +6,7 @@ ghost use Rattle.std.specs.List.{position_or_len};
 ghost use Rattle.blif_text.specs.Lines.{text_lines, without_comment, ends_with, is_empty};
 ghost use Rattle.blif_read.specs.Rests.{IsNextLine, IsJoined};
 
-use est_base::NoMemory;
+use base_types::NoMemory;
 use std::alloc::Global;
 
 // What is left of a text, from the line of this number on.

@@ -17,8 +17,8 @@ use crate::lines::{Line, Rest, next_line};
 use crate::refusal::BlifError;
 use crate::statements::{Statement, line_statement};
 use crate::words::{is_clean, words};
+use base_types::{Limits, NoMemory};
 use blif_text::Blif;
-use est_base::{Limits, NoMemory};
 use std::alloc::Global;
 
 /// The circuit that a BLIF text describes, or its first fault: a text that is too long, else the first line

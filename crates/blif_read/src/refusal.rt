@@ -3,7 +3,7 @@
 ghost use Rattle.std.specs.Prelude.{◌≡◌};
 ghost use Rattle.blif_read.specs.declared.refusal.BlifError.TheVariants.{NoMemory as lacks_memory};
 
-use est_base::Text;
+use base_types::Text;
 use std::alloc::{AllocError, AllocFailed};
 use thiserror::Error;
 
@@ -44,10 +44,10 @@ impl<T: Drop> From<AllocFailed<T>> for BlifError {
     }
 }
 
-impl From<est_base::NoMemory> for BlifError {
+impl From<base_types::NoMemory> for BlifError {
     ghost from_gives = { λ _ error. error ≡ lacks_memory };
 
-    fn from(_error: est_base::NoMemory) -> BlifError {
+    fn from(_error: base_types::NoMemory) -> BlifError {
         BlifError::NoMemory
     }
 }

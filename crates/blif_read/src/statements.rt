@@ -7,8 +7,8 @@ ghost use Rattle.blif_text.specs.Statements.{statement_of};
 ghost use Rattle.blif_read.specs.PlainStatements.{plain_statement};
 
 use crate::words::is;
+use base_types::{NoMemory, Text};
 use blif_text::{BlifLatch, Cell, Row};
-use est_base::{NoMemory, Text};
 use std::alloc::Global;
 
 // A statement of the profile: the kinds of its lines.

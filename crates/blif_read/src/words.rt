@@ -2,10 +2,10 @@
 
 ghost use Rattle.std.specs.Prelude.{◌≡◌, [], ◌∷◌, ◌<◌, ◌≤◌, length, map, drop, IfOk, MatchOption};
 ghost use Rattle.std.specs.List.{prefix_len, position_or_len};
-ghost use Rattle.est_base.specs.Names.{is_same_name};
+ghost use Rattle.base_types.specs.Names.{is_same_name};
 ghost use Rattle.blif_text.specs.Lines.{is_blank, is_word_byte, is_clean, words};
 
-use est_base::NoMemory;
+use base_types::NoMemory;
 use std::alloc::Global;
 
 // The words of a line: what stands between its spaces and tabs.

@@ -3,19 +3,19 @@ use Rattle.std.proofs.Common.{◌≡◌, ℕ, ◌+◌, ◌<◌, suc, Bool, true,
 use Rattle.std.proofs.Common.{refl, sym, ap, ◌∙◌, arith, subst, append_assoc}
 use Rattle.std.specs.List.{AllByRecursion, list_any}
 use Rattle.std.proofs.lemmas.List.{length-map, length-append, get_or-map}
-use Rattle.est_base.specs.Distinct.{all_differ}
-use Rattle.est_base.specs.Names.{is_same_name}
+use Rattle.base_types.specs.Distinct.{all_differ}
+use Rattle.base_types.specs.Names.{is_same_name}
 use Rattle.net_ir.specs.NameLists.{is_among}
 use Rattle.blif_text.specs.Circuits.{Circuit, Table}
 use Rattle.blif_text.specs.Runs.{driven_names, row_fits}
 use Rattle.blif_text.proofs.Exports.{IsSound}
-use Rattle.step_run.specs.Slots.{slot_in, memory_in}
-use Rattle.step_run.specs.Equations.{Equation}
-use Rattle.step_run.specs.Steps.{equation_step, IsLocal, AreSound}
-use Rattle.step_run.specs.Order.{slots_read, no_equation}
-use Rattle.step_run.proofs.Exports.{all-made, output-slot, same-step, reads-at}
+use Rattle.run_steps.specs.Slots.{slot_in, memory_in}
+use Rattle.run_steps.specs.Equations.{NameEquation}
+use Rattle.run_steps.specs.Steps.{equation_step, IsLocal, AreSound}
+use Rattle.run_steps.specs.Order.{slots_read, no_equation}
+use Rattle.run_steps.proofs.Exports.{all-made, output-slot, same-step, reads-at}
 use Rattle.blif_run.specs.Loops.{equation_of, equations_of}
-use Rattle.step_run.specs.Solvers.{ordered_steps}
+use Rattle.run_steps.specs.Solvers.{ordered_steps}
 use Rattle.blif_run.specs.Plans.{given_names, all_names}
 use Rattle.blif_run.specs.Truths.{step_at, no_table}
 use Rattle.blif_run.proofs.TruthTables.{table-looked}
@@ -59,7 +59,7 @@ reads-same names (t ∷ tables) = ap (λ l. map (slot_in names) t.inputs ∷ l) 
 pub sound-equations : (c : Circuit) → IsSound c → AreSound (given_names c) (equations_of c)
 sound-equations c sound = record {
   differ = ap (all_differ is_same_name) (names-are c) ∙ sound.differ;
-  reads_driven = all-made (λ (e : Equation). AllByRecursion (λ x. is_among x (all_names c) ≡ true) e.reads) equation_of c.tables
+  reads_driven = all-made (λ (e : NameEquation). AllByRecursion (λ x. is_among x (all_names c) ≡ true) e.reads) equation_of c.tables
       (subst (λ names. AllByRecursion (λ t. AllByRecursion (λ x. is_among x names ≡ true) t.inputs) c.tables) (sym (names-are c)) sound.driven.inputs);
   local = tables-local c.tables;
 }
@@ -76,11 +76,11 @@ table-step c sound k h =
     let is = equation-at c k h in
     let low : k < length es = omega (arith, h, length-map c.tables equation_of) in
     let own : get_or reads k [] ≡ map (slot_in names) t.inputs =
-    reads-at (given_names c) es (sound-equations c sound) k low ∙ ap (λ (e : Equation). map (slot_in names) e.reads) is in
+    reads-at (given_names c) es (sound-equations c sound) k low ∙ ap (λ (e : NameEquation). map (slot_in names) e.reads) is in
     same-step (step_at c.tables (length (given_names c)) reads k) (equation_step names (get_or es k no_equation))
     (sym (output-slot (given_names c) es (sound-equations c sound).differ k low))
     (λ values. table-looked t (get_or reads k []) names values own
-    ∙ sym (ap (λ (e : Equation). e.value (memory_in names values)) is))
+    ∙ sym (ap (λ (e : NameEquation). e.value (memory_in names values)) is))
 
 pub table-steps : (c : Circuit) → IsSound c → (order : List ℕ) → AllByRecursion (λ k. k < length c.tables) order
     → map (step_at c.tables (length (given_names c)) (slots_read (all_names c) (equations_of c))) order

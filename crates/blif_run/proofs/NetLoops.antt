@@ -3,8 +3,8 @@ use Rattle.std.proofs.Common.{◌≡◌, ℕ, ◌+◌, ◌<◌, ◌≤◌, zero,
 use Rattle.std.specs.Prelude.{Contains}
 use Rattle.std.specs.List.{position_or_len}
 use Rattle.std.proofs.lemmas.List.{length-append, length-map, get_or_append_left, get_or-append-add, get_or-map, get_or_default}
-use Rattle.est_base.specs.Names.{is_same_name}
-use Rattle.est_base.specs.Distinct.{all_differ}
+use Rattle.base_types.specs.Names.{is_same_name}
+use Rattle.base_types.specs.Distinct.{all_differ}
 use Rattle.net_ir.specs.declared.netlist.Op.{Op}
 use Rattle.net_ir.specs.declared.netlist.Op.TheVariants.{Const, Copy, Not, And, Or}
 use Rattle.net_ir.specs.declared.netlist.Gate.{Gate}
@@ -17,7 +17,7 @@ use Rattle.blif_text.specs.Written.{input_word, output_word, latch_word, gate_wo
 use Rattle.blif_text.specs.Written.{net_latch, copy_table, input_table}
 use Rattle.blif_text.specs.Written.{gate_table, output_table, net_tables, net_circuit}
 use Rattle.blif_text.proofs.Exports.{shown_words, input_words, latch_words, gate_words, net_words, net_word-at, driven-net, names-differ, reading-written}
-use Rattle.est_base.specs.declared.bounds.TheConstants.Limits.{TEXT_BYTES}
+use Rattle.base_types.specs.declared.bounds.TheConstants.Limits.{TEXT_BYTES}
 use Rattle.blif_read.specs.declared.refusal.BlifError.{BlifError}
 use Rattle.blif_read.specs.declared.refusal.BlifError.TheVariants as answers
 use Rattle.blif_text.specs.Circuits.{reading}
@@ -30,8 +30,8 @@ use Rattle.blif_run.specs.declared.refusal.RunError.{RunError}
 use Rattle.blif_run.specs.declared.refusal.RunError.TheVariants as errors
 use Rattle.blif_run.specs.Loops.{HasNoLoop, LoopFault, equation_of}
 use Rattle.blif_run.specs.Tracing.{IsCircuitOf}
-use Rattle.step_run.specs.Equations.{Equation}
-use Rattle.step_run.proofs.Exports.{place-at, IsRising, rising-no_loop}
+use Rattle.run_steps.specs.Equations.{NameEquation}
+use Rattle.run_steps.proofs.Exports.{place-at, IsRising, rising-no_loop}
 use Rattle.blif_run.specs.Truths.{no_table}
 
 -- a name stands among the first ones
@@ -311,8 +311,8 @@ rising-equations net is k m d low_k low_m has =
     let at-k : get_or (map equation_of tables) k d ≡ equation_of (get_or tables k no_table) = get_or-map equation_of tables k no_table d lk in
     let at-m : get_or (map equation_of tables) m d ≡ equation_of (get_or tables m no_table) = get_or-map equation_of tables m no_table d lm in
     rising-net net is k m no_table lk lm
-    (subst (λ (e : Equation). Contains (get_or tables k no_table).inputs e.output) at-m
-    (subst (λ (e : Equation). Contains e.reads (get_or (map equation_of tables) m d).output) at-k has))
+    (subst (λ (e : NameEquation). Contains (get_or tables k no_table).inputs e.output) at-m
+    (subst (λ (e : NameEquation). Contains e.reads (get_or (map equation_of tables) m d).output) at-k has))
 
 pub net-no_loop : (net : Netlist) → IsWritable net → HasNoLoop (net_circuit net)
 net-no_loop net is = rising-no_loop (map equation_of (net_tables net)) (rising-equations net is)

@@ -3,16 +3,16 @@ use Rattle.std.proofs.Common.{◌≡◌, ◌-◌, true, ◌&&◌, List, [], ◌�
 use Rattle.std.proofs.Common.{sym, ap, ◌∙◌, subst}
 use Rattle.std.proofs.lemmas.Bool.{and_parts}
 use Rattle.std.proofs.lemmas.List.{length-map}
-use Rattle.facts.proofs.Lists.{map-twice}
-use Rattle.est_base.specs.Distinct.{all_differ, none_shared}
-use Rattle.est_base.specs.Items.{Item}
-use Rattle.est_base.specs.Names.{is_same_name}
+use Rattle.base_facts.proofs.Lists.{map-twice}
+use Rattle.base_types.specs.Distinct.{all_differ, none_shared}
+use Rattle.base_types.specs.Items.{Item}
+use Rattle.base_types.specs.Names.{is_same_name}
 use Rattle.net_ir.specs.declared.netlist.NetOut.{NetOut}
 use Rattle.net_ir.specs.Netlists.{Netlist}
 use Rattle.net_ir.specs.Runs.{net_run, net_values_run}
 use Rattle.net_ir.proofs.Exports.{all_differ-append}
 use Rattle.blif_text.specs.Circuits.{Circuit, CircuitLatch, Table}
-use Rattle.blif_text.specs.Runs.{IsRun}
+use Rattle.blif_text.specs.Runs.{IsCircuitRun}
 use Rattle.blif_text.specs.Written.{output_word, paused_word}
 use Rattle.blif_text.proofs.Exports.{described-sound}
 use Rattle.blif_run.specs.CircuitAnswers.{listed_count, answer_of, circuit_shows}
@@ -21,9 +21,9 @@ use Rattle.blif_run.specs.Runners.{Runner, IsFresh}
 use Rattle.blif_run.specs.Showing.{runner_shows}
 use Rattle.blif_run.specs.Tracing.{IsCircuitOf}
 use Rattle.blif_run.proofs.Showing.{fresh_shows}
-use Rattle.trace_run.specs.Languages.{shown_answer, IsOfNet}
-use Rattle.trace_run.specs.Machines.{Answer}
-use Rattle.trace_run.proofs.Exports.{answers-run, listed-last}
+use Rattle.run_over_traces.specs.Languages.{shown_answer, IsOfNet}
+use Rattle.run_over_traces.specs.Machines.{ShownAnswer}
+use Rattle.run_over_traces.proofs.Exports.{answers-run, listed-last}
 
 -- the circuit of a text that means a net
 abbrev same-circuit : (net : Netlist) (circuit : Circuit) → (of : IsCircuitOf net circuit) → circuit ≡ of.means.circuit
@@ -39,7 +39,7 @@ net-outputs net circuit of =
     ∙ length-map net.outputs (λ (o : NetOut). output_word net.inputs o.name)
 
 -- the circuit shows the net
-circuit-net : (net : Netlist) (circuit : Circuit) → IsCircuitOf net circuit → (items : List Item) (answers : List Answer)
+circuit-net : (net : Netlist) (circuit : Circuit) → IsCircuitOf net circuit → (items : List Item) (answers : List ShownAnswer)
     → circuit_shows circuit items answers → answers ≡ map shown_answer (net_run net items)
 circuit-net net circuit of items answers shows =
     let names = map (λ (o : NetOut). output_word net.inputs o.name) net.outputs in
@@ -47,7 +47,7 @@ circuit-net net circuit of items answers shows =
     let same = same-circuit net circuit of in
     let outputs : circuit.outputs ≡ names ++ paused_word ∷ [] = ap (λ (c : Circuit). c.outputs) same ∙ of.means.outputs in
     let vs = shows.some_run.0 in
-    let run = subst (λ c. IsRun c items vs) same shows.some_run.1 in
+    let run = subst (λ c. IsCircuitRun c items vs) same shows.some_run.1 in
     let rows = ap (λ (c : Circuit). map (λ v. map v c.outputs) vs) same ∙ of.means.shows items vs run in
     shows.each_run vs shows.some_run.1 ∙ sym (map-twice (answer_of circuit.outputs) (λ v. map v circuit.outputs) vs)
     ∙ ap (λ o. map (answer_of o) (map (λ v. map v circuit.outputs) vs)) outputs ∙ ap (map (answer_of (names ++ paused_word ∷ []))) rows

@@ -1,14 +1,14 @@
 -- What a runner does, from what its registers do.
 use Rattle.std.proofs.Common.{◌≡◌, ℕ, Bool, false, List, ◌++◌, length, map, refl, sym, ap, ◌∙◌, replicate}
 use Rattle.std.proofs.lemmas.List.{length-map}
-use Rattle.facts.proofs.Lists.{map-composed}
+use Rattle.base_facts.proofs.Lists.{map-composed}
 use Rattle.blif_text.specs.Circuits.{Circuit, CircuitLatch}
 use Rattle.blif_text.specs.Runs.{IsInstant, driven_names, circuit_latches}
 use Rattle.blif_text.proofs.Exports.{IsSound}
-use Rattle.step_run.specs.Equations.{Equation}
-use Rattle.step_run.specs.Steps.{AreSolved}
-use Rattle.step_run.specs.Registers.{Frame, Advances, IsBegun}
-use Rattle.step_run.proofs.Exports.{IsEquational, IsOnlyOne, all-made, all-of-made, decided, solved-only}
+use Rattle.run_steps.specs.Equations.{NameEquation}
+use Rattle.run_steps.specs.Steps.{AreSolved}
+use Rattle.run_steps.specs.Registers.{Frame, Advances, IsBegun}
+use Rattle.run_steps.proofs.Exports.{IsEquational, IsOnlyOne, all-made, all-of-made, decided, solved-only}
 use Rattle.blif_run.specs.Loops.{equation_of, equations_of}
 use Rattle.blif_run.specs.Plans.{given_names, IsPlan}
 use Rattle.blif_run.specs.Runners.{Reacts, IsFresh}
@@ -19,12 +19,12 @@ equational c = record {
   makes = λ latches inputs v m. record {
     inputs_given = m.inputs_are;
     latches_kept = map-composed v (λ (l : CircuitLatch). l.target) c.latches ∙ m.targets_are;
-    tables_met = all-of-made (λ (e : Equation). v e.output ≡ e.value v) equation_of c.tables m.met;
+    tables_met = all-of-made (λ (e : NameEquation). v e.output ≡ e.value v) equation_of c.tables m.met;
   };
   tells = λ latches inputs v is. record {
     inputs_are = is.inputs_given;
     targets_are = sym (map-composed v (λ (l : CircuitLatch). l.target) c.latches) ∙ is.latches_kept;
-    met = all-made (λ (e : Equation). v e.output ≡ e.value v) equation_of c.tables is.tables_met;
+    met = all-made (λ (e : NameEquation). v e.output ≡ e.value v) equation_of c.tables is.tables_met;
   };
 }
 

@@ -6,11 +6,11 @@ use Rattle.net_ir.specs.NameLists.{is_among}
 use Rattle.blif_text.specs.Circuits.{Circuit, CircuitLatch, Table}
 use Rattle.blif_text.specs.Runs.{driven_names}
 use Rattle.blif_text.proofs.Exports.{IsSound}
-use Rattle.step_run.specs.Slots.{slot_in}
-use Rattle.step_run.specs.Plans.{Planned, Makes}
-use Rattle.step_run.specs.Order.{IsEvaluationOrder, slots_read}
-use Rattle.step_run.specs.Solvers.{IsResolved, equation_edges, ordered_steps}
-use Rattle.step_run.proofs.Exports.{all-made, reads-count, slots-are}
+use Rattle.run_steps.specs.Slots.{slot_in}
+use Rattle.run_steps.specs.Plans.{Planned, Makes}
+use Rattle.run_steps.specs.Order.{IsEvaluationOrder, slots_read}
+use Rattle.run_steps.specs.Solvers.{IsResolved, equation_edges, ordered_steps}
+use Rattle.run_steps.proofs.Exports.{all-made, reads-count, slots-are}
 use Rattle.blif_run.specs.Loops.{equation_of, equations_of}
 use Rattle.blif_run.specs.Plans.{IsPlan, given_names, all_names}
 use Rattle.blif_run.specs.Truths.{step_at}

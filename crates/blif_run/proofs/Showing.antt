@@ -1,22 +1,22 @@
 -- What a runner shows: a reaction and a reset put their item in front of what it shows from then on.
 use Rattle.std.proofs.Common.{◌≡◌, Bool, true, List, ◌∷◌, length, map, take, refl, sym, ap, ◌∙◌, subst}
 use Rattle.std.proofs.lemmas.List.{length-map}
-use Rattle.facts.proofs.Lists.{map-composed}
-use Rattle.est_base.specs.Items.{Item, Event}
-use Rattle.machines.specs.Machines.{Shows}
-use Rattle.machines.proofs.Exports.{shows-reset}
+use Rattle.base_facts.proofs.Lists.{map-composed}
+use Rattle.base_types.specs.Items.{Item, Event}
+use Rattle.base_machines.specs.Machines.{Shows}
+use Rattle.base_machines.proofs.Exports.{shows-reset}
 use Rattle.net_ir.specs.NameLists.{is_among}
 use Rattle.blif_text.specs.Circuits.{Circuit, CircuitLatch}
 use Rattle.blif_text.specs.Runs.{circuit_machine, circuit_latches, driven_names}
 use Rattle.blif_text.proofs.Exports.{IsSound, described-sound}
-use Rattle.step_run.proofs.Exports.{all-made}
+use Rattle.run_steps.proofs.Exports.{all-made}
 use Rattle.blif_run.specs.CircuitAnswers.{listed_count, answer_of, circuit_answer, circuit_shows}
 use Rattle.blif_run.specs.Loops.{IsDescribed}
 use Rattle.blif_run.specs.Runners.{Runner, IsFresh, Reacts, Resets}
 use Rattle.blif_run.specs.Showing.{runner_shows}
-use Rattle.trace_io.specs.declared.lines.Word.{Word}
-use Rattle.trace_run.specs.Machines.{Answer, Answered, PutBack}
-use Rattle.trace_run.proofs.Exports.{event-told}
+use Rattle.run_trace_io.specs.declared.lines.Word.{Word}
+use Rattle.run_over_traces.specs.Machines.{ShownAnswer, Answered, PutBack}
+use Rattle.run_over_traces.proofs.Exports.{event-told}
 
 -- one reaction: every instant that there may be shows the same, and leaves the same values to the latches
 pub answered : (old new : Runner) (inputs : List Bool) → IsDescribed old.circuit → Reacts old inputs new
@@ -26,7 +26,7 @@ answered old new inputs described reacts = record { in_front = in_front }
     sound : IsSound old.circuit
     sound = described-sound described.0 old.circuit described.1
 
-    in_front : (items : List Item) (answers : List Answer) → runner_shows new items answers
+    in_front : (items : List Item) (answers : List ShownAnswer) → runner_shows new items answers
         → Shows (circuit_machine old.circuit) (circuit_answer old.circuit) old.latches (Event inputs ∷ items)
         (answer_of new.circuit.outputs new.outputs ∷ answers)
     in_front items answers shows =
@@ -65,7 +65,7 @@ put_back old new resets items answers shows =
     shows-reset (circuit_machine old.circuit) (circuit_answer old.circuit) old.latches items answers behind
 
 -- a fresh runner shows what its circuit does
-pub fresh_shows : (r : Runner) → IsFresh r → (items : List Item) (answers : List Answer) → runner_shows r items answers
+pub fresh_shows : (r : Runner) → IsFresh r → (items : List Item) (answers : List ShownAnswer) → runner_shows r items answers
     → circuit_shows r.circuit items answers
 fresh_shows r fresh items answers shows =
     subst (λ l. Shows (circuit_machine r.circuit) (circuit_answer r.circuit) l items answers) fresh.latches_initial shows

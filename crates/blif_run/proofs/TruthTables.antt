@@ -8,9 +8,9 @@ use Rattle.std.proofs.lemmas.List.FromFn.{length-map-range_with_len, get_or-map-
 use Rattle.blif_text.specs.declared.circuit.Cell.{Cell}
 use Rattle.blif_text.specs.Circuits.{Table}
 use Rattle.blif_text.specs.Runs.{cell_fits, row_fits, table_value}
-use Rattle.step_run.specs.Slots.{slot_in, value_at, memory_in}
-use Rattle.step_run.specs.Plans.{number_of, digits, looked_up}
-use Rattle.step_run.proofs.Exports.{through, number-below, digits-number}
+use Rattle.run_steps.specs.Slots.{slot_in, value_at, memory_in}
+use Rattle.run_steps.specs.Plans.{number_of, digits, looked_up}
+use Rattle.run_steps.proofs.Exports.{through, number-below, digits-number}
 use Rattle.blif_run.specs.Truths.{truth_at, truth_of}
 
 -- ---- looking up

@@ -1,6 +1,7 @@
 -- Inner: to no items a runner shows nothing.
+-- (It is in specs/, short as it is, because a contract can cite definitions of specs/ alone.)
 use Rattle.std.specs.Prelude.{[]}
-use Rattle.trace_run.specs.Ends.{nothing_shown}
+use Rattle.run_over_traces.specs.Ends.{nothing_shown}
 use Rattle.blif_text.specs.Runs.{circuit_machine}
 use Rattle.blif_run.specs.CircuitAnswers.{circuit_answer}
 use Rattle.blif_run.specs.Runners.{Runner}

@@ -2,7 +2,7 @@
 use Rattle.std.specs.Prelude.{◌≡◌, length}
 use Rattle.blif_text.specs.Plain.{plain_circuit}
 use Rattle.blif_text.specs.Runs.{circuit_latches}
-use Rattle.blif_run.specs.declared.runner.NetRunner.TheInside.{Inside}
+use Rattle.blif_run.specs.declared.runner.CircuitRun.TheInside.{Inside}
 use Rattle.blif_run.specs.Loops.{IsDescribed}
 use Rattle.blif_run.specs.Plans.{IsPlan}
 use Rattle.blif_run.specs.Runners.{Runner}

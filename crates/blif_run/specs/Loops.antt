@@ -4,27 +4,27 @@ use Rattle.blif_run.specs.declared.refusal.RunError.{RunError}
 use Rattle.blif_run.specs.declared.refusal.RunError.TheVariants.{Loop, NoMemory}
 use Rattle.blif_text.specs.Circuits.{Circuit, Table, reading}
 use Rattle.blif_text.specs.Runs.{table_value}
-use Rattle.step_run.specs.Equations as equations
-use Rattle.step_run.specs.Equations.{Equation}
+use Rattle.run_steps.specs.Equations as equations
+use Rattle.run_steps.specs.Equations.{NameEquation}
 
 -- a circuit that some text describes
 abbrev pub IsDescribed : Circuit → Type 0
 IsDescribed circuit = (text : List ℕ) × (reading text ≡ Ok circuit)
 
 -- a table gives its output a value from those of its inputs
-abbrev pub equation_of : Table → Equation
+abbrev pub equation_of : Table → NameEquation
 equation_of table = record { output = table.output; reads = table.inputs; value = table_value table }
 
-abbrev pub equations_of : Circuit → List Equation
+abbrev pub equations_of : Circuit → List NameEquation
 equations_of circuit = map equation_of circuit.tables
 
 -- A combinational cycle: each next name is an input of the table that drives the one before, and the first is an
 -- input of the table that drives the last.
 abbrev pub IsLoop : Circuit → List (List ℕ) → Type 0
-IsLoop circuit names = equations.IsLoop (equations_of circuit) names
+IsLoop circuit names = equations.IsEquationLoop (equations_of circuit) names
 
 abbrev pub HasNoLoop : Circuit → Type 0
-HasNoLoop circuit = equations.HasNoLoop (equations_of circuit)
+HasNoLoop circuit = equations.HasNoEquationLoop (equations_of circuit)
 
 -- the names are a combinational cycle; want of memory has no cause in the circuit
 abbrev pub LoopFault : Circuit → RunError → Type 0

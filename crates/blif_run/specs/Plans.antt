@@ -2,9 +2,9 @@
 use Rattle.std.specs.Prelude.{ℕ, List, ◌++◌, map}
 use Rattle.blif_text.specs.Circuits.{Circuit}
 use Rattle.blif_text.specs.Runs.{driven_names}
-use Rattle.step_run.specs.Plans.{Planned}
-use Rattle.step_run.specs.Solvers.{IsPlanOf}
-use Rattle.step_run.specs.Steps.{driven}
+use Rattle.run_steps.specs.Plans.{Planned}
+use Rattle.run_steps.specs.Solvers.{IsPlanOf}
+use Rattle.run_steps.specs.Steps.{driven}
 use Rattle.blif_run.specs.Loops.{equations_of}
 
 -- the names that have a value before the tables: the inputs and the latches

@@ -5,8 +5,8 @@ use Rattle.blif_text.specs.Circuits.{Circuit, reading}
 use Rattle.blif_text.specs.Circuits as circuits
 use Rattle.blif_text.specs.Written.{written, Means}
 use Rattle.blif_run.specs.Loops.{IsLoop, HasNoLoop}
-use Rattle.blif_run.specs.declared.language.TextFault.{TextFault}
-use Rattle.blif_run.specs.declared.language.TextFault.TheVariants.{Line, TwoDrivers, NoDriver, Loop}
+use Rattle.blif_run.specs.declared.language.BlifTextFault.{BlifTextFault}
+use Rattle.blif_run.specs.declared.language.BlifTextFault.TheVariants.{Line, TwoDrivers, NoDriver, Loop}
 
 -- the text describes this circuit, which has no combinational cycle
 pub record ReadsCircuit (text : List ℕ) (circuit : Circuit) : Type 0 where
@@ -14,7 +14,7 @@ pub record ReadsCircuit (text : List ℕ) (circuit : Circuit) : Type 0 where
   pub acyclic : HasNoLoop circuit
 
 -- The first fault of a text, in the order of its reader; or it has none, and its tables have this combinational cycle.
-abbrev pub IsTextFault : List ℕ → TextFault → Type 0
+abbrev pub IsTextFault : List ℕ → BlifTextFault → Type 0
 IsTextFault text (Line number) = reading text ≡ Err (circuits.Line number)
 IsTextFault text (TwoDrivers name) = reading text ≡ Err (circuits.TwoDrivers name)
 IsTextFault text (NoDriver name) = reading text ≡ Err (circuits.NoDriver name)

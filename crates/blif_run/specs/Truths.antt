@@ -4,8 +4,8 @@ use Rattle.std.specs.List.{list_any, range_with_len}
 use Rattle.blif_text.specs.declared.circuit.Cell.{Cell}
 use Rattle.blif_text.specs.Circuits.{Table}
 use Rattle.blif_text.specs.Runs.{row_fits}
-use Rattle.step_run.specs.Plans.{digits, table_step}
-use Rattle.step_run.specs.Steps.{Step}
+use Rattle.run_steps.specs.Plans.{digits, table_step}
+use Rattle.run_steps.specs.Steps.{Step}
 
 -- the truth table of rows of this width: its element k is the value for the inputs that are k's digits
 abbrev pub truth_at : ℕ → List (List Cell) → ℕ → Bool

@@ -1,7 +1,7 @@
 // BLIF texts as a language of texts that are run over traces.
 
 ghost use Rattle.std.specs.Prelude.{◌≡◌, ◌≢◌, ◌≤◌, length, IfOk, OnOk};
-ghost use Rattle.est_base.specs.Stops.{FaultIs, IfFault};
+ghost use Rattle.base_types.specs.Stops.{FaultIs, IfFault};
 ghost use Rattle.net_ir.specs.Runs.{netlist_of};
 ghost use Rattle.blif_text.specs.Circuits.{Circuit};
 ghost use Rattle.blif_text.specs.Plain.{plain_circuit};
@@ -13,16 +13,16 @@ ghost use Rattle.blif_run.specs.Tracing.{IsCircuitOf, IsLoopFault, IsStopOf};
 
 use crate::refusal::RunError;
 use crate::trace_runner::BlifRunner;
+use base_types::{Limits, NoMemory, Stop, Text};
 use blif_read::{BlifError, read_blif};
 use blif_text::Blif;
-use est_base::{Limits, NoMemory, Stop, Text};
 use net_ir::{Net, look_at_wires};
+use run_over_traces::{Interface, Language};
 use std::alloc::Global;
-use trace_run::{Interface, Language};
 
 /// The first fault of a BLIF text that is to be run.
 #[derive(Debug, Drop)]
-pub enum TextFault {
+pub enum BlifTextFault {
     /// The first line, counted from 1, that is no line of the profile in its place.
     Line(u32),
     /// The first name that is driven a second time.
@@ -41,7 +41,7 @@ impl Language for BlifTexts {
     ghost use Rattle.blif_run.specs.CircuitAnswers.{listed_names, circuit_shows};
     ghost use Rattle.blif_run.specs.Texts.{ReadsCircuit, IsTextFault};
 
-    type Fault = TextFault;
+    type Fault = BlifTextFault;
 
     type Machine = BlifRunner;
 
@@ -61,7 +61,7 @@ impl Language for BlifTexts {
 
     ghost plain = { λ m. m.circuit };
 
-    fn read(alloc: Global, text: &[u8]) -> Result<BlifRunner, Stop<TextFault>> {
+    fn read(alloc: Global, text: &[u8]) -> Result<BlifRunner, Stop<BlifTextFault>> {
         match read_blif(alloc, text) {
             Ok(blif) => circuit_machine(alloc, blif),
             Err(error) => Err(text_stop(error)),
@@ -82,7 +82,7 @@ impl Language for BlifTexts {
 }
 
 // The machine of a circuit that some text describes.
-fn circuit_machine(alloc: Global, blif: Blif) -> Result<BlifRunner, Stop<TextFault>>
+fn circuit_machine(alloc: Global, blif: Blif) -> Result<BlifRunner, Stop<BlifTextFault>>
     requires { IsDescribed (plain_circuit blif) }
     ensures circuit { IfOk result (λ r. r.circuit ≡ plain_circuit blif) }
     ensures fresh { IfOk result IsFresh }
@@ -96,24 +96,24 @@ fn circuit_machine(alloc: Global, blif: Blif) -> Result<BlifRunner, Stop<TextFau
 }
 
 // Why a circuit has no machine.
-fn loop_stop(error: RunError) -> Stop<TextFault>
+fn loop_stop(error: RunError) -> Stop<BlifTextFault>
     ensures { (c : Circuit) → LoopFault c error → FaultIs (IsLoopFault c) result }
 {
     match error {
-        RunError::Loop(names) => Stop::Fault(TextFault::Loop(names)),
+        RunError::Loop(names) => Stop::Fault(BlifTextFault::Loop(names)),
         RunError::NoMemory => Stop::NoMemory,
     }
 }
 
 // Why a text is not read that is not too long.
-fn text_stop(error: BlifError) -> Stop<TextFault>
+fn text_stop(error: BlifError) -> Stop<BlifTextFault>
     requires { error ≢ is_too_long }
     ensures { IsStopOf error result }
 {
     match error {
-        BlifError::Line(number) => Stop::Fault(TextFault::Line(number)),
-        BlifError::TwoDrivers(name) => Stop::Fault(TextFault::TwoDrivers(name)),
-        BlifError::NoDriver(name) => Stop::Fault(TextFault::NoDriver(name)),
+        BlifError::Line(number) => Stop::Fault(BlifTextFault::Line(number)),
+        BlifError::TwoDrivers(name) => Stop::Fault(BlifTextFault::TwoDrivers(name)),
+        BlifError::NoDriver(name) => Stop::Fault(BlifTextFault::NoDriver(name)),
         BlifError::NoMemory => Stop::NoMemory,
         BlifError::TooLong => unreachable!(),
     }

@@ -3,16 +3,16 @@
 ghost use Rattle.std.specs.Prelude.{IfOk, IfErr, OnOk};
 ghost use Rattle.blif_text.specs.Plain.{plain_circuit};
 ghost use Rattle.blif_run.specs.Loops.{IsDescribed, LoopFault, HasNoLoop, equations_of};
-ghost use Rattle.step_run.specs.Solvers.{AreOrdered, AreResolved};
+ghost use Rattle.run_steps.specs.Solvers.{AreOrdered, AreResolved};
 ghost use Rattle.blif_run.specs.Plans.{IsPlan, given_names};
 
 use crate::refusal::RunError;
 use crate::slots::{driven_names, slots_read, source_slots};
 use crate::truths::table_plan;
+use base_types::{NoMemory, Stop};
 use blif_text::Blif;
-use est_base::{NoMemory, Stop};
+use run_steps::{Plan, Resolved, evaluation_order, slot_table, slots_of};
 use std::alloc::Global;
-use step_run::{Plan, Resolved, evaluation_order, slot_table, slots_of};
 
 #[derive(Drop)]
 pub struct CircuitPlan {

@@ -3,11 +3,11 @@
 ghost use Rattle.std.specs.Prelude.{◌≡◌};
 ghost use Rattle.blif_run.specs.declared.refusal.RunError.TheVariants.{NoMemory as lacks_memory};
 
-use est_base::Text;
+use base_types::Text;
 use std::alloc::{AllocError, AllocFailed};
 use thiserror::Error;
 
-/// Why `NetRunner::new` gives no runner.
+/// Why `CircuitRun::new` gives no runner.
 #[derive(Debug, Drop, Error)]
 pub enum RunError {
     /// A combinational cycle: each next name is an input of the table that drives the one before, and the
@@ -35,10 +35,10 @@ impl<T: Drop> From<AllocFailed<T>> for RunError {
     }
 }
 
-impl From<est_base::NoMemory> for RunError {
+impl From<base_types::NoMemory> for RunError {
     ghost from_gives = { λ _ error. error ≡ lacks_memory };
 
-    fn from(_error: est_base::NoMemory) -> RunError {
+    fn from(_error: base_types::NoMemory) -> RunError {
         RunError::NoMemory
     }
 }

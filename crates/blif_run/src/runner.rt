@@ -3,28 +3,28 @@
 ghost use Rattle.std.specs.Prelude.{◌≡◌, map, length, IfOk, IfErr, OnOk};
 ghost use Rattle.blif_text.specs.Plain.{plain_circuit, plain_latch};
 ghost use Rattle.blif_text.specs.Runs.{circuit_latches};
-ghost use Rattle.step_run.specs.Registers.{IsBegun};
+ghost use Rattle.run_steps.specs.Registers.{IsBegun};
 ghost use Rattle.blif_run.specs.Loops.{IsDescribed, LoopFault, HasNoLoop};
 ghost use Rattle.blif_run.specs.Plans.{IsPlan};
 ghost use Rattle.blif_run.specs.Runners.{Reacts, Resets, IsFresh};
 
 use crate::plan::{CircuitPlan, circuit_plan};
 use crate::refusal::RunError;
+use base_types::NoMemory;
 use blif_text::{Blif, BlifLatch};
-use est_base::NoMemory;
+use run_steps::Registers;
 use std::alloc::Global;
 use std::marker::Model;
-use step_run::Registers;
 
 /// A runner of a circuit. A contract sees it as the circuit, the values that the latches have in the next
 /// instant, and those that the outputs had in the last one.
 #[derive(Drop)]
-pub struct NetRunner {
+pub struct CircuitRun {
     blif: Blif,
     registers: Registers,
 }
 
-impl Model for NetRunner {
+impl Model for CircuitRun {
     ghost use Rattle.blif_run.specs.Runners.{Runner};
 
     ghost Value = { Runner };
@@ -36,11 +36,11 @@ impl Model for NetRunner {
     ghost invariant = { KeepsPlan };
 }
 
-impl NetRunner {
+impl CircuitRun {
     /// A runner of a circuit before its first event. The circuit is one that some text describes.
     ///
     /// The errors are a combinational cycle, where there is one, and want of memory.
-    pub fn new(alloc: Global, blif: Blif) -> Result<NetRunner, RunError>
+    pub fn new(alloc: Global, blif: Blif) -> Result<CircuitRun, RunError>
         requires { IsDescribed (plain_circuit blif) }
         ensures circuit { IfOk result (λ r. r.circuit ≡ plain_circuit blif) }
         ensures fresh { IfOk result IsFresh }
@@ -48,7 +48,7 @@ impl NetRunner {
         ensures cyclic { IfErr result (LoopFault (plain_circuit blif)) }
     {
         let registers = circuit_registers(alloc, &blif)?;
-        Ok(NetRunner { blif, registers })
+        Ok(CircuitRun { blif, registers })
     }
 
     /// One reaction to these values of the inputs. It takes no memory.

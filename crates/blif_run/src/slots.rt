@@ -3,13 +3,13 @@
 ghost use Rattle.std.specs.Prelude.{◌≡◌, map, IfOk};
 ghost use Rattle.blif_text.specs.Plain.{plain_circuit, plain_latch, plain_table};
 ghost use Rattle.blif_text.specs.Runs.{driven_names};
-ghost use Rattle.step_run.specs.Slots.{slot_in};
+ghost use Rattle.run_steps.specs.Slots.{slot_in};
 
+use base_types::NoMemory;
 use blif_text::{Blif, BlifLatch, Table};
-use est_base::NoMemory;
 use indexmap::IndexSet;
+use run_steps::{slot_of, slots_of};
 use std::alloc::Global;
-use step_run::{slot_of, slots_of};
 
 // The names that a circuit drives: inputs, latches, tables.
 pub fn driven_names<'a>(alloc: Global, blif: &'a Blif) -> Result<Vec<&'a [u8]>, NoMemory>

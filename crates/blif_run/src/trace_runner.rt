@@ -1,28 +1,28 @@
 // The runner of a BLIF text's circuit, as a machine that items drive.
 
 ghost use Rattle.std.specs.Prelude.{◌≡◌, ◌≤◌, [], length, IfOk, IfErr, IsTrue, OnOk};
-ghost use Rattle.est_base.specs.Distinct.{all_differ};
-ghost use Rattle.est_base.specs.Names.{is_same_name};
+ghost use Rattle.base_types.specs.Distinct.{all_differ};
+ghost use Rattle.base_types.specs.Names.{is_same_name};
 ghost use Rattle.blif_text.specs.Plain.{plain_circuit};
 ghost use Rattle.blif_run.specs.CircuitAnswers.{tells_pause, listed_count, listed_names};
 ghost use Rattle.blif_run.specs.Loops.{IsDescribed, LoopFault, HasNoLoop};
 ghost use Rattle.blif_run.specs.Runners.{IsFresh};
 
 use crate::refusal::RunError;
-use crate::runner::NetRunner;
+use crate::runner::CircuitRun;
+use base_types::{NoMemory, Text};
 use blif_text::Blif;
-use est_base::{NoMemory, Text};
+use run_over_traces::{Interface, Runner, copied_names, told_word};
+use run_trace_io::Word;
 use std::alloc::Global;
 use std::marker::Model;
-use trace_io::Word;
-use trace_run::{Interface, Runner, copied_names, told_word};
 
 /// A runner of the circuit of a BLIF text. A last output `_paused` is none of the outgoing signals, and its value says
 /// whether the program is still active; where there is none, nothing is said. A contract sees it as the circuit, the
 /// values that the latches have in the next instant, and those that the outputs had in the last one.
 #[derive(Drop)]
 pub struct BlifRunner {
-    runner: NetRunner,
+    runner: CircuitRun,
 }
 
 impl Model for BlifRunner {
@@ -48,7 +48,7 @@ impl BlifRunner {
         ensures acyclic { OnOk result (HasNoLoop (plain_circuit blif)) }
         ensures cyclic { IfErr result (LoopFault (plain_circuit blif)) }
     {
-        match NetRunner::new(alloc, blif) {
+        match CircuitRun::new(alloc, blif) {
             Ok(runner) => Ok(BlifRunner { runner }),
             Err(error) => Err(error),
         }
@@ -113,7 +113,7 @@ const PAUSED: &[u8] = b"_paused";
 pub fn tells_pause(outputs: &[Text]) -> bool
     ensures { result ≡ tells_pause outputs.now }
 {
-    trace_run::tells_pause(PAUSED, outputs)
+    run_over_traces::tells_pause(PAUSED, outputs)
 }
 
 /// How many of the outputs are listed.
@@ -121,5 +121,5 @@ pub fn listed_count(outputs: &[Text]) -> usize
     ensures count { result ≡ listed_count outputs.now }
     ensures within { result ≤ length outputs.now }
 {
-    trace_run::listed_count(PAUSED, outputs)
+    run_over_traces::listed_count(PAUSED, outputs)
 }

@@ -3,13 +3,13 @@
 ghost use Rattle.std.specs.Prelude.{◌≡◌, ◌+◌, ◌<◌, ◌≤◌, map, length, All, IfOk, OnOk};
 ghost use Rattle.blif_text.specs.Plain.{plain_row, plain_table};
 ghost use Rattle.blif_text.specs.Runs.{cell_fits, row_fits};
-ghost use Rattle.step_run.specs.Plans.{Adds, Makes, digits};
+ghost use Rattle.run_steps.specs.Plans.{Adds, Makes, digits};
 ghost use Rattle.blif_run.specs.Truths.{truth_at, truth_of, step_of, step_at};
 
+use base_types::NoMemory;
 use blif_text::{Cell, Row, Table};
-use est_base::NoMemory;
+use run_steps::Plan;
 use std::alloc::Global;
-use step_run::Plan;
 
 // The plan of tables in this order, where so many slots have names.
 pub fn table_plan(

@@ -6,18 +6,18 @@ use Rattle.std.specs.List.{AllByRecursion}
 use Rattle.std.specs.Cmp.Lexicographic.{nat_list_eq_equiv}
 use Rattle.std.proofs.lemmas.List.Folds.{list_any-append}
 use Rattle.std.proofs.lemmas.Bool.{both_ways, and_parts, or_parts, or_from, and_from, leb-true, not-true, not_from_false, or_left, or_right}
-use Rattle.facts.proofs.Lists.{all-split}
-use Rattle.facts.proofs.Tests.{or-swapped}
-use Rattle.est_base.specs.Names.{is_same_name}
-use Rattle.est_base.specs.Distinct.{all_differ, none_shared}
-use Rattle.est_base.proofs.Exports.{same_name-is, same_name-self}
+use Rattle.base_facts.proofs.Lists.{all-split}
+use Rattle.base_facts.proofs.Tests.{or-swapped}
+use Rattle.base_types.specs.Names.{is_same_name}
+use Rattle.base_types.specs.Distinct.{all_differ, none_shared}
+use Rattle.base_types.proofs.Exports.{same_name-is, same_name-self}
 use Rattle.net_ir.proofs.Exports.{all_differ-append, SameNames}
 use Rattle.blif_text.specs.Lines.{Line, is_clean, words, read_lines}
 use Rattle.blif_text.specs.Statements.{Statement, Model, Inputs, Outputs, Latch, Names, Row, End, Said, said, said_in, said_by, statement_of}
 use Rattle.blif_text.specs.Statements.{model_of, latch_of, names_of, name_before, table_of, end_of, table_row, bit_of, cells_of}
 use Rattle.net_ir.specs.NameLists.{is_among, first_again}
 use Rattle.blif_text.specs.Circuits.{Circuit, CircuitLatch, circuit_of, inputs_in, outputs_in, latches_in, tables_of, driven_by, used_by}
-use Rattle.blif_text.specs.Circuits.{driven_again, not_driven, reading, statements, unless, Fault}
+use Rattle.blif_text.specs.Circuits.{driven_again, not_driven, reading, statements, unless, CircuitFault}
 use Rattle.blif_text.specs.Runs.{driven_names}
 
 -- ---- a list of names in which none stands again
@@ -276,15 +276,15 @@ pub record IsSound (c : Circuit) : Type 0 where
   pub driven : AllUsed (λ name. is_among name (driven_names c) ≡ true) c
   pub narrow : AllByRecursion (λ t. length t.inputs ≤ 8) c.tables
 
-unless-ok : {F A : Type 0} (o : Option F) (fault : F → Fault) (r : Result A Fault) (a : A) → unless o fault r ≡ Ok a → (o ≡ None) × (r ≡ Ok a)
+unless-ok : {F A : Type 0} (o : Option F) (fault : F → CircuitFault) (r : Result A CircuitFault) (a : A) → unless o fault r ≡ Ok a → (o ≡ None) × (r ≡ Ok a)
 unless-ok None fault r a e = (refl, e)
 unless-ok {F} {A} (Some f) fault r a e =
-    let P : Result A Fault → Type 0 = λ x. elim x as (λ _. Type 0) [ Ok y ↦ (Some f ≡ None) × (r ≡ Ok a) | Err y ↦ Unit {0} ] in
+    let P : Result A CircuitFault → Type 0 = λ x. elim x as (λ _. Type 0) [ Ok y ↦ (Some f ≡ None) × (r ≡ Ok a) | Err y ↦ Unit {0} ] in
     subst P e tt
 
-ok-is : (a b : Circuit) → (r : Result Circuit Fault) → r ≡ Ok a → r ≡ Ok b → a ≡ b
+ok-is : (a b : Circuit) → (r : Result Circuit CircuitFault) → r ≡ Ok a → r ≡ Ok b → a ≡ b
 ok-is a b r x y =
-    let P : Result Circuit Fault → Circuit = λ r. elim r as (λ _. Circuit) [ Ok z ↦ z | Err z ↦ a ] in
+    let P : Result Circuit CircuitFault → Circuit = λ r. elim r as (λ _. Circuit) [ Ok z ↦ z | Err z ↦ a ] in
     ap P (sym x ∙ y)
 
 sound-statements : (ss : List Statement) → driven_again ss ≡ None → not_driven ss ≡ None → AllByRecursion IsNarrow ss → IsSound (circuit_of ss)

@@ -6,8 +6,8 @@ use Rattle.std.proofs.lemmas.List.Concat.{flat_map-append}
 use Rattle.net_ir.specs.declared.netlist.NetOut.{NetOut}
 use Rattle.net_ir.specs.Netlists.{Netlist}
 use Rattle.net_ir.specs.Numbered.{numbered}
-use Rattle.net_text.specs.Parts.{joined}
-use Rattle.net_text.proofs.Exports.{joined-numbered, joined-mapped, joined-each, joined-one, joined-last}
+use Rattle.net_writer.specs.Parts.{joined}
+use Rattle.net_writer.proofs.Exports.{joined-numbered, joined-mapped, joined-each, joined-one, joined-last}
 use Rattle.blif_text.specs.Circuits.{CircuitLatch, Table}
 use Rattle.blif_text.specs.Statements.{Statement, Model, Outputs, End}
 use Rattle.blif_text.specs.Spelled.{text_of, line_text, spelled, table_statements, latch_statement, inputs_statements}

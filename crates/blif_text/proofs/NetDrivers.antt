@@ -9,12 +9,12 @@ use Rattle.std.proofs.lemmas.Bool.{both_ways, and_parts, or_parts, and_from, or_
 use Rattle.std.proofs.Math.Bool.{and-false}
 use Rattle.std.proofs.lemmas.List.{map-append, append_cancel_right}
 use Rattle.std.proofs.lemmas.List.Elements.{All-tail, All-map}
-use Rattle.est_base.specs.declared.indices.WireId.{WireId}
+use Rattle.base_types.specs.declared.indices.WireId.{WireId}
 use Rattle.net_ir.specs.declared.netlist.Gate.{Gate}
 use Rattle.net_ir.specs.declared.netlist.NetOut.{NetOut}
 use Rattle.net_ir.specs.declared.netlist.Latch.{Latch}
-use Rattle.est_base.specs.Distinct.{all_differ}
-use Rattle.est_base.specs.Names.{is_letter, is_digit, is_name, is_name_byte, is_same_name}
+use Rattle.base_types.specs.Distinct.{all_differ}
+use Rattle.base_types.specs.Names.{is_letter, is_digit, is_name, is_name_byte, is_same_name}
 use Rattle.net_ir.specs.Netlists.{Netlist}
 use Rattle.net_ir.specs.NameLists.{is_among}
 use Rattle.blif_text.specs.Circuits.{CircuitLatch, Table}

@@ -4,7 +4,7 @@ use Rattle.std.proofs.Common.{◌∙◌, subst, arith, zero-add}
 use Rattle.std.specs.List.{AllByRecursion}
 use Rattle.std.proofs.lemmas.List.{map-append, length-append, length-map, get_or-map, take_at}
 use Rattle.std.proofs.lemmas.List.Elements.{recursion_from_All, All-append, All-map, All-cons, All-nil}
-use Rattle.facts.proofs.Lists.{all-split, map-equal, maps-at}
+use Rattle.base_facts.proofs.Lists.{all-split, map-equal, maps-at}
 use Rattle.net_ir.specs.declared.netlist.Op.{Op}
 use Rattle.net_ir.specs.declared.netlist.Op.TheVariants.{Const, Copy, Not, And, Or}
 use Rattle.net_ir.specs.declared.netlist.NetOut.{NetOut}

@@ -2,21 +2,21 @@
 use Rattle.std.proofs.Common.{◌≡◌, ℕ, Bool, true, List, [], ◌∷◌, ◌++◌, length, map, get_or, take, drop, refl, sym, ap, ◌∙◌}
 use Rattle.std.specs.List.{range_with_len}
 use Rattle.std.proofs.lemmas.List.{map-append, length-append, length-map, map-id, drop_at, take-append-drop}
-use Rattle.facts.proofs.Lists.{map-composed, map-equal, same-parts}
-use Rattle.est_base.specs.Items.{Item}
+use Rattle.base_facts.proofs.Lists.{map-composed, map-equal, same-parts}
+use Rattle.base_types.specs.Items.{Item}
 use Rattle.net_ir.specs.declared.netlist.NetOut.{NetOut}
 use Rattle.net_ir.specs.declared.netlist.Latch.{Latch}
 use Rattle.net_ir.specs.declared.netlist.Gate.{Gate}
-use Rattle.est_base.specs.Distinct.{all_differ}
-use Rattle.est_base.specs.Names.{is_same_name}
+use Rattle.base_types.specs.Distinct.{all_differ}
+use Rattle.base_types.specs.Names.{is_same_name}
 use Rattle.net_ir.specs.Gates.{value_in}
 use Rattle.net_ir.specs.Netlists.{Netlist, first_gate, net_count}
 use Rattle.net_ir.specs.Runs.{Shown, net_values, next_latches, initial_latches, net_values_run, shown}
 use Rattle.net_ir.proofs.Exports.{take-gate_values, length-numbered, map-numbered, numbered-map, looked_up, map-looked_up, gate_part, length-gate_part}
 use Rattle.net_ir.proofs.Exports.{output_part}
-use Rattle.net_text.proofs.Exports.{HasNet, runs, runs-are, runs-tell}
+use Rattle.net_writer.proofs.Exports.{HasNet, runs, runs-are, runs-tell}
 use Rattle.blif_text.specs.Circuits.{CircuitLatch}
-use Rattle.blif_text.specs.Runs.{IsInstant, circuit_latches, IsRun, driven_names}
+use Rattle.blif_text.specs.Runs.{IsInstant, circuit_latches, IsCircuitRun, driven_names}
 use Rattle.blif_text.specs.Written.{output_word, net_word, paused_word, net_latch, output_words, net_circuit, input_word, latch_word, gate_word, written, Means}
 use Rattle.blif_text.proofs.NetNames.{shown_words, input_words, latch_words, gate_words, net_words-numbers}
 use Rattle.blif_text.proofs.NetDrivers.{driven-net, names-differ}
@@ -157,7 +157,7 @@ Means-written net is =
     let k = has-net net is in
     let start = circuit_latches (net_circuit net) in
     let names = driven_names (net_circuit net) in
-    let values_told = λ (items : List Item) (vs : List (List ℕ → Bool)) (run : IsRun (net_circuit net) items vs).
+    let values_told = λ (items : List Item) (vs : List (List ℕ → Bool)) (run : IsCircuitRun (net_circuit net) items vs).
     runs-are k (λ v. map v names) (all_values net) (values-from_Holds net) start items vs run in
     let all_shown = λ (values : List Bool). (shown net values).outputs ++ (shown net values).paused ∷ [] in
     let named = λ (latches inputs : List Bool) (v : List ℕ → Bool) (holds : Holds net latches inputs v). map-composed v (net_word net)

@@ -5,7 +5,7 @@ use Rattle.std.specs.List.{list_all}
 use Rattle.std.proofs.lemmas.Bool.{and_parts, and_from, or_cases, eqb-true, leb-true, ne_eqb, not-true, eqb-false, le-leb}
 use Rattle.std.proofs.lemmas.Fmt.{decimal_by_steps}
 use Rattle.std.proofs.lemmas.List.Folds.{list_all-append}
-use Rattle.est_base.specs.Names.{is_letter, is_digit, is_name_byte, is_name}
+use Rattle.base_types.specs.Names.{is_letter, is_digit, is_name_byte, is_name}
 use Rattle.blif_text.specs.Lines.{is_blank, is_word_byte}
 
 -- a word: at least one byte, each of which a word may have

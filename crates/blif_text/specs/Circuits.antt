@@ -93,15 +93,15 @@ not_driven statements =
 -- ---- the reading of a text
 
 -- why a text is not of the profile
-pub data Fault : Type 0 where
+pub data CircuitFault : Type 0 where
   -- the number of the first line that is no line of the profile in its place
-  Line : (number : ℕ) → Fault
+  Line : (number : ℕ) → CircuitFault
   -- the first name in the text that is driven a second time
-  TwoDrivers : (name : List ℕ) → Fault
+  TwoDrivers : (name : List ℕ) → CircuitFault
   -- the first name in the text that is used and not driven
-  NoDriver : (name : List ℕ) → Fault
+  NoDriver : (name : List ℕ) → CircuitFault
 
-abbrev pub unless : {F A : Type 0} → Option F → (F → Fault) → Result A Fault → Result A Fault
+abbrev pub unless : {F A : Type 0} → Option F → (F → CircuitFault) → Result A CircuitFault → Result A CircuitFault
 unless None fault result = result
 unless (Some f) fault result = Err (fault f)
 
@@ -110,7 +110,7 @@ statements text = filter_map (λ line. line.says) (said text)
 
 -- the circuit that a text describes, or the first of its faults: a line, else a name with two
 -- drivers, else a name with none
-abbrev pub reading : List ℕ → Result Circuit Fault
+abbrev pub reading : List ℕ → Result Circuit CircuitFault
 reading text =
     let all = statements text in
     unless (refused_line text) Line

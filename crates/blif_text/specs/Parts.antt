@@ -7,9 +7,10 @@ use Rattle.blif_text.specs.Circuits.{CircuitLatch, Table}
 use Rattle.blif_text.specs.Spelled.{line_text, spelled, text_of, table_statements, latch_statement}
 use Rattle.blif_text.specs.Written.{output_word, paused_word, net_word, copy_table, input_table, gate_table}
 use Rattle.blif_text.specs.Written.{output_table, net_latch}
-use Rattle.blif_text.specs.declared.parts.Section.{Section}
-use Rattle.blif_text.specs.declared.parts.Section.TheVariants.{FirstLines, InputNames, InputsEnd, OutputNames}
-use Rattle.blif_text.specs.declared.parts.Section.TheVariants.{OutputsEnd, Latches, Inputs, Gates, Outputs, LastLines}
+use Rattle.blif_text.specs.declared.parts.BlifSection.{BlifSection}
+use Rattle.blif_text.specs.declared.parts.BlifSection.TheVariants.{FirstLines, InputNames, InputsEnd, OutputNames}
+use Rattle.blif_text.specs.declared.parts.BlifSection.TheVariants.{OutputsEnd, Latches, Inputs, Gates, Outputs}
+use Rattle.blif_text.specs.declared.parts.BlifSection.TheVariants.{LastLines}
 
 -- a space and a word
 abbrev pub spaced : List ℕ → List ℕ
@@ -43,7 +44,7 @@ abbrev pub first_lines : Netlist → List ℕ
 first_lines net = text_of (Model net.name ∷ []) ++ inputs_start net.inputs
 
 -- the parts of a section
-abbrev pub parts_in : Netlist → Section → List (List ℕ)
+abbrev pub parts_in : Netlist → BlifSection → List (List ℕ)
 parts_in net FirstLines = first_lines net ∷ []
 parts_in net InputNames = map spaced net.inputs
 parts_in net InputsEnd = inputs_end net.inputs ∷ []

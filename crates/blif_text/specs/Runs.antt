@@ -3,9 +3,9 @@
 -- reset, which that format does not have, begins a new run.
 use Rattle.std.specs.Prelude.{◌≡◌, ℕ, Bool, true, false, not, ◌&&◌, List, [], ◌∷◌, ◌++◌, map}
 use Rattle.std.specs.List.{list_any, AllByRecursion}
-use Rattle.est_base.specs.Items.{Item}
-use Rattle.machines.specs.Machines as machines
-use Rattle.machines.specs.Machines.{Machine}
+use Rattle.base_types.specs.Items.{Item}
+use Rattle.base_machines.specs.Machines as machines
+use Rattle.base_machines.specs.Machines.{Machine}
 use Rattle.blif_text.specs.Statements.{Cell, Zero, One, Any}
 use Rattle.blif_text.specs.Circuits.{Circuit, Table}
 
@@ -47,12 +47,13 @@ circuit_machine circuit = record {
 }
 
 -- a run from these latch values on; a reset has no valuation and puts the latches back
-abbrev pub IsRunFrom : Circuit → List Bool → List Item → List (List ℕ → Bool) → Type 0
-IsRunFrom circuit latches items valuations = machines.IsRunFrom (circuit_machine circuit) latches items valuations
+abbrev pub IsCircuitRunFrom : Circuit → List Bool → List Item → List (List ℕ → Bool) → Type 0
+IsCircuitRunFrom circuit latches items valuations =
+    machines.IsRunFrom (circuit_machine circuit) latches items valuations
 
 -- a run over items, where each latch has its initial value at the first event
-abbrev pub IsRun : Circuit → List Item → List (List ℕ → Bool) → Type 0
-IsRun circuit items valuations = IsRunFrom circuit (circuit_latches circuit) items valuations
+abbrev pub IsCircuitRun : Circuit → List Item → List (List ℕ → Bool) → Type 0
+IsCircuitRun circuit items valuations = IsCircuitRunFrom circuit (circuit_latches circuit) items valuations
 
 -- the names that a circuit drives
 abbrev pub driven_names : Circuit → List (List ℕ)

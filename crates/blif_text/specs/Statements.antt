@@ -3,7 +3,7 @@
 -- at most eight inputs.
 use Rattle.std.specs.Prelude.{◌==◌, ℕ, ◌+◌, Bool, true, false, not, if◌then◌else◌, nat_le, List, [], ◌∷◌, length}
 use Rattle.std.specs.Prelude.{flat_map, codes, Option, Some, None, option_map}
-use Rattle.est_base.specs.Names.{is_same_name}
+use Rattle.base_types.specs.Names.{is_same_name}
 pub use Rattle.blif_text.specs.declared.circuit.Cell.{Cell}
 pub use Rattle.blif_text.specs.declared.circuit.Cell.TheVariants.{Zero, One, Any}
 use Rattle.blif_text.specs.Lines.{Line, is_clean, words, read_lines, text_lines}

@@ -5,13 +5,13 @@
 use Rattle.std.specs.Prelude.{◌≡◌, ℕ, ◌-◌, Bool, true, false, if◌then◌else◌, nat_lt, List, [], ◌∷◌, ◌++◌, length}
 use Rattle.std.specs.Prelude.{map, codes, decimal, Option, Some, None, Ok}
 use Rattle.std.specs.List.{range_with_len}
-use Rattle.est_base.specs.declared.indices.WireId.{WireId}
+use Rattle.base_types.specs.declared.indices.WireId.{WireId}
 use Rattle.net_ir.specs.declared.netlist.Op.{Op}
 use Rattle.net_ir.specs.declared.netlist.Op.TheVariants.{Const, Copy, Not, And, Or}
 use Rattle.net_ir.specs.declared.netlist.Gate.{Gate}
 use Rattle.net_ir.specs.declared.netlist.Latch.{Latch}
 use Rattle.net_ir.specs.declared.netlist.NetOut.{NetOut}
-use Rattle.est_base.specs.Items.{Item, EachEvent}
+use Rattle.base_types.specs.Items.{Item, EachEvent}
 use Rattle.net_ir.specs.NameLists.{is_among}
 use Rattle.net_ir.specs.Netlists.{Netlist, first_gate, net_count, wire_at}
 use Rattle.net_ir.specs.Numbered.{numbered}
@@ -20,7 +20,7 @@ use Rattle.blif_text.specs.Statements.{Cell, Zero, One, Any}
 use Rattle.blif_text.specs.Circuits.{Circuit, CircuitLatch, Table, reading}
 pub use Rattle.blif_text.specs.OutputNames.{output_word, paused_word}
 use Rattle.blif_text.specs.Spelled.{circuit_text}
-use Rattle.blif_text.specs.Runs.{IsRun, driven_names}
+use Rattle.blif_text.specs.Runs.{IsCircuitRun, driven_names}
 
 -- ---- names
 
@@ -119,14 +119,15 @@ pub record Means (text : List ℕ) (net : Netlist) : Type 0 where
   pub latches : circuit.latches ≡ numbered (net_latch net) 0 net.latches
   -- over all items of the right width there is a run
   pub runs : (items : List Item) → EachEvent (λ inputs. length inputs ≡ length net.inputs) items
-      → (valuations : List (List ℕ → Bool)) × IsRun circuit items valuations
+      → (valuations : List (List ℕ → Bool)) × IsCircuitRun circuit items valuations
   -- any two runs agree on every name that is driven
-  pub one_run : (items : List Item) (us vs : List (List ℕ → Bool)) → IsRun circuit items us → IsRun circuit items vs
+  pub one_run : (items : List Item) (us vs : List (List ℕ → Bool)) → IsCircuitRun circuit items us
+      → IsCircuitRun circuit items vs
       → map (λ u. map u (driven_names circuit)) us ≡ map (λ v. map v (driven_names circuit)) vs
   -- at each event of a run the outputs have the net's values, and the last one that of `paused`
-  pub shows : (items : List Item) (valuations : List (List ℕ → Bool)) → IsRun circuit items valuations
+  pub shows : (items : List Item) (valuations : List (List ℕ → Bool)) → IsCircuitRun circuit items valuations
       → map (λ v. map v circuit.outputs) valuations ≡ map (λ s. s.outputs ++ s.paused ∷ []) (net_run net items)
   -- and every net's name has the net's value
-  pub nets : (items : List Item) (valuations : List (List ℕ → Bool)) → IsRun circuit items valuations
+  pub nets : (items : List Item) (valuations : List (List ℕ → Bool)) → IsCircuitRun circuit items valuations
       → map (λ v. map (λ n. v (net_word net n)) (range_with_len 0 (net_count net))) valuations
       ≡ net_values_run net items

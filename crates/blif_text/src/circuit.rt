@@ -1,6 +1,6 @@
 // Circuits as BLIF texts describe them.
 
-use est_base::Text;
+use base_types::Text;
 
 /// A cell of a table's row: an input of the value 0, one of the value 1, or one of any value fits it.
 #[derive(Clone, Copy, Debug, PartialEq)]

@@ -11,5 +11,5 @@ mod pieces;
 mod writer;
 
 pub use circuit::{Blif, BlifLatch, Cell, Row, Table};
-pub use parts::Section;
+pub use parts::BlifSection;
 pub use pieces::{BlifWriter, write_blif};

@@ -9,15 +9,15 @@ use crate::writer::{
     put_first_lines, put_gate, put_input, put_input_name, put_inputs_end, put_last_lines,
     put_latch, put_output, put_output_word, put_outputs_end,
 };
-use est_base::NoMemory;
+use base_types::NoMemory;
 use net_ir::{Net, look_at_wires};
-use net_text::NetText;
+use net_writer::NetText;
 use std::alloc::Global;
 
 /// The sections of a BLIF text: the lines of the model, the inputs and the outputs, of which a name is a part, then the
 /// latches and the tables.
 #[derive(Clone, Copy)]
-pub enum Section {
+pub enum BlifSection {
     FirstLines,
     InputNames,
     InputsEnd,
@@ -30,17 +30,17 @@ pub enum Section {
     LastLines,
 }
 
-static SECTIONS: [Section; 10] = [
-    Section::FirstLines,
-    Section::InputNames,
-    Section::InputsEnd,
-    Section::OutputNames,
-    Section::OutputsEnd,
-    Section::Latches,
-    Section::Inputs,
-    Section::Gates,
-    Section::Outputs,
-    Section::LastLines,
+static SECTIONS: [BlifSection; 10] = [
+    BlifSection::FirstLines,
+    BlifSection::InputNames,
+    BlifSection::InputsEnd,
+    BlifSection::OutputNames,
+    BlifSection::OutputsEnd,
+    BlifSection::Latches,
+    BlifSection::Inputs,
+    BlifSection::Gates,
+    BlifSection::Outputs,
+    BlifSection::LastLines,
 ];
 
 impl NetText for BlifWriter {
@@ -49,7 +49,7 @@ impl NetText for BlifWriter {
     ghost use Rattle.blif_text.specs.Written.{given_outputs, written, Means};
     ghost use Rattle.blif_text.specs.declared.parts.TheConstants.{SECTIONS};
 
-    type Section = Section;
+    type Section = BlifSection;
 
     ghost sections = { SECTIONS };
 
@@ -67,41 +67,43 @@ impl NetText for BlifWriter {
         })
     }
 
-    fn sections() -> &'static [Section] {
+    fn sections() -> &'static [BlifSection] {
         &SECTIONS
     }
 
-    #[tactic(auto, using(net_text::proofs::Exports::section_parts))]
-    fn count(net: &Net, section: Section) -> usize {
+    #[tactic(auto, using(net_writer::proofs::Exports::section_parts))]
+    fn count(net: &Net, section: BlifSection) -> usize {
         match section {
-            Section::InputNames | Section::Inputs => net.inputs.len(),
-            Section::OutputNames | Section::Outputs => net.outputs.len(),
-            Section::Latches => net.latches.len(),
-            Section::Gates => net.gates.len(),
-            Section::FirstLines | Section::InputsEnd | Section::OutputsEnd | Section::LastLines =>
-                1,
+            BlifSection::InputNames | BlifSection::Inputs => net.inputs.len(),
+            BlifSection::OutputNames | BlifSection::Outputs => net.outputs.len(),
+            BlifSection::Latches => net.latches.len(),
+            BlifSection::Gates => net.gates.len(),
+            BlifSection::FirstLines
+            | BlifSection::InputsEnd
+            | BlifSection::OutputsEnd
+            | BlifSection::LastLines => 1,
         }
     }
 
-    #[tactic(auto, using(net_text::proofs::Exports::section_parts))]
+    #[tactic(auto, using(net_writer::proofs::Exports::section_parts))]
     fn put_in(
         &self,
         text: &mut Vec<u8>,
         net: &Net,
-        section: Section,
+        section: BlifSection,
         k: usize,
     ) -> Result<(), NoMemory> {
         match section {
-            Section::FirstLines => put_first_lines(text, net),
-            Section::InputNames => put_input_name(text, &net.inputs[k]),
-            Section::InputsEnd => put_inputs_end(text, &net.inputs),
-            Section::OutputNames => put_output_word(text, &net.outputs[k], self.given[k]),
-            Section::OutputsEnd => put_outputs_end(text),
-            Section::Latches => put_latch(text, net, k, net.latches[k]),
-            Section::Inputs => put_input(text, k, &net.inputs[k]),
-            Section::Gates => put_gate(text, net, k, net.gates[k]),
-            Section::Outputs => put_output(text, net, &net.outputs[k], self.given[k]),
-            Section::LastLines => put_last_lines(text, net),
+            BlifSection::FirstLines => put_first_lines(text, net),
+            BlifSection::InputNames => put_input_name(text, &net.inputs[k]),
+            BlifSection::InputsEnd => put_inputs_end(text, &net.inputs),
+            BlifSection::OutputNames => put_output_word(text, &net.outputs[k], self.given[k]),
+            BlifSection::OutputsEnd => put_outputs_end(text),
+            BlifSection::Latches => put_latch(text, net, k, net.latches[k]),
+            BlifSection::Inputs => put_input(text, k, &net.inputs[k]),
+            BlifSection::Gates => put_gate(text, net, k, net.gates[k]),
+            BlifSection::Outputs => put_output(text, net, &net.outputs[k], self.given[k]),
+            BlifSection::LastLines => put_last_lines(text, net),
         }
     }
 

@@ -2,18 +2,18 @@
 
 ghost use Rattle.std.specs.Prelude.{◌≡◌, ℕ, List, IfOk};
 ghost use Rattle.std.specs.HashSet.{contains_by};
-ghost use Rattle.est_base.specs.Names.{is_same_name};
+ghost use Rattle.base_types.specs.Names.{is_same_name};
 ghost use Rattle.net_ir.specs.Runs.{netlist_of};
 ghost use Rattle.net_ir.specs.NameLists.{is_among};
 ghost use Rattle.blif_text.specs.Written.{given_outputs, written, Means};
 
-use est_base::{NoMemory, Text};
+use base_types::{NoMemory, Text};
 use net_ir::Net;
-use net_text::write_net;
+use net_writer::write_net;
 use std::alloc::Global;
 use std::collections::HashSet;
 
-/// What writes the BLIF text of a net, for `net_text::net_pieces` piece by piece.
+/// What writes the BLIF text of a net, for `net_writer::net_pieces` piece by piece.
 #[derive(Drop)]
 pub struct BlifWriter {
     // For each output, whether its name is also that of an input.

@@ -13,9 +13,9 @@ ghost use Rattle.blif_text.specs.Written.{input_table, gate_table, output_table,
 ghost use Rattle.blif_text.specs.Parts.{inputs_start, inputs_end, outputs_end, first_lines, last_lines};
 ghost use Rattle.blif_text.specs.Parts.{latch_text, table_text};
 
-use est_base::{NetId, NoMemory, Text, put, put_number};
+use base_types::{NetId, NoMemory, Text, put, put_number};
 use net_ir::{Gate, Latch, Net, NetOut, Op};
-use net_text::{Driver, driver_of};
+use net_writer::{Driver, driver_of};
 
 // The line of the model, and the beginning of that of the inputs, where there are any.
 pub fn put_first_lines(text: &mut Vec<u8>, net: &Net) -> Result<(), NoMemory>

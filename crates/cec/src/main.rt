@@ -1,9 +1,9 @@
 //! The program: the words of the command line, the files of the disk and the standard streams, handed
-//! to `cec_core::cec`, which does all.
+//! to `cec_commands::cec`, which does all.
 #![tactic(auto)]
 
-use cec_core::cec;
-use est_base::{DiskFiles, WriterSink};
+use base_types::{DiskFiles, WriterSink};
+use cec_commands::cec;
 use std::env;
 use std::process::ExitCode;
 use std::rt::Env;

@@ -2,24 +2,24 @@
 use Rattle.std.proofs.Common.{◌≡◌, ℕ, ◌+◌, ◌*◌, ◌^◌, ◌<◌, ◌≤◌, true, false, List, [], ◌∷◌, length, map, Option, refl, sym, ap, ◌∙◌, subst, arith}
 use Rattle.std.specs.Prelude.{Contains, replicate}
 use Rattle.std.proofs.lemmas.List.{length-map, length-replicate, length-take}
-use Rattle.est_base.specs.Items.{Item, EachEvent}
+use Rattle.base_types.specs.Items.{Item, EachEvent}
 use Rattle.est_kernel.specs.Plain.{Program, given_count}
 use Rattle.est_kernel.specs.Terms.{Term}
 use Rattle.grc_graph.specs.SelectionTrees.{body_leaves, body_tree}
-use Rattle.grc_graph.specs.TreeForms.{node_of}
+use Rattle.grc_graph.specs.TreeForms.{tree_node}
 use Rattle.grc_graph.specs.Walk.{Initial}
-use Rattle.grc_sem.proofs.Exports.{program_kernel}
+use Rattle.grc_solutions_laws.proofs.Exports.{program_kernel}
 use Rattle.grc_solutions.proofs.Exports.{graph_runs_exist_lem}
-use Rattle.enc_laws.proofs.Exports.{kept-formed}
+use Rattle.net_state_enc_laws.proofs.Exports.{kept-formed}
 use Rattle.net_ir.specs.Gates.{carried}
 use Rattle.net_ir.specs.Netlists.{Netlist, output_names}
 use Rattle.net_ir.specs.Runs.{netlist_of, initial_latches}
 use Rattle.net_ir.proofs.Exports.{length-numbered}
 use Rattle.net_simp.specs.SameRuns.{SameParts, SameRuns}
 use Rattle.net_simp.specs.SimpleNets.{IsSimple}
-use Rattle.state_enc.specs.EncodedCounts.{encoded_bits, encoded_count}
-use Rattle.state_enc.specs.Encodings.{IsTreeOf, SelectsWell, Encodes}
-use Rattle.state_enc.specs.Meeting.{LatchesMeet}
+use Rattle.net_state_enc.specs.EncodedCounts.{encoded_bits, encoded_count}
+use Rattle.net_state_enc.specs.Encodings.{IsTreeOf, SelectsWell, Encodes}
+use Rattle.net_state_enc.specs.Meeting.{LatchesMeet}
 use Rattle.blif_text.specs.Written.{Means, net_latch}
 use Rattle.cec_compile.specs.declared.compiler.Compiled.{Compiled}
 use Rattle.cec_compile.specs.Compiling.{IsCompiled, StandsForNet}
@@ -118,7 +118,7 @@ pub encoded_is : (c : Compiled) (p : Program) (new : Netlist) → IsCompiled c p
     → length new.gates ≤ length c.net.gates.items + 64 * (length c.graph.tree.nodes.items * length new.latches) → IsSimple new → IsEncoded c p new
 encoded_is c p new h f e few simple =
     let same = same_runs c p new h f e in
-    let nodes : length c.graph.tree.nodes.items ≡ length (body_tree p.body) = sym (length-map c.graph.tree.nodes.items node_of) ∙ ap length h.tree in
+    let nodes : length c.graph.tree.nodes.items ≡ length (body_tree p.body) = sym (length-map c.graph.tree.nodes.items tree_node) ∙ ap length h.tree in
     record {
       name = e.name;
       inputs = e.inputs;

@@ -4,8 +4,8 @@ use Rattle.std.specs.Prelude.{Contains, slice_index}
 use Rattle.std.proofs.lemmas.List.{length-map, get_or-map}
 use Rattle.std.proofs.lemmas.List.Elements.{Contains-get_or}
 use Rattle.std.proofs.lemmas.Simd.{map-map}
-use Rattle.digraph.specs.Walks.{HasEdge, IsClosedWalk}
-use Rattle.est_base.specs.declared.indices.WireId.{WireId}
+use Rattle.base_digraph.specs.Walks.{HasEdge, IsClosedWalk}
+use Rattle.base_types.specs.declared.indices.WireId.{WireId}
 use Rattle.est_kernel.specs.Plain.{Program}
 use Rattle.grc_dep.specs.Cycles.{numbered, numbers_of}
 use Rattle.grc_graph.specs.declared.graph.Graph.{Graph}

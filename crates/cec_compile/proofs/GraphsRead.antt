@@ -8,7 +8,7 @@ use Rattle.std.proofs.Math.Bool.{or-false}
 use Rattle.std.proofs.lemmas.Bool.{cond-true, false≢true}
 use Rattle.std.proofs.lemmas.List.{length-map, get_or-map}
 use Rattle.std.proofs.lemmas.List.Folds.{list_any_at}
-use Rattle.est_base.specs.Items.{Item, EachEvent}
+use Rattle.base_types.specs.Items.{Item, EachEvent}
 use Rattle.est_kernel.specs.Plain.{Program, given_count, program_of}
 use Rattle.est_kernel.specs.Reactions.{Answer, run_of}
 use Rattle.est_kernel.specs.StaticCodes.{NoInstantLoop}
@@ -17,7 +17,7 @@ use Rattle.est_kernel.specs.WellFormed as programs
 use Rattle.grc_graph.specs.declared.graph.Graph.{Graph}
 use Rattle.grc_graph.specs.declared.loops.LoopBodies.{LoopBodies}
 use Rattle.grc_graph.specs.BuiltGraphs.{IsGraphOf}
-use Rattle.grc_graph.specs.GraphRuns.{IsGraphRun, PlainGraph, Solves, graph_of, next_state, program_wires, shown}
+use Rattle.grc_graph.specs.GraphRuns.{IsGraphRun, PlainGraph, SolvesGraph, graph_of, next_state, program_wires, shown}
 use Rattle.grc_graph.specs.Layers.{Resumed, Started}
 use Rattle.grc_graph.specs.LoopKeys.{body_sharing, lasting, loops_above, loops_at}
 use Rattle.grc_graph.specs.PlainGraphs.{lasting_in, names_of, plain_graph, wire_at}
@@ -27,14 +27,14 @@ use Rattle.grc_graph.specs.SelectionTrees.{body_leaves}
 use Rattle.grc_graph.specs.Walk.{Initial}
 use Rattle.grc_graph.specs.Wires.{Wire, Go, End, same_wire}
 use Rattle.grc_graph.proofs.Exports.{same_wire-self}
-use Rattle.grc_sem.specs.GraphWalks.{SelectsLeaves, shown_answer}
-use Rattle.grc_sem.proofs.Exports.{next_state_is_kept_lem, program_kernel}
-use Rattle.grc_tri.proofs.Exports.{graph_runs_are_runs_lem}
+use Rattle.grc_solutions_laws.specs.GraphWalks.{SelectsLeaves, shown_answer}
+use Rattle.grc_solutions_laws.proofs.Exports.{next_state_is_kept_lem, program_kernel}
+use Rattle.grc_ternary.proofs.Exports.{graph_runs_are_runs_lem}
 use Rattle.grc_share.specs.SharedGraphs.{shared_graph}
 use Rattle.grc_share.specs.SharedWires.{members, shared_wires}
-use Rattle.share_laws.specs.SharedReactions.{shared_values}
-use Rattle.enc_laws.specs.Laws.{KeepsStates}
-use Rattle.enc_laws.proofs.Exports.{graph-keeps}
+use Rattle.grc_share_laws.specs.SharedReactions.{shared_values}
+use Rattle.net_state_enc_laws.specs.Laws.{KeepsStates}
+use Rattle.net_state_enc_laws.proofs.Exports.{graph-keeps}
 use Rattle.cec_compile.specs.Cycles.{IsAcyclic}
 use Rattle.cec_compile.specs.GraphsMade.{IsGraphIn, IsOwnOrShared, IsSharedOf}
 use Rattle.cec_compile.specs.WireGroups.{is_shared, wire_groups}
@@ -114,7 +114,7 @@ shared_reads given g p formed kernel no_loop built is = record {
     program = is.program;
     next = λ q event U state leaves wide solves.
         let kept = shared_states given p built is.ranked.rank q event U (program_kernel p formed kernel) no_loop is.ranked.up state leaves wide
-        (subst (λ (h : PlainGraph). Solves h q event U) is.graph solves) in
+        (subst (λ (h : PlainGraph). SolvesGraph h q event U) is.graph solves) in
         let same = λ (h : PlainGraph). next_state h q event U in (
           subst (λ s. IsState s p.body) (sym (ap same is.graph)) kept.0,
           subst (λ s. SelectsLeaves s p.body) (sym (ap same is.graph)) kept.1,

@@ -3,23 +3,23 @@ use Rattle.std.proofs.Common.{◌≡◌, ℕ, ◌≤◌, List, ◌++◌, map, le
 use Rattle.std.proofs.lemmas.List.{length-take}
 use Rattle.std.proofs.lemmas.Simd.{map-map}
 use Rattle.std.specs.Prelude.{false, codes}
-use Rattle.est_base.specs.declared.indices.WireId.{WireId}
+use Rattle.base_types.specs.declared.indices.WireId.{WireId}
 use Rattle.est_kernel.specs.Plain.{Program, given_count, program_of}
-use Rattle.machines.proofs.Exports.{shows-computed}
+use Rattle.base_machines.proofs.Exports.{shows-computed}
 use Rattle.grc_graph.specs.BuiltGraphs.{IsGraphOf}
-use Rattle.grc_sem.proofs.Exports.{program_kernel}
-use Rattle.guard_regions.specs.Regions.{AreRegions, HeadsAreFree}
+use Rattle.grc_solutions_laws.proofs.Exports.{program_kernel}
+use Rattle.grc_regions.specs.Regions.{AreRegions, HeadsAreFree}
 use Rattle.net_ir.specs.Netlists.{Netlist}
 use Rattle.net_ir.specs.Runs.{netlist_of}
 use Rattle.csub_text.specs.Machine.{first_memory}
 use Rattle.csub_text.specs.Written.{input_variable, shown_by_call}
 use Rattle.csub_guard.specs.Machine.{call, calls, seen}
-use Rattle.guard_owners.specs.Blocks.{guarded_text}
-use Rattle.guard_owners.specs.Owners.{owners}
-use Rattle.guard_text.specs.Meaning.{GuardedMeans}
-use Rattle.guard_text.specs.Regions.{region_by}
-use Rattle.rest_laws.specs.Guarded.{GuardedRuns}
-use Rattle.rest_laws.proofs.Exports.{guarded_texts_run_lem}
+use Rattle.csub_guard_blocks.specs.Blocks.{guarded_text}
+use Rattle.csub_guard_blocks.specs.Owners.{owners}
+use Rattle.csub_guard_writer.specs.Meaning.{GuardedMeans}
+use Rattle.csub_guard_writer.specs.Regions.{region_by}
+use Rattle.csub_guard_writer_laws.specs.Guarded.{GuardedRuns}
+use Rattle.csub_guard_writer_laws.proofs.Exports.{guarded_texts_run_lem}
 use Rattle.cec_compile.specs.Compiling.{IsCompiled, StandsForNet}
 use Rattle.cec_compile.specs.Following.{FollowsGraph}
 use Rattle.cec_compile.specs.GuardedTexts.{GuardedTextKeeps, guarded_seen}

@@ -4,9 +4,9 @@ use Rattle.std.specs.Prelude.{Bool, true, false, All, Contains, is_some, slice_i
 use Rattle.std.proofs.lemmas.Bool.{cases_lt}
 use Rattle.std.proofs.lemmas.List.Elements.{All-contains, All-map}
 use Rattle.std.proofs.lemmas.List.{length-map, length-take, get_or-map}
-use Rattle.digraph.specs.Walks.{IsClosedWalk}
-use Rattle.est_base.specs.declared.bounds.TheConstants.Limits.{INSTANCES}
-use Rattle.est_base.specs.declared.indices.WireId.{WireId}
+use Rattle.base_digraph.specs.Walks.{IsClosedWalk}
+use Rattle.base_types.specs.declared.bounds.TheConstants.Limits.{INSTANCES}
+use Rattle.base_types.specs.declared.indices.WireId.{WireId}
 use Rattle.est_kernel.specs.Plain.{Program, program_of, given_count}
 use Rattle.est_kernel.specs.StaticCodes.{NoInstantLoop}
 use Rattle.est_kernel.specs.WellFormed as programs
@@ -31,9 +31,9 @@ use Rattle.grc_graph.specs.Instances.{body_instances}
 use Rattle.grc_graph.specs.PlainGraphs.{formula_of, instances_of, names_of, wire_of}
 use Rattle.grc_graph.specs.Reads.{IsReadingOrder}
 use Rattle.grc_graph.specs.SelectionTrees.{body_leaves, body_tree}
-use Rattle.grc_graph.specs.TreeForms.{node_of}
+use Rattle.grc_graph.specs.TreeForms.{tree_node}
 use Rattle.grc_graph.specs.WireOrders.{WireEdge, AreRanks, IsWireOrder}
-use Rattle.grc_sem.proofs.Exports.{program_kernel}
+use Rattle.grc_solutions_laws.proofs.Exports.{program_kernel}
 use Rattle.grc_share.specs.declared.shared_graph.SharedGraph.{SharedGraph}
 use Rattle.grc_share.specs.SharedGraphForms.{IsSharedGraphOf}
 use Rattle.grc_share.specs.SharedNumbers.{IsSharedWalk}
@@ -42,8 +42,8 @@ use Rattle.grc_share.specs.SharedWires.{members, shared_edges, shared_wires}
 use Rattle.grc_share.proofs.Exports.{graph_gates, shared-differ}
 use Rattle.grc_solutions.specs.GraphWires.{Differ}
 use Rattle.grc_solutions.proofs.Exports.{wires_differ_lem}
-use Rattle.share_laws.specs.SharedSolutions.{SharedOrdersAreReadingOrders, SharedRanksGoUp}
-use Rattle.grc_words.specs.Sizes.{rows_at_most}
+use Rattle.grc_share_laws.specs.SharedSolutions.{SharedOrdersAreReadingOrders, SharedRanksGoUp}
+use Rattle.grc_formulas.specs.Sizes.{rows_at_most}
 use Rattle.net_gen.specs.Costs.{gates_at_most, linear_bound}
 use Rattle.net_gen.specs.Generated.{HasInterfaceOf, FollowsInstants, FollowsRuns}
 use Rattle.net_gen.proofs.Exports.{wires_cost}
@@ -52,7 +52,7 @@ use Rattle.net_ir.specs.Gates.{carried}
 use Rattle.net_ir.specs.Runs.{netlist_of}
 use Rattle.net_simp.specs.SameRuns.{SameParts, SameInstants, SameRuns}
 use Rattle.net_simp.specs.SimpleNets.{IsSimple}
-use Rattle.cec_front.specs.Sources.{StandsFor}
+use Rattle.est_front.specs.Sources.{StandsFor}
 use Rattle.cec_compile.specs.declared.compiler.Compiled.{Compiled}
 use Rattle.cec_compile.specs.declared.compiler.Graphed.{Graphed}
 use Rattle.cec_compile.specs.Compiling.{IsGraphed, IsCompiled, StandsForGraph, StandsForNet, StandsForText, StandsForC, StandsForVerilog}
@@ -75,7 +75,7 @@ pub kernel_of : (g : Graph) (p : Program) → program_of g.program ≡ p → pro
 kernel_of g p program = subst (λ q. programs.IsKernel q.body) program (trees_are_kernels_lem g.program.body)
 
 -- the selection tree of a graph is its program's, with so many leaves
-graph_tree : (g : Graph) (p : Program) → program_of g.program ≡ p → map node_of g.tree.nodes.items ≡ body_tree p.body
+graph_tree : (g : Graph) (p : Program) → program_of g.program ≡ p → map tree_node g.tree.nodes.items ≡ body_tree p.body
 graph_tree g p program = g.laid_out.tree ∙ ap (λ (q : Program). body_tree q.body) program
 
 graph_leaves : (g : Graph) (p : Program) → program_of g.program ≡ p → g.tree.leaves ≡ length (body_leaves p.body)

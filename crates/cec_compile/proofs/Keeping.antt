@@ -4,10 +4,10 @@ use Rattle.std.proofs.Common.{arith}
 use Rattle.std.proofs.lemmas.List.{length-take, length-append, map-append}
 use Rattle.std.proofs.lemmas.Simd.{map-map}
 use Rattle.std.proofs.Math.Seq.{take-append_seam, get_or-append_seam}
-use Rattle.est_base.specs.Items.{Item, Event, Reset, EachEvent}
+use Rattle.base_types.specs.Items.{Item, Event, Reset, EachEvent}
 use Rattle.est_kernel.specs.Plain.{Program, given_count, given_names, outgoing_names}
 use Rattle.est_kernel.specs.Reactions.{Answer, run_of}
-use Rattle.machines.proofs.Exports.{shows-computed}
+use Rattle.base_machines.proofs.Exports.{shows-computed}
 use Rattle.est_kernel.specs.WellFormed as programs
 use Rattle.est_kernel.specs.WellFormed.{IsWellFormed}
 use Rattle.grc_graph.specs.declared.graph.Graph.{Graph}
@@ -15,14 +15,14 @@ use Rattle.grc_graph.specs.GraphRuns.{PlainGraph, shown}
 use Rattle.grc_graph.specs.PlainGraphs.{plain_graph}
 use Rattle.grc_graph.specs.Readings.{Valuation}
 use Rattle.grc_graph.specs.Walk.{Initial}
-use Rattle.grc_sem.specs.GraphWalks.{shown_answer}
-use Rattle.grc_sem.proofs.Exports.{program_kernel}
+use Rattle.grc_solutions_laws.specs.GraphWalks.{shown_answer}
+use Rattle.grc_solutions_laws.proofs.Exports.{program_kernel}
 use Rattle.grc_solutions.proofs.Exports.{graph_runs_exist_lem}
 use Rattle.net_gen.specs.Generated.{HasInterfaceOf, FollowsRuns, shown_as}
 use Rattle.net_ir.specs.declared.netlist.NetOut.{NetOut}
 use Rattle.net_ir.specs.Netlists.{Netlist}
 use Rattle.net_ir.specs.Runs.{Shown}
-use Rattle.blif_text.specs.Runs.{IsRun}
+use Rattle.blif_text.specs.Runs.{IsCircuitRun}
 use Rattle.blif_text.specs.Written.{Means, output_word, paused_word}
 use Rattle.csub_text.specs.Machine as c_machine
 use Rattle.csub_text.specs.Written as meant
@@ -143,7 +143,7 @@ text_keeps text net p few keeps means =
 
 -- each row of a run has the values of the answer: the outgoing signals, and then whether the code is 1
 pub rows_told : (text : List ℕ) (p : Program) → (keeps : TextKeeps text p) → (items : List Item) → AreItems p items → (vs : List (List ℕ → Bool))
-    → IsRun keeps.circuit items vs → (answers : List Answer) × (run_of p items ≡ Some answers)
+    → IsCircuitRun keeps.circuit items vs → (answers : List Answer) × (run_of p items ≡ Some answers)
     × (map (λ v. map v keeps.circuit.outputs) vs ≡ map (λ a. a.outputs ++ (a.code == 1) ∷ []) answers)
 rows_told text p keeps items fits vs run =
     let found = keeps.keeps.runs items fits in
@@ -173,7 +173,7 @@ map-variables [] = refl
 map-variables (o ∷ outputs) = ap (λ l. (codes "O_" ++ o.name) ∷ l) (map-variables outputs)
 
 -- what is seen of a call
-abbrev pub called : c_machine.Seen → Seen
+abbrev pub called : c_machine.SeenCall → Seen
 called s = record { outputs = s.outputs; paused = s.answer }
 
 pub calls-seen : (answers : List Answer) → map called (map shown_by_call (map net_seen answers)) ≡ map seen_of answers

@@ -1,15 +1,15 @@
 -- The texts of each form that are written of a compiled source.
 use Rattle.std.proofs.Common.{◌≡◌, ℕ, ◌≤◌, List, [], length, Option, Some, sym, ap, ◌∙◌, subst}
-use Rattle.est_base.specs.declared.bounds.TheConstants.Limits.{SOURCE_BYTES}
+use Rattle.base_types.specs.declared.bounds.TheConstants.Limits.{SOURCE_BYTES}
 use Rattle.est_kernel.specs.Plain.{Program}
 use Rattle.net_ir.specs.Netlists.{Netlist}
 use Rattle.net_ir.specs.Runs.{netlist_of}
 use Rattle.blif_text.specs.Written as blif_texts
 use Rattle.csub_text.specs.Written as c_texts
 use Rattle.vlog_text.specs.Written as verilog_texts
-use Rattle.text_io.specs.NetWriting.{IsWrittenIn}
-use Rattle.text_io.specs.Writings.{LeavesPieces}
-use Rattle.text_io.specs.declared.writing.Written.TheVariants.{Done}
+use Rattle.cec_text_io.specs.NetWriting.{IsWrittenIn}
+use Rattle.cec_text_io.specs.Writings.{LeavesPieces}
+use Rattle.cec_text_io.specs.declared.writing.Written.TheVariants.{Done}
 use Rattle.cec_compile.specs.declared.compiler.Compiled.{Compiled}
 use Rattle.cec_compile.specs.declared.forms.TextForm.{TextForm}
 use Rattle.cec_compile.specs.declared.forms.TextForm.TheVariants as forms

@@ -1,24 +1,24 @@
 -- The laws of shared graphs, of a program that has a graph.
 use Rattle.std.proofs.Common.{◌≡◌, ℕ, Bool, List, length, map, Some, sym, ap, ◌∙◌, subst}
-use Rattle.est_base.specs.Items.{Item, EachEvent}
+use Rattle.base_types.specs.Items.{Item, EachEvent}
 use Rattle.est_kernel.specs.Plain.{Program, given_count, program_of}
 use Rattle.est_kernel.specs.Reactions.{Answer, run_of}
 use Rattle.est_kernel.specs.StaticCodes.{NoInstantLoop}
 use Rattle.est_kernel.specs.WellFormed.{IsWellFormed}
 use Rattle.grc_graph.specs.declared.graph.Graph.{Graph}
 use Rattle.grc_graph.specs.BuiltGraphs.{IsGraphOf}
-use Rattle.grc_graph.specs.GraphRuns.{IsGraphRun, Solves, graph_of, next_state, shown}
+use Rattle.grc_graph.specs.GraphRuns.{IsGraphRun, SolvesGraph, graph_of, next_state, shown}
 use Rattle.grc_graph.specs.Orders.{GoUp}
 use Rattle.grc_graph.specs.Readings.{Valuation}
 use Rattle.grc_graph.specs.Selected.{HasExitCodes, IsState}
 use Rattle.grc_graph.specs.Walk.{State, Initial}
 use Rattle.grc_graph.specs.Wires.{Wire}
-use Rattle.grc_sem.specs.GraphWalks.{SelectsLeaves, shown_answer}
-use Rattle.grc_sem.proofs.Exports.{next_state_is_kept_lem}
+use Rattle.grc_solutions_laws.specs.GraphWalks.{SelectsLeaves, shown_answer}
+use Rattle.grc_solutions_laws.proofs.Exports.{next_state_is_kept_lem}
 use Rattle.grc_share.specs.SharedGraphs.{shared_graph}
 use Rattle.grc_share.specs.SharedWires.{shared_edges}
-use Rattle.share_laws.specs.SharedReactions.{shared_values}
-use Rattle.share_laws.proofs.Exports.{runs_are_shared_lem, shared_reactions_are_given_lem, shared_runs_answer_lem, shared_solutions_are_members_lem}
+use Rattle.grc_share_laws.specs.SharedReactions.{shared_values}
+use Rattle.grc_share_laws.proofs.Exports.{runs_are_shared_lem, shared_reactions_are_given_lem, shared_runs_answer_lem, shared_solutions_are_members_lem}
 
 -- of the program that a graph has
 its_own : (given : Graph) (p : Program) → IsGraphOf given p → IsGraphOf given (program_of given.program)
@@ -51,7 +51,7 @@ shared_answers given p built =
 abbrev KeepsShared : Program → Type 0
 KeepsShared p =
     (rank : Wire → ℕ) (q : State) (event : List Bool) (U : Valuation) → HasExitCodes p.body → NoInstantLoop p.body → GoUp rank (shared_edges p)
-    → IsState q p.body → SelectsLeaves q p.body → length event ≡ given_count p → Solves (shared_graph p) q event U
+    → IsState q p.body → SelectsLeaves q p.body → length event ≡ given_count p → SolvesGraph (shared_graph p) q event U
     → IsState (next_state (shared_graph p) q event U) p.body × SelectsLeaves (next_state (shared_graph p) q event U) p.body
 
 pub shared_states : (given : Graph) (p : Program) → IsGraphOf given p → KeepsShared p

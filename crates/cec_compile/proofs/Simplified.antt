@@ -1,7 +1,7 @@
 -- A netlist follows a graph as the netlist does that it is made from: a simplified one, or one of the same runs.
 use Rattle.std.proofs.Common.{◌≡◌, suc, ◌≤◌, Bool, false, List, [], ◌∷◌, length, map, drop, get_or, sym, ap, ◌∙◌, arith}
 use Rattle.std.proofs.lemmas.List.{length-map, length-take}
-use Rattle.est_base.proofs.Exports.{wide_events}
+use Rattle.base_types.proofs.Exports.{wide_events}
 use Rattle.est_kernel.specs.Plain.{program_of, given_count}
 use Rattle.grc_graph.specs.declared.graph.Graph.{Graph}
 use Rattle.grc_graph.specs.Readings.{Valuation}

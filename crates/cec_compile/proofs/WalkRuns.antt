@@ -1,15 +1,15 @@
 -- A run of a program's graph is its walk from instant to instant.
 use Rattle.std.proofs.Common.{◌≡◌, List, [], ◌∷◌, length, ap, subst}
-use Rattle.est_base.specs.Items.{Item, Event, Reset, EachEvent}
+use Rattle.base_types.specs.Items.{Item, Event, Reset, EachEvent}
 use Rattle.est_kernel.specs.Plain.{Program, given_count}
 use Rattle.est_kernel.specs.StaticCodes.{NoInstantLoop}
-use Rattle.machines.specs.Machines.{IsRunFrom}
+use Rattle.base_machines.specs.Machines.{IsRunFrom}
 use Rattle.grc_graph.specs.GraphRuns.{graph_of, next_state, IsGraphRun}
 use Rattle.grc_graph.specs.Readings.{Valuation}
 use Rattle.grc_graph.specs.Selected.{HasExitCodes, IsState}
 use Rattle.grc_graph.specs.Walk.{State, Initial, Selecting}
-use Rattle.grc_sem.specs.GraphWalks.{SelectsLeaves, graph_walk}
-use Rattle.grc_sem.proofs.Exports.{next_state_is_kept_lem, equations_are_the_walk_lem}
+use Rattle.grc_solutions_laws.specs.GraphWalks.{SelectsLeaves, graph_walk}
+use Rattle.grc_solutions_laws.proofs.Exports.{next_state_is_kept_lem, equations_are_the_walk_lem}
 use Rattle.cec_compile.specs.WireNames.{walk_machine}
 
 module _ (p : Program) (kernel : HasExitCodes p.body) (no_loop : NoInstantLoop p.body) where

@@ -7,20 +7,20 @@ use Rattle.std.proofs.lemmas.Bool.{le-ltb}
 use Rattle.std.proofs.lemmas.List.{length-map, get_or-map, get_or-drop}
 use Rattle.std.proofs.lemmas.List.FromFn.{get_or-map-range_with_len}
 use Rattle.std.proofs.lemmas.Option.{slice_get-get_or}
-use Rattle.est_base.specs.declared.indices.WireId.{WireId}
-use Rattle.est_base.specs.Items.{Item, EachEvent}
+use Rattle.base_types.specs.declared.indices.WireId.{WireId}
+use Rattle.base_types.specs.Items.{Item, EachEvent}
 use Rattle.est_kernel.specs.Plain.{Program, given_count, given_names}
 use Rattle.blif_text.specs.Written.{Means, net_word, net_latch, gate_word}
 use Rattle.blif_text.specs.Written as written
 use Rattle.blif_text.specs.Runs.{circuit_machine}
 use Rattle.csub_text.specs.Machine.{first_memory, call, memories, program_machine}
-use Rattle.machines.proofs.Exports.{computed-only}
+use Rattle.base_machines.proofs.Exports.{computed-only}
 use Rattle.csub_text.specs.Written as meant
 use Rattle.csub_text.specs.Written.{gate_name, gate_names, net_state, state_name}
 use Rattle.vlog_text.specs.Written as module_meant
 use Rattle.vlog_text.specs.Written.{name_at, net_name, net_register}
 use Rattle.vlog_text.specs.Machine.{vlog_machine}
-use Rattle.machines.specs.Machines.{Machine, IsRun}
+use Rattle.base_machines.specs.Machines.{Machine, IsRun}
 use Rattle.std.specs.Prelude.{slice_get}
 use Rattle.net_ir.specs.Runs.{net_values_run}
 use Rattle.net_ir.proofs.Exports.{get_or-numbered, length-numbered}

@@ -1,6 +1,6 @@
 -- To believe: what the passes make of a source: each field says what its pass keeps.
 use Rattle.std.specs.Prelude.{◌≡◌, ◌*◌, ◌≤◌, ℕ, true, false, List, ◌∷◌, length, map, Option}
-use Rattle.est_base.specs.declared.bounds.TheConstants.Limits.{INSTANCES}
+use Rattle.base_types.specs.declared.bounds.TheConstants.Limits.{INSTANCES}
 use Rattle.est_kernel.specs.Plain.{Program, program_of}
 use Rattle.est_kernel.specs.StaticCodes.{NoInstantLoop}
 use Rattle.est_kernel.specs.WellFormed.{IsWellFormed, HasNames}
@@ -11,7 +11,7 @@ use Rattle.grc_graph.specs.NumberedEdges.{AreEdgesOf}
 use Rattle.grc_graph.specs.PlainGraphs.{formula_of, instances_of, names_of}
 use Rattle.grc_graph.specs.Reads.{IsReadingOrder}
 use Rattle.grc_graph.specs.SelectionTrees.{body_leaves, body_tree}
-use Rattle.grc_graph.specs.TreeForms.{node_of}
+use Rattle.grc_graph.specs.TreeForms.{tree_node}
 use Rattle.grc_graph.specs.WireOrders.{WireEdge, AreRanks, IsWireOrder}
 use Rattle.grc_share.specs.SharedSizes.{shared_size}
 use Rattle.net_gen.specs.Costs.{linear_bound}
@@ -21,7 +21,7 @@ use Rattle.net_simp.specs.SimpleNets.{IsSimple}
 use Rattle.blif_text.specs.Written as blif_texts
 use Rattle.csub_text.specs.Written as c_texts
 use Rattle.vlog_text.specs.Written as verilog_texts
-use Rattle.cec_front.specs.Sources.{StandsFor}
+use Rattle.est_front.specs.Sources.{StandsFor}
 use Rattle.cec_compile.specs.Meaning.{TextKeeps, CTextKeeps, VerilogTextKeeps}
 use Rattle.cec_compile.specs.WireNames.{one_per_leaf, TextNames, CTextNames, VerilogTextNames}
 use Rattle.cec_compile.specs.NetMeaning.{NetKeeps}
@@ -37,7 +37,7 @@ pub record IsGraphed (g : Graphed) (p : Program) : Type 0 where
   pub no_loop : NoInstantLoop p.body
   pub few : length (body_instances p.body) ≤ INSTANCES
   pub graph : IsGraphOf g.graph p
-  pub tree : map node_of g.graph.tree.nodes.items ≡ body_tree p.body
+  pub tree : map tree_node g.graph.tree.nodes.items ≡ body_tree p.body
   pub leaves : g.graph.tree.leaves ≡ length (body_leaves p.body)
   pub count : g.edges.count ≡ length g.graph.wires.items
   pub edges : AreEdgesOf (names_of g.graph) (program_edges p) g.edges.pairs.items
@@ -62,7 +62,7 @@ pub record IsCompiled (c : Compiled) (p : Program) : Type 0 where
   pub program : program_of c.graph.program ≡ p
   pub wires : names_of c.graph ≡ graph_wires (is_shared c.graph) p
   pub own : is_shared c.graph ≡ false → IsGraphOf c.graph p
-  pub tree : map node_of c.graph.tree.nodes.items ≡ body_tree p.body
+  pub tree : map tree_node c.graph.tree.nodes.items ≡ body_tree p.body
   pub leaves : c.graph.tree.leaves ≡ length (body_leaves p.body)
   pub order : IsReadingOrder (names_of c.graph)
       (map (formula_of (instances_of c.graph) (names_of c.graph)) c.graph.equations.items) c.order.list.items

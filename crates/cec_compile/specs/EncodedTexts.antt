@@ -7,9 +7,9 @@ use Rattle.net_ir.specs.Netlists.{Netlist, output_names}
 use Rattle.net_ir.specs.Runs.{netlist_of, initial_latches}
 use Rattle.net_simp.specs.SameRuns.{SameRuns}
 use Rattle.net_simp.specs.SimpleNets.{IsSimple}
-use Rattle.state_enc.specs.EncodedCounts.{encoded_bits, encoded_count}
+use Rattle.net_state_enc.specs.EncodedCounts.{encoded_bits, encoded_count}
 use Rattle.blif_text.specs.Written as blif_texts
-use Rattle.cec_front.specs.Sources.{StandsFor}
+use Rattle.est_front.specs.Sources.{StandsFor}
 use Rattle.cec_compile.specs.Compiling.{StandsForNet}
 use Rattle.cec_compile.specs.Meaning.{TextKeeps}
 use Rattle.cec_compile.specs.NetMeaning.{NetKeeps}

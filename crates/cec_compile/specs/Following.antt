@@ -1,7 +1,7 @@
 -- Contract: what `compile` says besides of the netlist of a graph, in every state and over all items.
 use Rattle.std.specs.Prelude.{◌≤◌, length}
 use Rattle.est_kernel.specs.Plain.{program_of}
-use Rattle.grc_words.specs.Sizes.{rows_at_most}
+use Rattle.grc_formulas.specs.Sizes.{rows_at_most}
 use Rattle.net_gen.specs.Costs.{gates_at_most}
 use Rattle.net_gen.specs.Generated.{HasInterfaceOf, FollowsInstants, FollowsRuns}
 use Rattle.net_ir.specs.Runs.{netlist_of}

@@ -1,6 +1,6 @@
 -- Contract: the graph of a source, whose dependencies may go around, and why a source has none.
 use Rattle.std.specs.Prelude.{◌≡◌, ◌≤◌, ℕ, List, length, map, Option}
-use Rattle.est_base.specs.declared.bounds.TheConstants.Limits.{INSTANCES}
+use Rattle.base_types.specs.declared.bounds.TheConstants.Limits.{INSTANCES}
 use Rattle.est_kernel.specs.Plain.{Program}
 use Rattle.est_kernel.specs.StaticCodes.{NoInstantLoop}
 use Rattle.est_kernel.specs.WellFormed.{IsWellFormed, HasNames}
@@ -8,8 +8,8 @@ use Rattle.grc_graph.specs.declared.graph.Graph.{Graph}
 use Rattle.grc_graph.specs.BuiltGraphs.{IsGraphOf}
 use Rattle.grc_graph.specs.Instances.{body_instances}
 use Rattle.grc_graph.specs.SelectionTrees.{body_leaves, body_tree}
-use Rattle.grc_graph.specs.TreeForms.{node_of}
-use Rattle.cec_front.specs.Sources.{StandsFor}
+use Rattle.grc_graph.specs.TreeForms.{tree_node}
+use Rattle.est_front.specs.Sources.{StandsFor}
 use Rattle.cec_compile.specs.Refusals.{DoesNotCompile, IsRefused}
 use Rattle.cec_compile.specs.declared.refusal.Refusal.{Refusal}
 use Rattle.cec_compile.specs.declared.refusal.Refusal.TheVariants.{Cyclic}
@@ -21,7 +21,7 @@ pub record IsBuilt (g : Graph) (p : Program) : Type 0 where
   pub no_loop : NoInstantLoop p.body
   pub few : length (body_instances p.body) ≤ INSTANCES
   pub graph : IsGraphOf g p
-  pub tree : map node_of g.tree.nodes.items ≡ body_tree p.body
+  pub tree : map tree_node g.tree.nodes.items ≡ body_tree p.body
   pub leaves : g.tree.leaves ≡ length (body_leaves p.body)
 
 -- The bytes stand for the program of the graph.

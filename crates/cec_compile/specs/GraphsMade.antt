@@ -1,13 +1,13 @@
 -- Contract: the graph that a program is compiled by, its own or that of its shared wires.
 use Rattle.std.specs.Prelude.{◌≡◌, Bool, true, false, List, length, map}
-use Rattle.est_base.specs.declared.indices.WireId.{WireId}
+use Rattle.base_types.specs.declared.indices.WireId.{WireId}
 use Rattle.est_kernel.specs.Plain.{Program, program_of}
 use Rattle.est_kernel.specs.StaticCodes.{NoInstantLoop}
 use Rattle.est_kernel.specs.WellFormed.{IsWellFormed, HasNames}
 use Rattle.grc_graph.specs.declared.graph.Graph.{Graph}
 use Rattle.grc_graph.specs.BuiltGraphs.{IsGraphOf}
 use Rattle.grc_graph.specs.NumberedEdges.{AreEdgesOf}
-use Rattle.grc_graph.specs.PlainGraphs.{formula_of, instances_of, names_of, node_of, plain_graph}
+use Rattle.grc_graph.specs.PlainGraphs.{formula_of, instances_of, names_of, node_form, plain_graph}
 use Rattle.grc_graph.specs.Reads.{IsReadingOrder}
 use Rattle.grc_graph.specs.WireOrders.{AreRanks, IsWireOrder}
 use Rattle.grc_share.specs.SharedGraphs.{shared_graph, shared_instances, shared_nodes}
@@ -22,7 +22,7 @@ pub record IsSharedOf (g : Graph) (p : Program) : Type 0 where
   pub program : program_of g.program ≡ p
   pub instances : instances_of g ≡ shared_instances p
   pub wires : names_of g ≡ shared_wires p
-  pub nodes : map (node_of (instances_of g) (names_of g)) g.nodes.items ≡ shared_nodes p
+  pub nodes : map (node_form (instances_of g) (names_of g)) g.nodes.items ≡ shared_nodes p
   pub graph : plain_graph g ≡ shared_graph p
   pub ranked : HasSharedRank p
 

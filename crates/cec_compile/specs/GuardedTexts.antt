@@ -1,18 +1,18 @@
 -- To believe: what the guarded C text of a source is.
 use Rattle.std.specs.Prelude.{◌≡◌, ℕ, false, List, ◌++◌, map, Option, codes}
-use Rattle.est_base.specs.declared.indices.WireId.{WireId}
+use Rattle.base_types.specs.declared.indices.WireId.{WireId}
 use Rattle.est_kernel.specs.Plain.{Program, given_names, outgoing_names}
-use Rattle.guard_regions.specs.Regions.{AreRegions, HeadsAreFree}
+use Rattle.grc_regions.specs.Regions.{AreRegions, HeadsAreFree}
 use Rattle.net_ir.specs.Runs.{netlist_of}
 use Rattle.csub_text.specs.Machine.{value_of}
 use Rattle.csub_guard.specs.Machine.{Counted, guarded_machine, inputs_of, outputs_of}
 use Rattle.csub_guard.specs.Texts.{Describes}
 use Rattle.csub_guard.specs.Trees as guarded
-use Rattle.guard_owners.specs.Blocks.{guarded_text}
-use Rattle.guard_owners.specs.Owners.{owners}
-use Rattle.guard_text.specs.Regions.{region_by}
-use Rattle.rest_laws.specs.Guarded.{GuardedRuns}
-use Rattle.cec_front.specs.Sources.{StandsFor}
+use Rattle.csub_guard_blocks.specs.Blocks.{guarded_text}
+use Rattle.csub_guard_blocks.specs.Owners.{owners}
+use Rattle.csub_guard_writer.specs.Regions.{region_by}
+use Rattle.csub_guard_writer_laws.specs.Guarded.{GuardedRuns}
+use Rattle.est_front.specs.Sources.{StandsFor}
 use Rattle.cec_compile.specs.Compiling.{StandsForNet}
 use Rattle.cec_compile.specs.Meaning.{Keeps, Seen}
 use Rattle.cec_compile.specs.Refusals.{Compiles}

@@ -1,8 +1,8 @@
 -- To believe: the refusal that stands for a fault of a pass.
-use Rattle.cec_front.specs.declared.refusal.Quantity.{Quantity}
-use Rattle.cec_front.specs.declared.refusal.Quantity.TheVariants as quantities
-use Rattle.cec_front.specs.declared.refusal.Refusal as fronts
-use Rattle.cec_front.specs.declared.refusal.Refusal.TheVariants as front
+use Rattle.est_front.specs.declared.refusal.Quantity.{Quantity}
+use Rattle.est_front.specs.declared.refusal.Quantity.TheVariants as quantities
+use Rattle.est_front.specs.declared.refusal.SourceRefusal as fronts
+use Rattle.est_front.specs.declared.refusal.SourceRefusal.TheVariants as front
 use Rattle.grc_build.specs.declared.refusal.BuildFault.{BuildFault}
 use Rattle.grc_build.specs.declared.refusal.BuildFault.TheVariants as building
 use Rattle.grc_layout.specs.declared.refusal.CopyFault.{CopyFault}
@@ -20,7 +20,7 @@ limit_of quantities.Kernel = limits.Kernel
 limit_of quantities.Height = limits.Height
 limit_of quantities.Traps = limits.Traps
 
-abbrev pub refusal_of : fronts.Refusal → Refusal
+abbrev pub refusal_of : fronts.SourceRefusal → Refusal
 refusal_of (front.Static fault) = Static fault
 refusal_of (front.Limit quantity) = Limit (limit_of quantity)
 refusal_of front.NoMemory = NoMemory

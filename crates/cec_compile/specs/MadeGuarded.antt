@@ -1,12 +1,12 @@
 -- Inner: the guarded text of a compiled program, and what it is written of.
 use Rattle.std.specs.Prelude.{◌≡◌, ℕ, List, Option}
-use Rattle.est_base.specs.declared.indices.WireId.{WireId}
-use Rattle.guard_regions.specs.Regions.{AreRegions, HeadsAreFree}
+use Rattle.base_types.specs.declared.indices.WireId.{WireId}
+use Rattle.grc_regions.specs.Regions.{AreRegions, HeadsAreFree}
 use Rattle.net_ir.specs.Runs.{netlist_of}
-use Rattle.guard_owners.specs.Blocks.{guarded_text}
-use Rattle.guard_owners.specs.Owners.{owners}
-use Rattle.guard_text.specs.Regions.{region_by}
-use Rattle.rest_laws.specs.Guarded.{GuardedRuns}
+use Rattle.csub_guard_blocks.specs.Blocks.{guarded_text}
+use Rattle.csub_guard_blocks.specs.Owners.{owners}
+use Rattle.csub_guard_writer.specs.Regions.{region_by}
+use Rattle.csub_guard_writer_laws.specs.Guarded.{GuardedRuns}
 use Rattle.cec_compile.specs.MadeNets.{IsMade}
 use Rattle.cec_compile.specs.declared.compiler.Compiled.{Compiled}
 use Rattle.cec_compile.specs.declared.forms.TextForm.TheVariants.{Guarded}

@@ -1,14 +1,14 @@
 -- To believe: what it means that a BLIF text, a C text or a Verilog text does what a kernel program means.
 use Rattle.std.specs.Prelude.{◌≡◌, ℕ, Bool, List, [], ◌∷◌, ◌++◌, ◌==◌, map, length, Some, Ok, codes}
-use Rattle.est_base.specs.Items.{Item, EachEvent}
-use Rattle.est_base.specs.Relations.{MeetsAll}
+use Rattle.base_types.specs.Items.{Item, EachEvent}
+use Rattle.base_types.specs.Relations.{MeetsAll}
 use Rattle.est_kernel.specs.Plain.{Program, given_count, given_names, outgoing_names}
 use Rattle.est_kernel.specs.Reactions.{Answer, run_of}
-use Rattle.machines.specs.Machines.{Machine, Shows}
-use Rattle.machines.specs.Machines as machines
+use Rattle.base_machines.specs.Machines.{Machine, Shows}
+use Rattle.base_machines.specs.Machines as machines
 use Rattle.blif_text.specs.Circuits.{Circuit, reading}
 use Rattle.blif_text.specs.OutputNames.{output_word, paused_word}
-use Rattle.blif_text.specs.Runs.{circuit_machine, IsRun, driven_names}
+use Rattle.blif_text.specs.Runs.{circuit_machine, IsCircuitRun, driven_names}
 use Rattle.csub_text.specs.Machine.{Memory, value_of, program_machine}
 use Rattle.csub_text.specs.Names.{inputs_of, outputs_of}
 use Rattle.csub_text.specs.Texts.{Describes}
@@ -16,7 +16,7 @@ use Rattle.csub_text.specs.Trees.{Program as CProgram}
 use Rattle.vlog_text.specs.Machine as modules
 use Rattle.vlog_text.specs.Machine.{vlog_machine}
 use Rattle.vlog_text.specs.Texts as module_texts
-use Rattle.vlog_text.specs.Trees.{Module}
+use Rattle.vlog_text.specs.Trees.{VerilogModule}
 
 -- an event of a program: one truth value per given signal, and it meets the program's relations
 pub record IsEvent (p : Program) (event : List Bool) : Type 0 where
@@ -63,7 +63,7 @@ pub record TextKeeps (text : List ℕ) (p : Program) : Type 0 where
   pub outputs : circuit.outputs ≡ outgoing_words p ++ paused_word ∷ []
   pub keeps : Keeps (circuit_machine circuit) (circuit_seen p) p
   pub one_run : (items : List Item) → AreItems p items
-      → (us vs : List (List ℕ → Bool)) → IsRun circuit items us → IsRun circuit items vs
+      → (us vs : List (List ℕ → Bool)) → IsCircuitRun circuit items us → IsCircuitRun circuit items vs
       → map (λ u. map u (driven_names circuit)) us ≡ map (λ v. map v (driven_names circuit)) vs
 
 -- ---- C texts
@@ -95,7 +95,7 @@ module_seen p v = record { outputs = map v (output_wires p); paused = v (codes "
 -- for each outgoing signal and then `paused`, in declared order, which keeps what the program means; and any two of its
 -- runs agree on every driven name.
 pub record VerilogTextKeeps (text : List ℕ) (p : Program) : Type 0 where
-  pub design : Module
+  pub design : VerilogModule
   pub describes : module_texts.Describes text design
   pub name : design.name ≡ codes "m_" ++ p.name
   pub inputs : design.inputs ≡ codes "clk" ∷ map (λ name. codes "i_" ++ name) (given_names p)

@@ -1,6 +1,6 @@
 -- To believe: what it means that a netlist does what a kernel program means.
 use Rattle.std.specs.Prelude.{◌≡◌, List, map, Some, ◌==◌}
-use Rattle.est_base.specs.Items.{Item}
+use Rattle.base_types.specs.Items.{Item}
 use Rattle.est_kernel.specs.Plain.{Program, given_names, outgoing_names}
 use Rattle.est_kernel.specs.Reactions.{Answer, run_of}
 use Rattle.net_ir.specs.Netlists.{Netlist, output_names}

@@ -1,15 +1,15 @@
 -- To believe: why a source has no text. The refusals come in the order of the passes, so each says that none before it
 -- comes. Want of memory has no cause in the source.
 use Rattle.std.specs.Prelude.{◌<◌, ◌≤◌, ℕ, List, length, map, Option, ⊤}
-use Rattle.est_base.specs.declared.bounds.TheConstants.Limits.{SOURCE_BYTES, INSTANCES, WIRES}
+use Rattle.base_types.specs.declared.bounds.TheConstants.Limits.{SOURCE_BYTES, INSTANCES, WIRES}
 use Rattle.est_kernel.specs.Plain.{Program}
 use Rattle.grc_graph.specs.GraphSizes.{graph_size}
 use Rattle.grc_graph.specs.Instances.{body_instances}
 use Rattle.grc_graph.specs.PlainWireNames.{wire_name_of}
-use Rattle.cec_front.specs.Refusals as front
-use Rattle.cec_front.specs.Sources.{StandsFor}
-use Rattle.cec_front.specs.declared.refusal.Quantity.TheVariants as quantities
-use Rattle.cec_front.specs.declared.refusal.Refusal.TheVariants as fronts
+use Rattle.est_front.specs.Refusals as front
+use Rattle.est_front.specs.Sources.{StandsFor}
+use Rattle.est_front.specs.declared.refusal.Quantity.TheVariants as quantities
+use Rattle.est_front.specs.declared.refusal.SourceRefusal.TheVariants as fronts
 use Rattle.cec_compile.specs.Cycles.{ShowsCycle, IsAcyclic}
 use Rattle.cec_compile.specs.declared.refusal.Limit.TheVariants as limits
 use Rattle.cec_compile.specs.declared.refusal.Refusal.{Refusal}
@@ -39,15 +39,15 @@ abbrev pub StandsWithoutText : List ℕ → Option (List ℕ) → Refusal → Ty
 StandsWithoutText text main refusal = (p : Program) × StandsFor text main p × DoesNotCompile p refusal
 
 abbrev pub IsRefused : List ℕ → Option (List ℕ) → Refusal → Type 0
-IsRefused text main (Static fault) = front.IsRefused text main (fronts.Static fault)
+IsRefused text main (Static fault) = front.IsSourceRefused text main (fronts.Static fault)
 IsRefused text main (Cyclic c) = StandsWithoutText text main (Cyclic c)
 IsRefused text main (Limit limits.Source) = SOURCE_BYTES < length text
-IsRefused text main (Limit limits.Nesting) = front.IsRefused text main (fronts.Limit quantities.Nesting)
-IsRefused text main (Limit limits.Statements) = front.IsRefused text main (fronts.Limit quantities.Statements)
-IsRefused text main (Limit limits.Signals) = front.IsRefused text main (fronts.Limit quantities.Signals)
-IsRefused text main (Limit limits.Kernel) = front.IsRefused text main (fronts.Limit quantities.Kernel)
-IsRefused text main (Limit limits.Height) = front.IsRefused text main (fronts.Limit quantities.Height)
-IsRefused text main (Limit limits.Traps) = front.IsRefused text main (fronts.Limit quantities.Traps)
+IsRefused text main (Limit limits.Nesting) = front.IsSourceRefused text main (fronts.Limit quantities.Nesting)
+IsRefused text main (Limit limits.Statements) = front.IsSourceRefused text main (fronts.Limit quantities.Statements)
+IsRefused text main (Limit limits.Signals) = front.IsSourceRefused text main (fronts.Limit quantities.Signals)
+IsRefused text main (Limit limits.Kernel) = front.IsSourceRefused text main (fronts.Limit quantities.Kernel)
+IsRefused text main (Limit limits.Height) = front.IsSourceRefused text main (fronts.Limit quantities.Height)
+IsRefused text main (Limit limits.Traps) = front.IsSourceRefused text main (fronts.Limit quantities.Traps)
 IsRefused text main (Limit limits.Instances) = StandsWithoutText text main (Limit limits.Instances)
 IsRefused text main (Limit limits.Wires) = StandsWithoutText text main (Limit limits.Wires)
 IsRefused text main (Limit limits.Trace) = ⊥

@@ -1,8 +1,8 @@
 -- To believe: sources that compile, that are refused, or whose texts are too long.
 use Rattle.std.specs.Prelude.{ℕ, ◌<◌, ◌≤◌, List, length, Option}
-use Rattle.est_base.specs.declared.bounds.TheConstants.Limits.{SOURCE_BYTES, TEXT_BYTES}
+use Rattle.base_types.specs.declared.bounds.TheConstants.Limits.{SOURCE_BYTES, TEXT_BYTES}
 use Rattle.est_kernel.specs.Plain.{Program}
-use Rattle.cec_front.specs.Sources.{StandsFor}
+use Rattle.est_front.specs.Sources.{StandsFor}
 use Rattle.cec_compile.specs.declared.forms.TextForm.{TextForm}
 use Rattle.cec_compile.specs.declared.forms.TextForm.TheVariants as forms
 use Rattle.cec_compile.specs.declared.refusal.Refusal as refused

@@ -1,14 +1,14 @@
 -- To believe: what it means that a text names the wires of a program's compiled graph, and stores so many values.
 use Rattle.std.specs.Prelude.{◌≡◌, ℕ, Bool, List, [], ◌++◌, length, Ok, codes, decimal, ◌+◌, ◌<◌, slice_index_or}
 use Rattle.std.specs.List.{AllZip, list_any}
-use Rattle.est_base.specs.Items.{Item}
+use Rattle.base_types.specs.Items.{Item}
 use Rattle.est_kernel.specs.Plain.{Program}
 use Rattle.grc_graph.specs.Readings.{Valuation}
 use Rattle.grc_graph.specs.SelectionTrees.{body_leaves}
 use Rattle.grc_graph.specs.Walk.{State, Initial, Selecting}
 use Rattle.grc_graph.specs.Wires.{Wire}
-use Rattle.grc_sem.specs.GraphWalks.{IsWalkOf, graph_walk}
-use Rattle.machines.specs.Machines.{Machine, IsRun}
+use Rattle.grc_solutions_laws.specs.GraphWalks.{IsWalkOf, graph_walk}
+use Rattle.base_machines.specs.Machines.{Machine, IsRun}
 use Rattle.blif_text.specs.Circuits.{Circuit, reading}
 use Rattle.blif_text.specs.Runs.{circuit_machine}
 use Rattle.csub_text.specs.Machine.{program_machine}
@@ -16,7 +16,7 @@ use Rattle.csub_text.specs.Texts.{Describes}
 use Rattle.csub_text.specs.Trees.{Program as CProgram}
 use Rattle.vlog_text.specs.Machine.{vlog_machine}
 use Rattle.vlog_text.specs.Texts as modules
-use Rattle.vlog_text.specs.Trees.{Module}
+use Rattle.vlog_text.specs.Trees.{VerilogModule}
 use Rattle.cec_compile.specs.Meaning.{AreItems}
 use Rattle.cec_compile.specs.WireGroups.{SharesWires, wire_groups}
 
@@ -78,7 +78,7 @@ pub record CTextNames (states : ℕ) (text : List ℕ) (p : Program) : Type 0 wh
 
 -- of a Verilog text, which has so many registers
 pub record VerilogTextNames (registers : ℕ) (text : List ℕ) (p : Program) : Type 0 where
-  pub design : Module
+  pub design : VerilogModule
   pub describes : modules.Describes text design
   pub stored : length design.registers ≡ registers
   pub wires : NamesWires (vlog_machine design) wire_variable p

@@ -2,7 +2,7 @@
 
 ghost use Rattle.std.specs.Prelude.{◌≡◌, length, map, IfOk};
 ghost use Rattle.est_kernel.specs.Plain.{program_of};
-ghost use Rattle.digraph.specs.Walks.{IsClosedWalk};
+ghost use Rattle.base_digraph.specs.Walks.{IsClosedWalk};
 ghost use Rattle.grc_dep.specs.Cycles.{numbered, numbers_of};
 ghost use Rattle.grc_graph.specs.GraphRuns.{program_edges, program_wires};
 ghost use Rattle.grc_graph.specs.NumberedEdges.{AreEdgesOf};
@@ -11,7 +11,7 @@ ghost use Rattle.grc_graph.specs.PlainWireNames.{wire_name_of};
 ghost use Rattle.cec_compile.specs.Cycles.{ShowsCycle, cycle_text};
 
 use crate::wire_texts::joined_texts;
-use est_base::{NoMemory, WireId};
+use base_types::{NoMemory, WireId};
 use grc_graph::{Edges, Graph, WireName};
 use grc_list::names_of;
 use std::alloc::Global;

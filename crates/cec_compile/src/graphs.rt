@@ -8,8 +8,8 @@ ghost use Rattle.est_kernel.specs.WellFormed.{IsWellFormed, HasNames};
 ghost use Rattle.cec_compile.specs.Graphs.{IsBuilt, StandsForBuilt, HasNoGraph, IsRefusedGraph};
 
 use crate::refusal::Refusal;
-use cec_front::{Analysed, analyse};
-use est_base::Limits;
+use base_types::Limits;
+use est_front::{Analysed, analyse};
 use grc_build::build;
 use grc_graph::Graph;
 use grc_layout::{copies, select};

@@ -1,11 +1,11 @@
 // The guarded C texts of sources.
 
 ghost use Rattle.std.specs.Prelude.{◌≤◌, [], Some, length, IfOk, IfErr, MatchResult, option_map};
-ghost use Rattle.est_base.specs.SinkChanges.{change};
-ghost use Rattle.est_base.specs.Writing.{Appends};
+ghost use Rattle.base_types.specs.SinkChanges.{change};
+ghost use Rattle.base_types.specs.Writing.{Appends};
 ghost use Rattle.est_kernel.specs.Plain.{Program, program_of};
 ghost use Rattle.grc_graph.specs.BuiltGraphs.{IsGraphOf};
-ghost use Rattle.text_io.specs.Writings.{LeavesPieces};
+ghost use Rattle.cec_text_io.specs.Writings.{LeavesPieces};
 ghost use Rattle.cec_compile.specs.Compiling.{IsCompiled};
 ghost use Rattle.cec_compile.specs.Following.{FollowsGraph};
 ghost use Rattle.cec_compile.specs.GuardedTexts.{IsGuardedOf, StandsForGuarded};
@@ -19,12 +19,12 @@ use crate::compiler::{Compiled, compile_unshared};
 use crate::forms::TextForm;
 use crate::made::{Made, made_in};
 use crate::refusal::Refusal;
-use est_base::{Limits, NoMemory, Sink};
+use base_types::{Limits, NoMemory, Sink};
+use cec_text_io::{Written, write_in_pieces};
+use csub_guard_writer::{guarded_pieces, write_guarded};
 use grc_order::Picker;
-use guard_regions::regions;
-use guard_text::{guarded_pieces, write_guarded};
+use grc_regions::regions;
 use std::alloc::Global;
-use text_io::{Written, write_in_pieces};
 
 /// A kernel program with the netlist that its guarded text is written of, and the text.
 #[derive(Drop)]

@@ -6,7 +6,7 @@ ghost use Rattle.est_kernel.specs.Plain.{Program, program_of};
 ghost use Rattle.est_kernel.specs.Terms.{Term};
 ghost use Rattle.net_ir.specs.Runs.{netlist_of, initial_latches};
 ghost use Rattle.net_simp.specs.SimpleNets.{IsSimple};
-ghost use Rattle.state_enc.specs.Encodings.{IsTreeOf, Encodes};
+ghost use Rattle.net_state_enc.specs.Encodings.{IsTreeOf, Encodes};
 ghost use Rattle.cec_compile.specs.Compiling.{IsCompiled, StandsForNet};
 ghost use Rattle.cec_compile.specs.Following.{FollowsGraph};
 ghost use Rattle.cec_compile.specs.MadeNets.{IsMade, IsNetIn, IsSharedIn};
@@ -16,13 +16,13 @@ ghost use Rattle.cec_compile.specs.WireGroups.{is_shared};
 use crate::compiler::{Compiled, compile, compile_unshared};
 use crate::forms::TextForm;
 use crate::refusal::Refusal;
-use est_base::{Limits, NoMemory, Stop};
+use base_types::{Limits, NoMemory, Stop};
 use est_kernel::KernelProgram;
 use grc_graph::{Graph, SelTree};
 use grc_order::Picker;
 use net_ir::Net;
 use net_simp::simplify;
-use state_enc::encode;
+use net_state_enc::encode;
 use std::alloc::Global;
 
 /// A kernel program, and the netlist that its text is written of.

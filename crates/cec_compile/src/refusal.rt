@@ -5,13 +5,13 @@ ghost use Rattle.cec_compile.specs.Limits.{limit_of, refusal_of, copying_refusal
 ghost use Rattle.cec_compile.specs.declared.refusal.Refusal.TheVariants.{NoMemory as lacks_memory};
 
 use crate::cycles::Cycle;
-use cec_front::{Fault, Quantity};
-use est_base::NoMemory;
+use base_types::NoMemory;
+use est_front::{Fault, Quantity};
 use grc_build::BuildFault;
 use grc_layout::CopyFault;
 use std::alloc::AllocError;
 
-/// What passes its limit; `est_base::Limits` has the numbers.
+/// What passes its limit; `base_types::Limits` has the numbers.
 #[derive(Clone, Copy, Debug, PartialEq, Eq)]
 pub enum Limit {
     /// The bytes of the source.
@@ -66,14 +66,14 @@ impl From<Quantity> for Limit {
     }
 }
 
-impl From<cec_front::Refusal> for Refusal {
+impl From<est_front::SourceRefusal> for Refusal {
     ghost from_gives = { λ given refusal. refusal ≡ refusal_of given };
 
-    fn from(refusal: cec_front::Refusal) -> Refusal {
+    fn from(refusal: est_front::SourceRefusal) -> Refusal {
         match refusal {
-            cec_front::Refusal::Static(fault) => Refusal::Static(fault),
-            cec_front::Refusal::Limit(quantity) => Refusal::Limit(Limit::from(quantity)),
-            cec_front::Refusal::NoMemory => Refusal::NoMemory,
+            est_front::SourceRefusal::Static(fault) => Refusal::Static(fault),
+            est_front::SourceRefusal::Limit(quantity) => Refusal::Limit(Limit::from(quantity)),
+            est_front::SourceRefusal::NoMemory => Refusal::NoMemory,
         }
     }
 }

@@ -1,10 +1,10 @@
 // The texts of sources, in each language that netlists are written in.
 
 ghost use Rattle.std.specs.Prelude.{◌≤◌, [], Some, length, IfOk, IfErr, MatchResult, option_map};
-ghost use Rattle.est_base.specs.SinkChanges.{change};
-ghost use Rattle.est_base.specs.Writing.{Appends};
-ghost use Rattle.text_io.specs.NetWriting.{IsWrittenIn};
-ghost use Rattle.text_io.specs.Writings.{LeavesPieces};
+ghost use Rattle.base_types.specs.SinkChanges.{change};
+ghost use Rattle.base_types.specs.Writing.{Appends};
+ghost use Rattle.cec_text_io.specs.NetWriting.{IsWrittenIn};
+ghost use Rattle.cec_text_io.specs.Writings.{LeavesPieces};
 ghost use Rattle.cec_compile.specs.MadeNets.{IsWrittenOf};
 ghost use Rattle.cec_compile.specs.Refusals.{IsRefused};
 ghost use Rattle.cec_compile.specs.Sources.{IsSource};
@@ -12,11 +12,11 @@ ghost use Rattle.cec_compile.specs.Sources.{IsSource};
 use crate::forms::TextForm;
 use crate::made::source_made;
 use crate::refusal::Refusal;
-use est_base::{Limits, Sink};
+use base_types::{Limits, Sink};
+use cec_text_io::{Collected, Written, write_net_in_pieces};
 use grc_order::Picker;
-use net_text::NetText;
+use net_writer::NetText;
 use std::alloc::Global;
-use text_io::{Collected, Written, write_net_in_pieces};
 
 /// Compiles a source and writes its text of a form, in a language, to `out`, piece by piece, and says how the writing
 /// ended. The errors are those of `blif_of`; nothing is written then.

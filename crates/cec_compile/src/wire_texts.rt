@@ -5,7 +5,7 @@ ghost use Rattle.grc_graph.specs.PlainWireNames.{wire_name_of};
 ghost use Rattle.grc_list.specs.Listings.{wire_text};
 ghost use Rattle.cec_compile.specs.WireTexts.{joined_texts};
 
-use est_base::NoMemory;
+use base_types::NoMemory;
 use grc_graph::WireName;
 use grc_list::wire_text;
 use std::alloc::Global;

@@ -1,9 +1,9 @@
 //! The program: the words of the command line, the files of the disk and the standard streams, handed
-//! to `opt_core::cec_opt`, which does all.
+//! to `cec_opt_commands::cec_opt`, which does all.
 #![tactic(auto)]
 
-use est_base::{DiskFiles, WriterSink};
-use opt_core::cec_opt;
+use base_types::{DiskFiles, WriterSink};
+use cec_opt_commands::cec_opt;
 use std::env;
 use std::process::ExitCode;
 use std::rt::Env;

@@ -5,7 +5,7 @@ use Rattle.std.specs.List.{list_all}
 use Rattle.std.proofs.lemmas.Bool.{le-ltb, lt-ltb, and_right}
 use Rattle.std.proofs.lemmas.List.{take-append-drop}
 use Rattle.std.proofs.lemmas.List.Sums.{fold_more, fold-append}
-use Rattle.est_base.specs.Names.{is_digit}
+use Rattle.base_types.specs.Names.{is_digit}
 use Rattle.cec_words.specs.Numbers.{decimal_value, is_empty, number}
 
 -- more digits make no smaller number

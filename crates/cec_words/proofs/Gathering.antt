@@ -9,7 +9,7 @@ use Rattle.cec_words.specs.declared.steps.Step as code_steps
 use Rattle.cec_words.specs.declared.steps.Step.TheVariants as code_step
 use Rattle.cec_words.specs.CommandNames.{Command}
 use Rattle.cec_words.specs.OptionNames.{Setting}
-use Rattle.cec_words.specs.Parts.{Step}
+use Rattle.cec_words.specs.Parts.{WordStep}
 use Rattle.cec_words.specs.Commands.{step_of}
 use Rattle.cec_words.specs.Readings.{Gathered, with_part, after_step, gathered, asked_once}
 use Rattle.cec_words.specs.Slots.{Fills, Overfills, asked_with, HasNoMeaning, Takes}
@@ -47,7 +47,7 @@ module _ (command : Command) (given : Given) (waiting : Option Setting) (at : �
   abbrev rest : Option Setting → Option Gathered
   rest w = gathered command w (at + 1) (drop (k + 1) words)
 
-  next : (step : Option Step) → step_of command waiting at word ≡ step →
+  next : (step : Option WordStep) → step_of command waiting at word ≡ step →
       asked_with command given (gathered command waiting at (drop k words)) ≡ asked_with command given (after_step rest step)
   next step e = ap (asked_with command given) (gathered-drop command waiting at words k word low is ∙ ap (after_step rest) e)
 

@@ -3,8 +3,8 @@ use Rattle.std.proofs.Common.{ℕ, ◌+◌, ◌<◌, ◌≤◌, Bool, true, fals
 use Rattle.std.specs.Prelude.{⊤, IfSome, if◌then◌else◌, option_map, option_and_then}
 use Rattle.std.proofs.lemmas.Bool.{leb-true, and_parts}
 use Rattle.std.proofs.lemmas.List.Elements.{All-nil, All-cons, All-head}
-use Rattle.est_base.specs.declared.bounds.TheConstants.Limits.{BRANCHES, LOAD_INSTANTS}
-use Rattle.est_base.specs.Names.{is_same_name}
+use Rattle.base_types.specs.declared.bounds.TheConstants.Limits.{BRANCHES, LOAD_INSTANTS}
+use Rattle.base_types.specs.Names.{is_same_name}
 use Rattle.std.specs.Prelude.{codes}
 use Rattle.cec_words.specs.declared.asked.Asked.{Asked}
 use Rattle.cec_words.specs.declared.asked.Asked.TheVariants as asks
@@ -16,7 +16,7 @@ use Rattle.cec_words.specs.CommandNames.{Command}
 use Rattle.cec_words.specs.OptionNames as settings
 use Rattle.cec_words.specs.OptionNames.{Setting}
 use Rattle.cec_words.specs.Parts as parts
-use Rattle.cec_words.specs.Parts.{Spelling, Bare, Valued, Part, Step, Waits, Ends, Way, Text, Tri}
+use Rattle.cec_words.specs.Parts.{Spelling, Bare, Valued, Part, WordStep, Waits, Ends, Way, Text, Tri}
 use Rattle.cec_words.specs.Commands.{command_of, options, is_plain, way_of, pick_of, named, number_within, part_of, spelled_step, step_of}
 use Rattle.cec_words.specs.Numbers.{number, is_empty}
 use Rattle.cec_words.specs.Readings.{Gathered, with_part, after_step, gathered, head, each_once, source, run_asked, exec_asked, on_one, on_two, asked}
@@ -32,7 +32,7 @@ abbrev GoodPart : Part → Type 0
 GoodPart (parts.Branches n) = IsGood n
 GoodPart others = ⊤
 
-abbrev GoodStep : Step → Type 0
+abbrev GoodStep : WordStep → Type 0
 GoodStep (Ends part) = GoodPart part
 GoodStep (Waits setting) = ⊤
 
@@ -114,7 +114,7 @@ with_good (parts.Run n) g good all = all
 with_good parts.Encode g good all = all
 with_good parts.Guard g good all = all
 
-after_good : (rest : Option Setting → Option Gathered) (o : Option Step) → IfSome o GoodStep → ((w : Option Setting) → IfSome (rest w) AreGood) →
+after_good : (rest : Option Setting → Option Gathered) (o : Option WordStep) → IfSome o GoodStep → ((w : Option Setting) → IfSome (rest w) AreGood) →
     IfSome (after_step rest o) AreGood
 after_good rest None good all = tt
 after_good rest (Some (Waits setting)) good all = all (Some setting)

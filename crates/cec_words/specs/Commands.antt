@@ -2,8 +2,8 @@
 use Rattle.std.specs.Prelude.{ℕ, ◌+◌, Bool, false, not, ◌==◌, ◌&&◌, nat_lt, nat_le, List, [], ◌∷◌, length, take}
 use Rattle.std.specs.Prelude.{drop, slice_index, codes, if◌then◌else◌, Option, Some, None, option_map}
 use Rattle.std.specs.Prelude.{option_and_then}
-use Rattle.est_base.specs.Names.{is_same_name}
-use Rattle.est_base.specs.declared.bounds.TheConstants.Limits.{BRANCHES, LOAD_INSTANTS}
+use Rattle.base_types.specs.Names.{is_same_name}
+use Rattle.base_types.specs.declared.bounds.TheConstants.Limits.{BRANCHES, LOAD_INSTANTS}
 use Rattle.cec_words.specs.declared.asked.Via.TheVariants as vias
 use Rattle.cec_words.specs.declared.asked.Pick.{Pick}
 use Rattle.cec_words.specs.declared.asked.Pick.TheVariants.{First, Last, Drawn}
@@ -13,7 +13,7 @@ use Rattle.cec_words.specs.CommandNames.{Command}
 use Rattle.cec_words.specs.OptionNames as settings
 use Rattle.cec_words.specs.OptionNames.{Setting, option_name}
 use Rattle.cec_words.specs.Parts as parts
-use Rattle.cec_words.specs.Parts.{Spelling, Bare, Valued, Part, Step, Waits, Ends, Way, Text, Tri}
+use Rattle.cec_words.specs.Parts.{Spelling, Bare, Valued, Part, WordStep, Waits, Ends, Way, Text, Tri}
 use Rattle.cec_words.specs.Numbers.{number}
 
 abbrev pub command_of : List ℕ → Option Command
@@ -96,7 +96,7 @@ part_of settings.Encode place value = None
 part_of settings.Guard place value = None
 
 -- what a word does that spells an option: but for the one that takes no value, its name alone waits for one
-abbrev pub spelled_step : ℕ → List ℕ → Spelling → Option Step
+abbrev pub spelled_step : ℕ → List ℕ → Spelling → Option WordStep
 spelled_step at word (Bare settings.Encode) = Some (Ends parts.Encode)
 spelled_step at word (Bare settings.Guard) = Some (Ends parts.Guard)
 spelled_step at word (Bare setting) = Some (Waits setting)
@@ -105,7 +105,7 @@ spelled_step at word (Valued setting start) =
 
 -- What a word does at its place, where an option may wait for its value: it is the value, or a file, or it spells an
 -- option of the command. Any other word has no meaning.
-abbrev pub step_of : Command → Option Setting → ℕ → List ℕ → Option Step
+abbrev pub step_of : Command → Option Setting → ℕ → List ℕ → Option WordStep
 step_of command (Some setting) at word =
     if is_plain word then option_map Ends (part_of setting (record { word = at; start = 0 }) word) else None
 step_of command None at word =

@@ -2,7 +2,7 @@
 use Rattle.std.specs.Prelude.{ℕ, ◌+◌, ◌-◌, ◌*◌, ◌^◌, Bool, true, false, not, ◌&&◌, nat_lt, List, [], ◌∷◌}
 use Rattle.std.specs.Prelude.{if◌then◌else◌, fold, Option, Some, None}
 use Rattle.std.specs.List.{list_all}
-use Rattle.est_base.specs.Names.{is_digit}
+use Rattle.base_types.specs.Names.{is_digit}
 
 -- the number that some digits spell
 abbrev pub decimal_value : List ℕ → ℕ

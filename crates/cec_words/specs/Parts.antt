@@ -28,6 +28,6 @@ pub data Part : Type 0 where
   Guard : Part
 
 -- what a word does: it makes an option wait for its value, or it ends a part
-pub data Step : Type 0 where
-  Waits : (setting : Setting) → Step
-  Ends : (part : Part) → Step
+pub data WordStep : Type 0 where
+  Waits : (setting : Setting) → WordStep
+  Ends : (part : Part) → WordStep

@@ -2,7 +2,7 @@
 -- left; or it is `--help` alone.
 use Rattle.std.specs.Prelude.{ℕ, ◌+◌, Bool, true, false, ◌&&◌, nat_le, List, [], ◌∷◌, length, codes}
 use Rattle.std.specs.Prelude.{if◌then◌else◌, Option, Some, None, unwrap_or, option_map, option_and_then}
-use Rattle.est_base.specs.Names.{is_same_name}
+use Rattle.base_types.specs.Names.{is_same_name}
 use Rattle.cec_words.specs.declared.asked.Via.TheVariants as vias
 use Rattle.cec_words.specs.declared.asked.Pick.{Pick}
 use Rattle.cec_words.specs.declared.asked.Pick.TheVariants.{First}
@@ -14,7 +14,7 @@ use Rattle.cec_words.specs.CommandNames as commands
 use Rattle.cec_words.specs.CommandNames.{Command}
 use Rattle.cec_words.specs.OptionNames.{Setting}
 use Rattle.cec_words.specs.Parts as parts
-use Rattle.cec_words.specs.Parts.{Part, Step, Waits, Ends, Way, Text, Tri}
+use Rattle.cec_words.specs.Parts.{Part, WordStep, Waits, Ends, Way, Text, Tri}
 use Rattle.cec_words.specs.Numbers.{is_empty}
 use Rattle.cec_words.specs.Commands.{command_of, step_of}
 
@@ -57,7 +57,7 @@ with_part parts.Encode g = record g { encodes = true ∷ g.encodes }
 with_part parts.Guard g = record g { guards = true ∷ g.guards }
 
 -- what a step gives, by what the words behind it give, with the option that waits
-abbrev pub after_step : (Option Setting → Option Gathered) → Option Step → Option Gathered
+abbrev pub after_step : (Option Setting → Option Gathered) → Option WordStep → Option Gathered
 after_step rest None = None
 after_step rest (Some (Waits setting)) = rest (Some setting)
 after_step rest (Some (Ends part)) = option_map (with_part part) (rest None)

@@ -16,7 +16,7 @@ use Rattle.cec_words.specs.CommandNames.{Command}
 use Rattle.cec_words.specs.OptionNames as settings
 use Rattle.cec_words.specs.OptionNames.{Setting}
 use Rattle.cec_words.specs.Parts as parts
-use Rattle.cec_words.specs.Parts.{Spelling, Bare, Valued, Way, Text, Tri, Part, Step, Waits, Ends}
+use Rattle.cec_words.specs.Parts.{Spelling, Bare, Valued, Way, Text, Tri, Part, WordStep, Waits, Ends}
 
 abbrev pub plain_command : code_commands.Command → Command
 plain_command code_command.Blif = commands.Blif
@@ -57,6 +57,6 @@ plain_part (code_part.Run number) = parts.Run number
 plain_part code_part.Encode = parts.Encode
 plain_part code_part.Guard = parts.Guard
 
-abbrev pub plain_step : code_steps.Step → Step
+abbrev pub plain_step : code_steps.Step → WordStep
 plain_step (code_step.Waits setting) = Waits (plain_setting setting)
 plain_step (code_step.Ends part) = Ends (plain_part part)

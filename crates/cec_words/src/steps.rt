@@ -1,7 +1,7 @@
 // What one word says.
 
 ghost use Rattle.std.specs.Prelude.{◌≡◌, codes, map, option_map, IfSome};
-ghost use Rattle.est_base.specs.Names.{is_same_name};
+ghost use Rattle.base_types.specs.Names.{is_same_name};
 ghost use Rattle.cec_words.specs.Commands.{command_of, options, spelling_of, named, is_plain, way_of};
 ghost use Rattle.cec_words.specs.Commands.{pick_of, part_of, step_of};
 ghost use Rattle.cec_words.specs.OptionNames.{option_name};
@@ -11,7 +11,7 @@ ghost use Rattle.cec_words.specs.Views.{plain_step};
 
 use crate::asked::{Pick, Value, Via};
 use crate::numbers::number;
-use est_base::Limits;
+use base_types::Limits;
 
 // A command other than `--help`.
 #[derive(Clone, Copy)]

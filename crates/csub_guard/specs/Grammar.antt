@@ -5,13 +5,13 @@
 --   block  = "if" "(" NAME ")" half [ "else" half ]
 --   half   = "{" { assign } "}"
 use Rattle.std.specs.Prelude.{ℕ, max, List, [], ◌∷◌, map, Option, Some, None}
-use Rattle.read_rules.specs.Languages.{One as Single, Then, Led, Loop, Many, Optional, Within}
+use Rattle.base_reader.specs.Languages.{One as Single, Then, Led, Loop, Many, Optional, Within}
 use Rattle.csub_text.specs.Grammar.{WrittenAssign, SpellsState, SpellsGlobal, SpellsLocal, SpellsAssign, SpellsAnswer}
 use Rattle.csub_text.specs.Grammar.{is, name, assign_meant, body_nesting}
 use Rattle.csub_text.specs.Tokens as tokens
 use Rattle.csub_text.specs.Tokens.{Kind, Else, Void, LeftParenthesis, RightParenthesis, LeftBrace, RightBrace}
-use Rattle.csub_text.specs.Trees.{State}
-use Rattle.expr_text.specs.Grammar.{Written, meant, written_nesting}
+use Rattle.csub_text.specs.Trees.{StateVariable}
+use Rattle.net_expressions.specs.Grammar.{Written, meant, written_nesting}
 use Rattle.csub_guard.specs.Trees.{Piece, One, If, Program}
 
 pub data WrittenPiece : Type 0 where
@@ -19,7 +19,7 @@ pub data WrittenPiece : Type 0 where
   IfWritten : (test : List ℕ) (first : List WrittenAssign) (second : Option (List WrittenAssign)) → WrittenPiece
 
 pub record WrittenProgram : Type 0 where
-  pub states : List State
+  pub states : List StateVariable
   pub globals : List (List ℕ)
   pub locals : List (List ℕ)
   pub body : List WrittenPiece

@@ -1,9 +1,9 @@
 -- To believe: the machine of a guarded program, over items, and how many assignments its calls run.
 use Rattle.std.specs.Prelude.{ℕ, ◌+◌, Bool, List, [], ◌∷◌, map, filter, length, sum, if◌then◌else◌}
-use Rattle.est_base.specs.Items.{Item}
-use Rattle.machines.specs.Machines.{Machine, computed, run_from}
+use Rattle.base_types.specs.Items.{Item}
+use Rattle.base_machines.specs.Machines.{Machine, computed, run_from}
 use Rattle.csub_text.specs.Grammar.{begins_input, begins_output}
-use Rattle.csub_text.specs.Machine.{Memory, Seen, value_of, run_body, with_inputs, first_memory}
+use Rattle.csub_text.specs.Machine.{Memory, SeenCall, value_of, run_body, with_inputs, first_memory}
 use Rattle.csub_text.specs.Trees.{Assign}
 use Rattle.csub_guard.specs.Trees.{Piece, One, If, Program}
 
@@ -49,10 +49,10 @@ calls p items =
     (first_memory p.states) items
 
 -- what is seen of a call: the outputs in declared order, and the value returned
-abbrev pub seen : Program → Counted → Seen
+abbrev pub seen : Program → Counted → SeenCall
 seen p behind = record { outputs = map behind.memory (outputs_of p); answer = value_of behind.memory p.answer }
 
-abbrev pub run : Program → List Item → List Seen
+abbrev pub run : Program → List Item → List SeenCall
 run p items = map (seen p) (calls p items)
 
 -- the sum of the counts of all calls

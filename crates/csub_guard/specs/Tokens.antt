@@ -1,6 +1,6 @@
 -- To believe: the tokens of a guarded text are those of the C subset, but that `if` and `else` are words and no names.
 use Rattle.std.specs.Prelude.{ℕ, List, map, codes, if◌then◌else◌}
-use Rattle.est_base.specs.Names.{is_same_name}
+use Rattle.base_types.specs.Names.{is_same_name}
 use Rattle.csub_text.specs.Tokens as plain
 use Rattle.csub_text.specs.Tokens.{Kind, Token, If, Else, Named}
 

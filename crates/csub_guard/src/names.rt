@@ -5,8 +5,8 @@ ghost use Rattle.csub_guard.specs.Names.{declared};
 ghost use Rattle.csub_guard.specs.Views.{program_of};
 
 use crate::trees::GuardedProgram;
+use base_types::NoMemory;
 use csub_text::variable_names;
-use est_base::NoMemory;
 use std::alloc::Global;
 
 /// The names that a guarded program declares, in the order of the text. Its only error is want of memory.

@@ -8,8 +8,8 @@ use Rattle.std.proofs.lemmas.List.{length-drop}
 use Rattle.std.proofs.lemmas.Bool.{false≢true}
 use Rattle.csub_text.specs.Tokens.{Gap, Lexeme, front, is_space, begins_name, word_kind, mark_kind, mark_front}
 use Rattle.csub_text.specs.Tokens.{slash_front, one_more, closed_after}
-use Rattle.est_base.specs.Names.{is_name_byte}
-use Rattle.expr_text.specs.Plain.{front_at}
+use Rattle.base_types.specs.Names.{is_name_byte}
+use Rattle.net_expressions.specs.Plain.{front_at}
 use Rattle.csub_read.specs.Tokens.{more_by}
 
 -- ---- the end of a comment

@@ -7,8 +7,8 @@ use Rattle.std.proofs.lemmas.Bool.{and_parts}
 use Rattle.std.proofs.lemmas.List.{drop-drop, length-take-le}
 use Rattle.std.proofs.lemmas.List.Elements.{All-nil, All-cons}
 use Rattle.std.proofs.lemmas.List.Sums.{prefix_len-le-length}
-use Rattle.est_base.specs.Names.{is_name_byte}
-use Rattle.expr_text.specs.Lexemes.{token_of}
+use Rattle.base_types.specs.Names.{is_name_byte}
+use Rattle.net_expressions.specs.Lexemes.{token_of}
 use Rattle.csub_text.specs.Tokens.{Kind, Bad, Token, Front, Gap, Lexeme, Wrong, begins_name, is_space, word_kind, mark_kind, mark_front}
 use Rattle.csub_text.specs.Tokens.{closed_after, comment_front, slash_front, front, tokens, tokens_behind}
 use Rattle.csub_read.specs.LongestTokens.{IsLexeme, IsLongest, TokensAreLongest}

@@ -3,11 +3,11 @@ use Rattle.std.proofs.Common.{◌≡◌, ℕ, List, [], ◌∷◌, map, refl, sy
 use Rattle.csub_text.specs.Tokens.{Kind, Semicolon, Equals}
 use Rattle.csub_text.specs.Trees.{Expr}
 use Rattle.csub_text.specs.Grammar.{is, sign, name, assign_meant, program_meant}
-use Rattle.expr_text.specs.Grammar.{Written, meant}
-use Rattle.expr_text.proofs.Exports.{Image, image-mapped, image-both, image-trail, image-on, image-maybe, image-loop, image-self, image-advances, made}
-use Rattle.expr_text.proofs.Exports.{end-made, expr-meant}
-use Rattle.read_rules.specs.Readings.{Rule, mapped, both, trail, on, the, loop, end_of, whole}
-use Rattle.read_rules.proofs.Exports.{Advances}
+use Rattle.net_expressions.specs.Grammar.{Written, meant}
+use Rattle.net_expressions.proofs.Exports.{Image, image-mapped, image-both, image-trail, image-on, image-maybe, image-loop, image-self, image-advances, made}
+use Rattle.net_expressions.proofs.Exports.{end-made, expr-meant}
+use Rattle.base_reader.specs.Readings.{Rule, mapped, both, trail, on, the, loop, end_of, whole}
+use Rattle.base_reader.proofs.Exports.{Advances}
 use Rattle.csub_read.proofs.TextLaws.{assign-advances}
 use Rattle.csub_read.specs.Reading.{makes_expr, makes_written, expr, state_step, global_step, local_step}
 use Rattle.csub_read.specs.Reading.{assign_rule, assign_step, answer_rule, body_rule, function_rule, whole_rule, text_rule, Parts, parts_of, written_assign}

@@ -6,9 +6,9 @@ use Rattle.csub_text.specs.Trees.{Program}
 use Rattle.csub_text.specs.Grammar.{WrittenProgram, IsText, program_meant}
 use Rattle.csub_text.specs.Names.{NameFault, Twice, Undeclared, Unset, name_fault}
 use Rattle.csub_text.specs.Texts.{Describes, nesting_limit}
-use Rattle.read_rules.specs.declared.faults.Fault.{Fault}
-use Rattle.read_rules.specs.Readings.{whole}
-use Rattle.read_rules.specs.Exact.{Exactly, IsLeastPlace}
+use Rattle.base_reader.specs.declared.faults.Fault.{Fault}
+use Rattle.base_reader.specs.Readings.{whole}
+use Rattle.base_reader.specs.Exact.{Exactly, IsLeastPlace}
 use Rattle.csub_read.specs.declared.refusal.CError.{CError}
 use Rattle.csub_read.specs.declared.refusal.CError.TheVariants as faults
 use Rattle.csub_read.specs.Faults.{ReadsFault, IsNameFault}

@@ -1,7 +1,7 @@
 -- Inner: what the answer of the reading function says of a text.
 use Rattle.std.proofs.Common.{◌≡◌, ℕ, ◌≤◌, List, [], ◌∷◌, length, map, None, Result, Ok, Err, refl, sym}
 use Rattle.std.proofs.Common.{◌∙◌, ap, subst}
-use Rattle.est_base.specs.declared.bounds.TheConstants.Limits.{TEXT_BYTES}
+use Rattle.base_types.specs.declared.bounds.TheConstants.Limits.{TEXT_BYTES}
 use Rattle.csub_text.specs.Tokens.{Kind, kinds}
 use Rattle.csub_text.specs.Trees.{Program}
 use Rattle.csub_text.specs.Grammar.{IsText, program_meant}
@@ -10,9 +10,9 @@ use Rattle.csub_text.specs.Texts.{nesting_limit}
 use Rattle.csub_text.specs.Views.{program_of, assign_of}
 use Rattle.csub_text.specs.declared.trees.CProgram.{CProgram}
 use Rattle.csub_text.specs.declared.trees.Assign.{Assign as CodeAssign}
-use Rattle.read_rules.specs.declared.faults.Fault.{Fault}
-use Rattle.read_rules.specs.Readings.{whole}
-use Rattle.read_rules.specs.Exact.{Exactly, IsLeastPlace}
+use Rattle.base_reader.specs.declared.faults.Fault.{Fault}
+use Rattle.base_reader.specs.Readings.{whole}
+use Rattle.base_reader.specs.Exact.{Exactly, IsLeastPlace}
 use Rattle.csub_read.specs.declared.refusal.CError.{CError}
 use Rattle.csub_read.specs.declared.refusal.CError.TheVariants as faults
 use Rattle.csub_read.specs.Faults.{ReadsAs, ReadsFault}
@@ -21,9 +21,9 @@ use Rattle.csub_read.specs.NameTests.{NamesFault}
 use Rattle.csub_read.specs.Reading.{Parts, makes_expr, makes_written, text_rule, written_of, expr_assign, expr_program, pair_of, parts_in}
 use Rattle.csub_read.proofs.TextLaws.{text-exact}
 use Rattle.csub_read.proofs.Makers.{parts_meant, whole-meant, whole-written, parts-means}
-use Rattle.expr_text.specs.Grammar.{Written}
-use Rattle.expr_text.specs.Spelled.{IsSpelled}
-use Rattle.expr_text.proofs.Exports.{made, least-meant, spelled-meant}
+use Rattle.net_expressions.specs.Grammar.{Written}
+use Rattle.net_expressions.specs.Spelled.{IsSpelled}
+use Rattle.net_expressions.proofs.Exports.{made, least-meant, spelled-meant}
 
 -- what is written is read exactly, and what it means is the program
 exact-written : (ks : List Kind) → Exactly IsText nesting_limit ks (made written_of (whole (text_rule makes_written nesting_limit) ks))

@@ -2,24 +2,24 @@
 use Rattle.std.proofs.Common.{◌≡◌, ◌⊎◌, inl, inr, ℕ, max, true, false, IsTrue, List, [], ◌∷◌, map, Option, Some, None, refl, ap, subst, arith}
 use Rattle.csub_text.specs.Tokens.{Kind, Static, Int, Return, Void, React, LeftParenthesis, RightParenthesis, LeftBrace}
 use Rattle.csub_text.specs.Tokens.{RightBrace, Semicolon, Equals}
-use Rattle.csub_text.specs.Trees.{State}
+use Rattle.csub_text.specs.Trees.{StateVariable}
 use Rattle.csub_text.specs.Grammar.{is, sign, name, bit, own_name, global_name, SpellsExpression, WrittenAssign}
 use Rattle.csub_text.specs.Grammar.{WrittenProgram, SpellsState, SpellsGlobal, SpellsLocal, SpellsAssign, SpellsAnswer, SpellsText}
 use Rattle.csub_text.specs.Grammar.{body_nesting, text_nesting, IsText}
-use Rattle.read_rules.specs.Exact.{Exactly}
-use Rattle.read_rules.specs.Languages.{Then, Led, Loop, Optional, Many}
-use Rattle.read_rules.specs.Languages.{One as Single}
-use Rattle.read_rules.specs.Choice.{Made}
-use Rattle.read_rules.specs.Readings.{Rule, mapped, the, loop, whole}
-use Rattle.read_rules.proofs.Exports.{Advances, mapped-mapped, apart, Shape, one_shape, Stops, Laws, Reads, the-reads, both-reads, led-reads, trail-reads}
-use Rattle.read_rules.proofs.Exports.{ahead-reads, mapped-reads, told-reads, made-reads, same-reads, shape-reads, Turn, step_depth, list_depth, AfterStep}
-use Rattle.read_rules.proofs.Exports.{StepLaws, Steps, look-steps, loop-reads, Advances-step, whole-reads as exact-reads, list_depth-flat}
+use Rattle.base_reader.specs.Exact.{Exactly}
+use Rattle.base_reader.specs.Languages.{Then, Led, Loop, Optional, Many}
+use Rattle.base_reader.specs.Languages.{One as Single}
+use Rattle.base_reader.specs.Choice.{Made}
+use Rattle.base_reader.specs.Readings.{Rule, mapped, the, loop, whole}
+use Rattle.base_reader.proofs.Exports.{Advances, mapped-mapped, apart, Shape, one_shape, Stops, Laws, Reads, the-reads, both-reads, led-reads, trail-reads}
+use Rattle.base_reader.proofs.Exports.{ahead-reads, mapped-reads, told-reads, made-reads, same-reads, shape-reads, Turn, step_depth, list_depth, AfterStep}
+use Rattle.base_reader.proofs.Exports.{StepLaws, Steps, look-steps, loop-reads, Advances-step, whole-reads as exact-reads, list_depth-flat}
 use Rattle.csub_read.specs.Reading.{makes_written, expr, state_rule, state_step, global_step, local_rule, local_step, assign_rule, assign_step}
 use Rattle.csub_read.specs.Reading.{answer_rule, body_rule, whole_rule, text_rule, parts_of, written_assign, written_of}
 use Rattle.csub_read.specs.Tokens.{spelled}
 use Rattle.csub_read.proofs.TokenKinds.{class, is-test, name_set, name-test, own-test, global-test, bit-test, begins_set, sign-begins, sign-follows}
-use Rattle.expr_text.specs.Grammar.{Written, written_nesting}
-use Rattle.expr_text.proofs.Exports.{exprs_known, class-reads}
+use Rattle.net_expressions.specs.Grammar.{Written, written_nesting}
+use Rattle.net_expressions.proofs.Exports.{exprs_known, class-reads}
 
 abbrev expr_shape : Shape
 expr_shape = record { starts = begins_set; empty = false; after = 16 ∷ 15 ∷ [] }
@@ -35,7 +35,7 @@ end-reads = the-reads (is-test Semicolon (omega arith))
 
 -- ---- states
 
-abbrev StateBehind : State → List Kind → Type 0
+abbrev StateBehind : StateVariable → List Kind → Type 0
 StateBehind s = Then (Single own_name s.name) (Led (is Equals) (λ _. Then (Single bit s.init) (Single (is Semicolon) tt)))
 
 state-reads : {room : Option ℕ} → Reads class (λ _. state_rule) SpellsState (λ _. 0) (one_shape (0 ∷ [])) room
@@ -141,13 +141,13 @@ answer-reads room =
 -- ---- whole texts
 
 -- whatever stands behind the locals
-abbrev pub SpellsWhole : {B : Type 0} → (B → List Kind → Type 0) → List State × (List (List ℕ) × (List (List ℕ) × B)) → List Kind → Type 0
+abbrev pub SpellsWhole : {B : Type 0} → (B → List Kind → Type 0) → List StateVariable × (List (List ℕ) × (List (List ℕ) × B)) → List Kind → Type 0
 SpellsWhole L p =
     Then (Many SpellsState p.0) (Then (Loop SpellsGlobal p.1.0)
     (Led (is LeftParenthesis) (λ _. Led (is Void) (λ _. Led (is RightParenthesis) (λ _. Led (is LeftBrace) (λ _.
     Then (Many SpellsLocal p.1.1.0) (L p.1.1.1)))))))
 
-abbrev pub whole_depth : {B : Type 0} → (B → ℕ) → List State × (List (List ℕ) × (List (List ℕ) × B)) → ℕ
+abbrev pub whole_depth : {B : Type 0} → (B → ℕ) → List StateVariable × (List (List ℕ) × (List (List ℕ) × B)) → ℕ
 whole_depth d p =
     max (list_depth (λ _. 0) p.0) (max (list_depth (λ _. 0) p.1.0) (max (list_depth (λ _. 0) p.1.1.0) (d p.1.1.1)))
 
@@ -165,7 +165,7 @@ whole-reads {room = room} behind away =
     (both-reads (loop-reads local-steps refl) behind away))))) refl) refl) refl refl refl
 
 abbrev Found : Type 0
-Found = List State × (List (List ℕ) × (List (List ℕ) × (List (List ℕ × Written) × Written)))
+Found = List StateVariable × (List (List ℕ) × (List (List ℕ) × (List (List ℕ × Written) × Written)))
 
 abbrev SpellsBody : List (List ℕ × Written) × Written → List Kind → Type 0
 SpellsBody b = Then (Many SpellsPair b.0) (SpellsAnswer b.1)

@@ -5,8 +5,8 @@ use Rattle.std.specs.Prelude.{if◌then◌else◌}
 use Rattle.std.proofs.lemmas.Bool.{eqb-true}
 use Rattle.csub_text.specs.Tokens.{Kind, Static, LeftParenthesis, Zero, One, Bar, Ampersand, Bang, Named}
 use Rattle.csub_text.specs.Grammar.{kind_number, is, sign, name, bit, begins_global, global_name, own_name}
-use Rattle.expr_text.proofs.Exports.{sign_class, factor_set, both-ways}
-use Rattle.read_rules.proofs.Exports.{has, Test, test-of}
+use Rattle.net_expressions.proofs.Exports.{sign_class, factor_set, both-ways}
+use Rattle.base_reader.proofs.Exports.{has, Test, test-of}
 
 -- names that a state or a local may have, those that a global may have, and those that neither may
 abbrev pub name_class : List ℕ → ℕ

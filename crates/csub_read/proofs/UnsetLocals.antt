@@ -1,7 +1,7 @@
 -- The locals that are not assigned yet, by a set of locals and a set of assigned names.
 use Rattle.std.proofs.Common.{◌≡◌, ℕ, Bool, true, false, not, cond, ◌&&◌, List, [], ◌∷◌, refl, sym, ap, ◌∙◌, Some, None}
 use Rattle.std.specs.Prelude.{find, filter, if◌then◌else◌}
-use Rattle.est_base.specs.Names.{is_same_name}
+use Rattle.base_types.specs.Names.{is_same_name}
 use Rattle.net_ir.specs.NameLists.{is_among}
 use Rattle.net_ir.proofs.Exports.{find-same, is_among-filter}
 use Rattle.csub_text.specs.Trees.{Expr, Assign}

@@ -1,8 +1,8 @@
 -- To believe: what it means that a text is read, and what a fault says of a text. Want of memory says nothing.
 use Rattle.std.specs.Prelude.{◌≡◌, ℕ, ◌<◌, ◌≤◌, ⊤, List, length, Some}
-use Rattle.est_base.specs.declared.bounds.TheConstants.Limits.{TEXT_BYTES}
+use Rattle.base_types.specs.declared.bounds.TheConstants.Limits.{TEXT_BYTES}
 use Rattle.csub_text.specs.Trees.{Program}
-use Rattle.expr_text.specs.Lexemes.{IsFaultPlace}
+use Rattle.net_expressions.specs.Lexemes.{IsFaultPlace}
 use Rattle.csub_text.specs.Tokens.{tokens, kinds}
 use Rattle.csub_text.specs.Grammar.{WrittenProgram, IsText, program_meant}
 use Rattle.csub_text.specs.Names.{NameFault, Twice, Undeclared, Unset, name_fault}

@@ -1,7 +1,7 @@
 -- Contract: a text that describes a program is read as this program and no other. It is refused for its length, or
 -- for want of memory, alone.
 use Rattle.std.specs.Prelude.{◌≡◌, ℕ, ◌<◌, ⊤, List, length}
-use Rattle.est_base.specs.declared.bounds.TheConstants.Limits.{TEXT_BYTES}
+use Rattle.base_types.specs.declared.bounds.TheConstants.Limits.{TEXT_BYTES}
 use Rattle.net_ir.specs.Netlists.{Netlist}
 use Rattle.csub_text.specs.Trees.{Program}
 use Rattle.csub_text.specs.Texts.{Describes}

@@ -1,7 +1,7 @@
 -- Contract: that each token of a text is as long as it can be.
 use Rattle.std.specs.Prelude.{◌≡◌, ◌⊎◌, ℕ, ◌+◌, ◌≤◌, true, List, [], ◌∷◌, length, take, drop, Some, All}
 use Rattle.std.specs.List.{list_all}
-use Rattle.est_base.specs.Names.{is_name_byte}
+use Rattle.base_types.specs.Names.{is_name_byte}
 use Rattle.csub_text.specs.Tokens.{Kind, Bad, Token, begins_name, word_kind, mark_kind, tokens}
 
 -- the bytes are one token of this kind: a word, or a mark of one byte

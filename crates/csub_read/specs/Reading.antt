@@ -4,15 +4,15 @@ use Rattle.std.specs.Prelude.{ℕ, List, map, Option, Some, None, Result}
 use Rattle.std.specs.Borrow.{Bor}
 use Rattle.csub_text.specs.Tokens.{Kind, Static, Int, Return, Void, React, LeftParenthesis, RightParenthesis, LeftBrace}
 use Rattle.csub_text.specs.Tokens.{RightBrace, Semicolon, Equals}
-use Rattle.csub_text.specs.Trees.{Expr, State, Program}
+use Rattle.csub_text.specs.Trees.{Expr, StateVariable, Program}
 use Rattle.csub_text.specs.Trees as trees
 use Rattle.csub_text.specs.Grammar.{is, sign, name, bit, own_name, global_name, WrittenAssign, WrittenProgram}
-use Rattle.expr_text.specs.Grammar.{Written}
-use Rattle.expr_text.specs.Reading as reading
-pub use Rattle.expr_text.specs.Reading.{Maker, makes_expr, makes_written, FindsBy, GivesKinds}
-use Rattle.read_rules.specs.declared.faults.ReadError.{ReadError}
-use Rattle.read_rules.specs.Readings.{Read, Rule, mapped, both, trail, ahead, on, the, maybe, loop}
-use Rattle.expr_text.specs.declared.kinds.Token.{Token}
+use Rattle.net_expressions.specs.Grammar.{Written}
+use Rattle.net_expressions.specs.Reading as reading
+pub use Rattle.net_expressions.specs.Reading.{Maker, makes_expr, makes_written, FindsBy, GivesKinds}
+use Rattle.base_reader.specs.declared.faults.ReadError.{ReadError}
+use Rattle.base_reader.specs.Readings.{Read, Rule, mapped, both, trail, ahead, on, the, maybe, loop}
+use Rattle.net_expressions.specs.declared.kinds.Token.{Token}
 use Rattle.csub_read.specs.declared.tokens.Kind.{Kind as CodeKind}
 use Rattle.csub_text.specs.declared.trees.Assign.{Assign as CodeAssign}
 use Rattle.csub_text.specs.declared.trees.CProgram.{CProgram}
@@ -31,15 +31,15 @@ expr = reading.expr sign
 -- ---- whole texts
 
 -- a state, behind "static"
-abbrev pub state_behind : Rule Kind State
+abbrev pub state_behind : Rule Kind StateVariable
 state_behind =
     on (is Int) (λ _. mapped (λ found. record { name = found.0; init = found.1 })
     (both (the own_name) (on (is Equals) (λ _. trail (the bit) (the (is Semicolon))))))
 
-abbrev pub state_rule : Rule Kind State
+abbrev pub state_rule : Rule Kind StateVariable
 state_rule = on (is Static) (λ _. state_behind)
 
-abbrev pub state_step : Rule Kind (Option State)
+abbrev pub state_step : Rule Kind (Option StateVariable)
 state_step = maybe (is Static) state_rule
 
 -- a global, behind "int"
@@ -80,13 +80,14 @@ answer_rule m room =
 
 -- the parts of a text
 pub record Parts (A : Type 0) : Type 0 where
-  pub states : List State
+  pub states : List StateVariable
   pub globals : List (List ℕ)
   pub locals : List (List ℕ)
   pub body : List (List ℕ × A)
   pub answer : A
 
-abbrev pub parts_of : {A : Type 0} → List State × (List (List ℕ) × (List (List ℕ) × (List (List ℕ × A) × A))) → Parts A
+abbrev pub parts_of : {A : Type 0} → List StateVariable × (List (List ℕ) × (List (List ℕ) × (List (List ℕ × A) × A)))
+    → Parts A
 parts_of found = record {
   states = found.0;
   globals = found.1.0;
@@ -106,7 +107,8 @@ function_rule body =
     both (loop local_step) body))))
 
 -- a whole text, likewise
-abbrev pub whole_rule : {B : Type 0} → Rule Kind B → Rule Kind (List State × (List (List ℕ) × (List (List ℕ) × B)))
+abbrev pub whole_rule : {B : Type 0} → Rule Kind B
+    → Rule Kind (List StateVariable × (List (List ℕ) × (List (List ℕ) × B)))
 whole_rule body = both (loop state_step) (both (loop global_step) (function_rule body))
 
 abbrev pub text_rule : {A : Type 0} → Maker A → ℕ → Rule Kind (Parts A)

@@ -1,6 +1,6 @@
 -- Inner: what the steps of the reader answer of a text.
 use Rattle.std.specs.Prelude.{ℕ, ⊤, List}
-use Rattle.expr_text.specs.Spelled.{IsSpelled}
+use Rattle.net_expressions.specs.Spelled.{IsSpelled}
 use Rattle.csub_text.specs.Trees.{Program}
 use Rattle.csub_text.specs.Tokens.{kinds}
 use Rattle.csub_text.specs.Grammar.{IsText, program_meant}

@@ -3,9 +3,10 @@ use Rattle.std.specs.Prelude.{◌≡◌, ℕ, ◌+◌, true, false, Option, Some
 use Rattle.csub_text.specs.Tokens.{Kind}
 use Rattle.csub_text.specs.Tokens as spec
 use Rattle.csub_text.specs.Grammar.{sign}
-use Rattle.expr_text.specs.Signs.{Sign, NameSign, BitSign, NotSign, OpenSign, CloseSign, AndSign, OrSign, OtherSign}
-use Rattle.expr_text.specs.Plain.{kind_by}
-use Rattle.expr_text.specs.declared.kinds.Token.{Token}
+use Rattle.net_expressions.specs.Signs.{Sign, NameSign, BitSign, NotSign, OpenSign, CloseSign, AndSign, OrSign}
+use Rattle.net_expressions.specs.Signs.{OtherSign}
+use Rattle.net_expressions.specs.Plain.{kind_by}
+use Rattle.net_expressions.specs.declared.kinds.Token.{Token}
 use Rattle.csub_read.specs.declared.tokens.Kind.{Kind as CodeKind}
 use Rattle.csub_read.specs.declared.tokens.Kind.TheVariants as kinds
 

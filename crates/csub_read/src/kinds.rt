@@ -2,7 +2,7 @@
 
 use crate::lexer::next_front;
 use crate::tokens::{Kind, kind_number, sign_of};
-use expr_text::{Front, Lexical, Sign, TokenKind};
+use net_expressions::{Front, Lexical, Sign, TokenKind};
 
 impl<'a> TokenKind for Kind<'a> {
     ghost use Rattle.csub_text.specs.Tokens.{Kind};

@@ -3,13 +3,13 @@
 ghost use Rattle.std.specs.Prelude.{◌≡◌, ◌+◌, ◌<◌, ◌≤◌, ◌==◌, ◌&&◌, length, drop, take, IfSome};
 ghost use Rattle.std.specs.List.{prefix_len};
 ghost use Rattle.std.specs.Option.{option_map};
-ghost use Rattle.est_base.specs.Names.{is_name_byte};
+ghost use Rattle.base_types.specs.Names.{is_name_byte};
 ghost use Rattle.csub_text.specs.Tokens.{Lexeme, front, word_kind, mark_kind, closed_after, slash_front};
 ghost use Rattle.csub_read.specs.Tokens.{kind_of};
-ghost use Rattle.expr_text.specs.Plain.{front_by, front_at, front_more};
+ghost use Rattle.net_expressions.specs.Plain.{front_by, front_at, front_more};
 
 use crate::tokens::Kind;
-use expr_text::{Front, begins_name, is_space, name_len};
+use net_expressions::{Front, begins_name, is_space, name_len};
 
 // What begins a text that is not empty.
 pub fn next_front<'a>(text: &'a [u8]) -> Front<Kind<'a>>

@@ -2,7 +2,7 @@
 
 ghost use Rattle.std.specs.Prelude.{◌≡◌, ◌++◌, ◌&&◌, ℕ, List, [], map, find, not, None, IfOk, IfErr, OnOk};
 ghost use Rattle.std.specs.HashSet.{contains_by};
-ghost use Rattle.est_base.specs.Names.{is_same_name};
+ghost use Rattle.base_types.specs.Names.{is_same_name};
 ghost use Rattle.net_ir.specs.NameLists.{is_among, first_again};
 ghost use Rattle.csub_text.specs.Names.{Taken, names_in, uses, unset, used_name};
 ghost use Rattle.csub_text.specs.Names.{name_fault};
@@ -10,9 +10,9 @@ ghost use Rattle.csub_text.specs.Views.{expr_of, program_of};
 ghost use Rattle.csub_read.specs.NameTests.{use_of, wrong_use, NamesFault, AgainFault, UseFault, UnsetFault};
 
 use crate::refusal::CError;
+use base_types::{NoMemory, Text};
 use csub_text::{CProgram, begins_input, declared_names};
-use est_base::{NoMemory, Text};
-use expr_text::{Expr, names_in};
+use net_expressions::{Expr, names_in};
 use std::alloc::Global;
 use std::collections::HashSet;
 

@@ -7,16 +7,16 @@ ghost use Rattle.csub_read.specs.Faults.{ReadsAs, ReadsFault};
 ghost use Rattle.csub_read.specs.Reading.{GivesKinds, parts_in, makes_expr, text_rule};
 ghost use Rattle.csub_read.specs.Steps.{SyntaxFault, Spells};
 ghost use Rattle.csub_read.specs.Tokens.{kind_in};
-ghost use Rattle.read_rules.specs.Readings.{whole};
+ghost use Rattle.base_reader.specs.Readings.{whole};
 
 use crate::names::check_names;
 use crate::refusal::CError;
 use crate::text::read_text;
 use crate::tokens::Token;
+use base_reader::{ReadError, ended};
+use base_types::Limits;
 use csub_text::CProgram;
-use est_base::Limits;
-use expr_text::{lex, place_at};
-use read_rules::{ReadError, ended};
+use net_expressions::{lex, place_at};
 use std::alloc::Global;
 
 // How many `!` and `(` may stand one in another.

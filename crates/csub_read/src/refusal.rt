@@ -3,7 +3,7 @@
 ghost use Rattle.std.specs.Prelude.{◌≡◌};
 ghost use Rattle.csub_read.specs.declared.refusal.CError.TheVariants.{NoMemory as lacks_memory};
 
-use est_base::Text;
+use base_types::Text;
 use std::alloc::{AllocError, AllocFailed};
 use thiserror::Error;
 
@@ -46,10 +46,10 @@ impl<T: Drop> From<AllocFailed<T>> for CError {
     }
 }
 
-impl From<est_base::NoMemory> for CError {
+impl From<base_types::NoMemory> for CError {
     ghost from_gives = { λ _ error. error ≡ lacks_memory };
 
-    fn from(_error: est_base::NoMemory) -> CError {
+    fn from(_error: base_types::NoMemory) -> CError {
         CError::NoMemory
     }
 }

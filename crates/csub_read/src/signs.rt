@@ -4,13 +4,13 @@ ghost use Rattle.std.specs.Prelude.{◌≡◌, Some, None, map, MatchOption};
 ghost use Rattle.csub_text.specs.Grammar.{own_name, global_name, begins_global};
 ghost use Rattle.csub_read.specs.Reading.{FindsKinds};
 ghost use Rattle.csub_read.specs.Tokens.{kind_in};
-ghost use Rattle.read_rules.specs.Readings.{picked, the};
+ghost use Rattle.base_reader.specs.Readings.{picked, the};
 
 use crate::tokens::{Kind, Token};
+use base_reader::{ReadError, first};
+use base_types::Text;
 use csub_text::{begins_input, begins_output};
-use est_base::Text;
-use expr_text::{copy_of, refused_here};
-use read_rules::{ReadError, first};
+use net_expressions::{copy_of, refused_here};
 use std::alloc::Global;
 
 // The name of a state or a local.

@@ -7,14 +7,16 @@ ghost use Rattle.csub_read.specs.Reading.{global_behind, global_step};
 ghost use Rattle.csub_read.specs.Reading.{local_behind, local_step, assign_behind, assign_step, answer_rule};
 ghost use Rattle.csub_read.specs.Reading.{text_rule};
 ghost use Rattle.csub_read.specs.Tokens.{kind_in};
-ghost use Rattle.read_rules.specs.Readings.{mapped, loop};
+ghost use Rattle.base_reader.specs.Readings.{mapped, loop};
 
 use crate::signs::{read_global_name, read_own_name};
 use crate::tokens::{Kind, Token};
+use base_reader::ReadError;
+use base_types::Text;
 use csub_text::{Assign, CProgram, Expr, State};
-use est_base::Text;
-use expr_text::{after, copy_of, nothing_read, past, past_name, read_bit, read_expr, refused_here};
-use read_rules::ReadError;
+use net_expressions::{
+    after, copy_of, nothing_read, past, past_name, read_bit, read_expr, refused_here,
+};
 use std::alloc::Global;
 
 // The program of a text, and the tokens behind it.

@@ -2,10 +2,10 @@
 
 ghost use Rattle.std.specs.Prelude.{◌≡◌};
 ghost use Rattle.csub_text.specs.Grammar.{kind_number, sign};
-ghost use Rattle.expr_text.specs.Plain.{sign_of};
+ghost use Rattle.net_expressions.specs.Plain.{sign_of};
 ghost use Rattle.csub_read.specs.Tokens.{kind_of};
 
-use expr_text::Sign;
+use net_expressions::Sign;
 
 /// What a token is. `If` and `Else` are words of guarded texts alone; `Bad` is a token that no text has.
 #[derive(Clone, Copy)]
@@ -33,7 +33,7 @@ pub enum Kind<'a> {
 }
 
 /// A token of a text.
-pub type Token<'a> = expr_text::Token<Kind<'a>>;
+pub type Token<'a> = net_expressions::Token<Kind<'a>>;
 
 // What a kind is in an expression.
 pub fn sign_of<'a>(kind: Kind<'a>) -> Sign<'a>

@@ -2,9 +2,9 @@
 use Rattle.std.proofs.Common.{◌≡◌, true, [], ◌++◌, map, take, None}
 use Rattle.std.specs.Prelude.{codes}
 use Rattle.std.proofs.lemmas.List.Elements.{filter_passes, recursion_from_All}
-use Rattle.est_base.specs.Distinct.{all_differ}
-use Rattle.est_base.specs.Names.{is_same_name}
-use Rattle.step_run.proofs.Exports.{differ-behind, differ-filter, in-parts, once-of}
+use Rattle.base_types.specs.Distinct.{all_differ}
+use Rattle.base_types.specs.Names.{is_same_name}
+use Rattle.run_steps.proofs.Exports.{differ-behind, differ-filter, in-parts, once-of}
 use Rattle.csub_text.specs.Grammar.{begins_input}
 use Rattle.csub_text.specs.NameLists.{first_again}
 use Rattle.csub_text.specs.Names.{declared, inputs_of}

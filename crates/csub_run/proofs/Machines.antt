@@ -9,23 +9,23 @@ use Rattle.std.proofs.lemmas.Bool.{or_parts, not-false}
 use Rattle.std.proofs.lemmas.List.{length-map, length-append, get_or-set_same, get_or-set_other, length-set}
 use Rattle.std.proofs.Math.Seq.{take-set-lt}
 use lib.Pointwise.{bytes_decides}
-use Rattle.est_base.specs.Names.{is_same_name}
-use Rattle.csub_text.specs.Trees.{Expr, State, Assign, Program}
+use Rattle.base_types.specs.Names.{is_same_name}
+use Rattle.csub_text.specs.Trees.{Expr, StateVariable, Assign, Program}
 use Rattle.csub_text.specs.NameLists.{is_among, first_again}
 use Rattle.csub_text.specs.Names.{names_in, declared, inputs_of, outputs_of, Use, Assigned, Taken, uses_in, uses, is_wrong, name_found, undeclared}
 use Rattle.csub_text.specs.Names.{declared_twice, unset, fault_by, NameFault, Twice, Undeclared, Unset}
 use Rattle.csub_text.specs.Machine.{Memory, with_value, value_of, run_body, with_inputs, first_memory, call}
 use Rattle.std.proofs.Common.{All}
 use Rattle.std.proofs.lemmas.List.Elements.{All-from_recursion}
-use Rattle.facts.proofs.Lists.{find-both-none, find-first-none}
+use Rattle.base_facts.proofs.Lists.{find-both-none, find-first-none}
 use Rattle.csub_text.specs.declared.trees.CProgram.{CProgram}
 use Rattle.csub_text.specs.Views.{program_of}
-use Rattle.step_run.specs.Slots.{slot_in, value_at, memory_in}
-use Rattle.step_run.specs.declared.term.Term.{Term}
-use Rattle.step_run.specs.Plans.{Planned, made, term_value}
-use Rattle.step_run.specs.Steps.{settled}
-use Rattle.step_run.proofs.Exports.{value-local, length-settled, taken-front, through}
-use Rattle.csub_run.specs.declared.runner.CRunner.TheInside.{Inside}
+use Rattle.run_steps.specs.Slots.{slot_in, value_at, memory_in}
+use Rattle.run_steps.specs.declared.term.Term.{Term}
+use Rattle.run_steps.specs.Plans.{Planned, made, term_value}
+use Rattle.run_steps.specs.Steps.{settled}
+use Rattle.run_steps.proofs.Exports.{value-local, length-settled, taken-front, through}
+use Rattle.csub_run.specs.declared.runner.ProgramRun.TheInside.{Inside}
 use Rattle.csub_run.specs.Insides.{KeepsPlan}
 use Rattle.csub_run.specs.Plans.{IsBody, IsPlan, assign_step, first_values, put_all}
 use Rattle.csub_run.specs.Runners.{KeepsNames, Reacts, IsFresh}
@@ -224,7 +224,7 @@ false-at {X = X} {Y = Y} [] (y ∷ ys) (suc k) = false-at {X = X} {Y = Y} [] ys 
 false-at (x ∷ xs) ys zero = refl
 false-at (x ∷ xs) ys (suc k) = false-at xs ys k
 
-states-first : (states : List State) (globals locals : List (List ℕ)) →
+states-first : (states : List StateVariable) (globals locals : List (List ℕ)) →
     Agree (memory_in ((map (λ s. s.name) states ++ globals) ++ locals) ((map (λ s. s.init) states ++ map (λ _. false) globals) ++ map (λ _. false) locals))
     (first_memory states)
 states-first [] globals locals name = false-at globals locals (slot_in (globals ++ locals) name)

@@ -2,9 +2,9 @@
 use Rattle.std.proofs.Common.{◌≡◌, ℕ, ◌≤◌, List, [], ◌∷◌, length, map, refl, sym, ap, ◌∙◌, arith}
 use Rattle.std.proofs.lemmas.List.{length-map}
 use Rattle.std.proofs.lemmas.Simd.{map-map}
-use Rattle.est_base.specs.declared.bounds.TheConstants.Limits.{TEXT_BYTES}
-use Rattle.est_base.specs.Items.{Item}
-use Rattle.machines.proofs.Exports.{computed-shows}
+use Rattle.base_types.specs.declared.bounds.TheConstants.Limits.{TEXT_BYTES}
+use Rattle.base_types.specs.Items.{Item}
+use Rattle.base_machines.proofs.Exports.{computed-shows}
 use Rattle.net_ir.specs.Netlists.{Netlist}
 use Rattle.net_ir.specs.Runs.{Shown, net_run}
 use Rattle.csub_read.specs.declared.refusal.CError.{CError}
@@ -21,8 +21,8 @@ use Rattle.csub_run.specs.Runners.{Runner, program_in, IsFresh}
 use Rattle.csub_run.specs.Showing.{runner_shows}
 use Rattle.csub_run.specs.Tracing.{IsProgramOf}
 use Rattle.csub_run.proofs.Showing.{fresh_shows}
-use Rattle.trace_run.specs.Languages.{shown_answer, IsOfNet}
-use Rattle.trace_run.specs.Machines.{Answer}
+use Rattle.run_over_traces.specs.Languages.{shown_answer, IsOfNet}
+use Rattle.run_over_traces.specs.Machines.{ShownAnswer}
 
 -- the reader of such a text has no fault to tell
 pub reader-lacks : (text : List ℕ) (net : Netlist) (error : CError) → Means text net → length text ≤ TEXT_BYTES → ReadsFault text error
@@ -55,7 +55,7 @@ answers-shown [] = refl
 answers-shown (s ∷ shown) = ap (λ l. shown_answer s ∷ l) (answers-shown shown)
 
 -- a program shows the answers of its run
-shows-run : (p : Program) (items : List Item) (answers : List Answer) → program_shows p items answers → answers ≡ map answer_seen (run p items)
+shows-run : (p : Program) (items : List Item) (answers : List ShownAnswer) → program_shows p items answers → answers ≡ map answer_seen (run p items)
 shows-run p items answers shows =
     computed-shows (first_memory p.states) (λ m inputs. call p inputs m) (λ m inputs behind. behind) (call_answer p) (first_memory p.states) items answers shows
     ∙ sym (map-map answer_seen (seen p) (memories p items))

@@ -1,16 +1,16 @@
 -- What a machine shows: a call and a reset put their item in front of what it shows from then on.
 use Rattle.std.proofs.Common.{◌≡◌, ℕ, Bool, List, ◌∷◌, map, refl, sym, ap, ◌∙◌, subst}
-use Rattle.est_base.specs.Items.{Item, Event}
-use Rattle.machines.specs.Machines.{Shows}
-use Rattle.machines.proofs.Exports.{shows-event, shows-reset}
+use Rattle.base_types.specs.Items.{Item, Event}
+use Rattle.base_machines.specs.Machines.{Shows}
+use Rattle.base_machines.proofs.Exports.{shows-event, shows-reset}
 use Rattle.csub_text.specs.Machine.{Memory, value_of, first_memory, call, program_machine}
 use Rattle.csub_text.specs.Names.{outputs_of}
 use Rattle.csub_text.specs.Views.{program_of}
 use Rattle.csub_run.specs.ProgramAnswers.{call_answer, program_shows}
 use Rattle.csub_run.specs.Runners.{Runner, program_in, memory_of, outputs_shown, IsFresh, Reacts, Resets}
 use Rattle.csub_run.specs.Showing.{runner_shows}
-use Rattle.trace_run.specs.Languages.{word_of}
-use Rattle.trace_run.specs.Machines.{Answer, Answered, PutBack}
+use Rattle.run_over_traces.specs.Languages.{word_of}
+use Rattle.run_over_traces.specs.Machines.{ShownAnswer, Answered, PutBack}
 
 -- memories that agree on every name are one
 pub same-memory : (m n : Memory) → ((name : List ℕ) → m name ≡ n name) → m ≡ n
@@ -21,7 +21,7 @@ pub answered : (old new : Runner) (inputs : List Bool) (value : Bool) → Reacts
     → Answered runner_shows old inputs (record { present = outputs_shown new; word = word_of value }) new
 answered old new inputs value reacts = record { in_front = in_front }
   where
-    in_front : (items : List Item) (answers : List Answer) → runner_shows new items answers
+    in_front : (items : List Item) (answers : List ShownAnswer) → runner_shows new items answers
         → Shows (program_machine (program_in old)) (call_answer (program_in old)) (memory_of old) (Event inputs ∷ items)
         (record { present = outputs_shown new; word = word_of value } ∷ answers)
     in_front items answers shows =
@@ -45,7 +45,7 @@ answered old new inputs value reacts = record { in_front = in_front }
         behind refl each
 
 -- a fresh machine shows what its program does
-pub fresh_shows : (r : Runner) → IsFresh r → (items : List Item) (answers : List Answer) → runner_shows r items answers
+pub fresh_shows : (r : Runner) → IsFresh r → (items : List Item) (answers : List ShownAnswer) → runner_shows r items answers
     → program_shows (program_in r) items answers
 fresh_shows r fresh items answers shows =
     let p = program_in r in

@@ -3,11 +3,11 @@ use Rattle.std.specs.Prelude.{◌≡◌, ◌<◌, ◌≤◌, ℕ, Bool, false, L
 use Rattle.csub_text.specs.Machine.{value_of}
 use Rattle.csub_text.specs.Names.{declared, inputs_of, outputs_of}
 use Rattle.csub_text.specs.Trees.{Assign, Program}
-use Rattle.step_run.specs.Slots.{slot_in, memory_in}
-use Rattle.step_run.specs.Plans.{Planned, Makes, Says}
-use Rattle.step_run.specs.Expressions.{expr_step}
-use Rattle.step_run.specs.Steps.{Step}
-use Rattle.step_run.specs.declared.term.Term.{Term}
+use Rattle.run_steps.specs.Slots.{slot_in, memory_in}
+use Rattle.run_steps.specs.Plans.{Planned, Makes, Says}
+use Rattle.run_steps.specs.Expressions.{expr_step}
+use Rattle.run_steps.specs.Steps.{Step}
+use Rattle.run_steps.specs.declared.term.Term.{Term}
 use Rattle.csub_run.specs.declared.plan.CallPlan.{CallPlan}
 
 -- each slot gets a value, one after another

@@ -5,7 +5,7 @@ use Rattle.csub_text.specs.Trees.{Program}
 use Rattle.csub_text.specs.Views.{program_of}
 use Rattle.csub_text.specs.Names.{declared, outputs_of, name_fault}
 use Rattle.csub_text.specs.Machine.{Memory, value_of, first_memory, call}
-use Rattle.step_run.specs.Slots.{memory_in}
+use Rattle.run_steps.specs.Slots.{memory_in}
 
 -- a program that keeps the rules on names, as each one does that some text describes
 abbrev pub KeepsNames : Program → Type 0

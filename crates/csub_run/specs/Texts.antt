@@ -4,11 +4,11 @@ use Rattle.net_ir.specs.Netlists.{Netlist}
 use Rattle.csub_read.specs.Faults.{IsSyntaxFault, IsNameFault}
 use Rattle.csub_text.specs.Names as names
 use Rattle.csub_text.specs.Written.{written, Means}
-use Rattle.csub_run.specs.declared.language.TextFault.{TextFault}
-use Rattle.csub_run.specs.declared.language.TextFault.TheVariants.{Syntax, Twice, Undeclared, Unset}
+use Rattle.csub_run.specs.declared.language.CTextFault.{CTextFault}
+use Rattle.csub_run.specs.declared.language.CTextFault.TheVariants.{Syntax, Twice, Undeclared, Unset}
 
 -- the first fault of a text, in the order of its reader
-abbrev pub IsTextFault : List ℕ → TextFault → Type 0
+abbrev pub IsTextFault : List ℕ → CTextFault → Type 0
 IsTextFault text (Syntax at) = IsSyntaxFault text at
 IsTextFault text (Twice name) = IsNameFault text (names.Twice name)
 IsTextFault text (Undeclared name) = IsNameFault text (names.Undeclared name)

@@ -1,14 +1,14 @@
 // The interface of a program.
 
 ghost use Rattle.std.specs.Prelude.{◌≡◌, [], filter, map, take, IfOk};
-ghost use Rattle.est_base.specs.Names.{is_same_name};
+ghost use Rattle.base_types.specs.Names.{is_same_name};
 ghost use Rattle.csub_text.specs.Grammar.{begins_input, begins_output};
 ghost use Rattle.csub_run.specs.ProgramAnswers.{bare_name};
 
+use base_types::{NoMemory, Text};
 use csub_text::front_two;
-use est_base::{NoMemory, Text};
+use run_over_traces::Interface;
 use std::alloc::Global;
-use trace_run::Interface;
 
 /// The names of the inputs and outputs among the globals of a program, without their signs; no relations. Its only
 /// error is want of memory.

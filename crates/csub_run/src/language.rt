@@ -1,7 +1,7 @@
 // Texts of the C subset as a language of texts that are run over traces.
 
 ghost use Rattle.std.specs.Prelude.{◌≡◌, ◌≢◌, ◌≤◌, length, IfOk};
-ghost use Rattle.est_base.specs.Stops.{FaultIs, IfFault};
+ghost use Rattle.base_types.specs.Stops.{FaultIs, IfFault};
 ghost use Rattle.net_ir.specs.Runs.{netlist_of};
 ghost use Rattle.csub_read.specs.declared.refusal.CError.TheVariants.{TooLong as is_too_long};
 ghost use Rattle.csub_text.specs.Views.{program_of};
@@ -9,17 +9,17 @@ ghost use Rattle.csub_run.specs.Runners.{KeepsNames};
 ghost use Rattle.csub_run.specs.Texts.{IsWritten};
 ghost use Rattle.csub_run.specs.Tracing.{IsProgramOf, IsStopOf};
 
-use crate::trace_runner::CMachine;
+use crate::trace_runner::CRunner;
+use base_types::{Limits, NoMemory, Stop, Text};
 use csub_read::{CError, read_c};
 use csub_text::CProgram;
-use est_base::{Limits, NoMemory, Stop, Text};
 use net_ir::Net;
+use run_over_traces::{Interface, Language};
 use std::alloc::Global;
-use trace_run::{Interface, Language};
 
 /// The first fault of a text of the C subset.
 #[derive(Debug, Drop)]
-pub enum TextFault {
+pub enum CTextFault {
     /// At this byte stands the first token that no text of the C subset passes, or here the text ends too early.
     Syntax(u32),
     /// The first name that is declared a second time.
@@ -40,9 +40,9 @@ impl Language for CTexts {
     ghost use Rattle.csub_run.specs.Runners.{program_in};
     ghost use Rattle.csub_run.specs.Texts.{IsTextFault, IsWritten};
 
-    type Fault = TextFault;
+    type Fault = CTextFault;
 
-    type Machine = CMachine;
+    type Machine = CRunner;
 
     ghost Plain = { Program };
 
@@ -60,9 +60,9 @@ impl Language for CTexts {
 
     ghost plain = { λ m. program_in m };
 
-    fn read(alloc: Global, text: &[u8]) -> Result<CMachine, Stop<TextFault>> {
+    fn read(alloc: Global, text: &[u8]) -> Result<CRunner, Stop<CTextFault>> {
         match read_c(alloc, text) {
-            Ok(program) => match CMachine::new(alloc, program) {
+            Ok(program) => match CRunner::new(alloc, program) {
                 Ok(machine) => Ok(machine),
                 Err(NoMemory) => Err(Stop::NoMemory),
             },
@@ -70,13 +70,13 @@ impl Language for CTexts {
         }
     }
 
-    fn interface(alloc: Global, machine: &CMachine) -> Result<Interface, NoMemory> {
+    fn interface(alloc: Global, machine: &CRunner) -> Result<Interface, NoMemory> {
         machine.interface(alloc)
     }
 
-    fn read_back(alloc: Global, net: &Net, text: &[u8]) -> Result<CMachine, NoMemory> {
+    fn read_back(alloc: Global, net: &Net, text: &[u8]) -> Result<CRunner, NoMemory> {
         let program = written_program(alloc, net, text)?;
-        match CMachine::new(alloc, program) {
+        match CRunner::new(alloc, program) {
             Ok(machine) => Ok(machine),
             Err(NoMemory) => Err(NoMemory),
         }
@@ -84,15 +84,15 @@ impl Language for CTexts {
 }
 
 // Why a text is not read that is not too long.
-fn text_stop(error: CError) -> Stop<TextFault>
+fn text_stop(error: CError) -> Stop<CTextFault>
     requires { error ≢ is_too_long }
     ensures { IsStopOf error result }
 {
     match error {
-        CError::Syntax(at) => Stop::Fault(TextFault::Syntax(at)),
-        CError::Twice(name) => Stop::Fault(TextFault::Twice(name)),
-        CError::Undeclared(name) => Stop::Fault(TextFault::Undeclared(name)),
-        CError::Unset(name) => Stop::Fault(TextFault::Unset(name)),
+        CError::Syntax(at) => Stop::Fault(CTextFault::Syntax(at)),
+        CError::Twice(name) => Stop::Fault(CTextFault::Twice(name)),
+        CError::Undeclared(name) => Stop::Fault(CTextFault::Undeclared(name)),
+        CError::Unset(name) => Stop::Fault(CTextFault::Unset(name)),
         CError::NoMemory => Stop::NoMemory,
         CError::TooLong => unreachable!(),
     }

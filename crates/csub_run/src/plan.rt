@@ -4,16 +4,16 @@ ghost use Rattle.std.specs.Prelude.{◌≡◌, ◌<◌, false, [], ◌++◌, map
 ghost use Rattle.csub_text.specs.Grammar.{begins_input, begins_output};
 ghost use Rattle.csub_text.specs.Names.{declared, inputs_of, outputs_of};
 ghost use Rattle.csub_text.specs.Views.{assign_of, program_of, state_of};
-ghost use Rattle.step_run.specs.Slots.{slot_in};
-ghost use Rattle.step_run.specs.Plans.{Adds, Makes};
+ghost use Rattle.run_steps.specs.Slots.{slot_in};
+ghost use Rattle.run_steps.specs.Plans.{Adds, Makes};
 ghost use Rattle.csub_run.specs.Runners.{KeepsNames};
 ghost use Rattle.csub_run.specs.Plans.{IsBody, IsPlan, assign_step, first_values};
 
+use base_types::{NoMemory, Text};
 use csub_text::{Assign, CProgram, State, begins_input, begins_output, declared_names};
-use est_base::{NoMemory, Text};
 use indexmap::IndexSet;
+use run_steps::{Plan, Term, expr_term, push_expr, slot_of, slot_table};
 use std::alloc::Global;
-use step_run::{Plan, Term, expr_term, push_expr, slot_of, slot_table};
 
 /// The variables have the slots that their places among the declared names are: states, globals, locals.
 #[derive(Drop)]

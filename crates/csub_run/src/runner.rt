@@ -5,18 +5,18 @@ ghost use Rattle.csub_text.specs.Names.{declared, inputs_of};
 ghost use Rattle.csub_text.specs.Views.{program_of};
 ghost use Rattle.csub_run.specs.Runners.{KeepsNames, program_in, Reacts, Resets, IsFresh, outputs_shown};
 ghost use Rattle.csub_run.specs.Plans.{IsPlan, first_values, put_all};
-ghost use Rattle.step_run.specs.Slots.{value_at};
+ghost use Rattle.run_steps.specs.Slots.{value_at};
 
 use crate::plan::{CallPlan, plan_of};
+use base_types::NoMemory;
 use csub_text::CProgram;
-use est_base::NoMemory;
+use run_steps::take_values;
 use std::alloc::Global;
 use std::marker::Model;
-use step_run::take_values;
 
 /// The machine of a program. A contract sees it as the program and the values of its variables.
 #[derive(Drop)]
-pub struct CRunner {
+pub struct ProgramRun {
     program: CProgram,
     plan: CallPlan,
     // The value of each slot.
@@ -24,12 +24,12 @@ pub struct CRunner {
     outputs: Vec<bool>,
 }
 
-impl Model for CRunner {
+impl Model for ProgramRun {
     ghost use Rattle.csub_run.specs.Runners.{Runner};
 
     ghost Value = { Runner };
 
-    ghost use Rattle.expr_text.specs.contracts.trees.Expr as e;
+    ghost use Rattle.net_expressions.specs.contracts.trees.Expr as e;
     ghost use Rattle.std.specs.Coded.{codes};
 
     ghost coded = { Prim.hlevel (codes, e.the_row.coded) };
@@ -41,10 +41,10 @@ impl Model for CRunner {
     ghost invariant = { KeepsPlan };
 }
 
-impl CRunner {
+impl ProgramRun {
     /// The machine of a program before its first call. The program keeps the rules on names, as each one does
     /// that some text describes. Want of memory is the only error.
-    pub fn new(alloc: Global, program: CProgram) -> Result<CRunner, NoMemory>
+    pub fn new(alloc: Global, program: CProgram) -> Result<ProgramRun, NoMemory>
         requires { KeepsNames (program_of program) }
         ensures program { IfOk result (λ r. r.code ≡ program) }
         ensures fresh { IfOk result IsFresh }
@@ -54,7 +54,7 @@ impl CRunner {
             values,
             outputs,
         } = runner_parts(alloc, &program)?;
-        Ok(CRunner {
+        Ok(ProgramRun {
             program,
             plan,
             values,

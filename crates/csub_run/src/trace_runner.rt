@@ -1,35 +1,35 @@
 // The machine of a program of the C subset, as one that items drive.
 
 ghost use Rattle.std.specs.Prelude.{◌≡◌, [], length, IfOk, IsTrue};
-ghost use Rattle.est_base.specs.Distinct.{all_differ};
-ghost use Rattle.est_base.specs.Names.{is_same_name};
+ghost use Rattle.base_types.specs.Distinct.{all_differ};
+ghost use Rattle.base_types.specs.Names.{is_same_name};
 ghost use Rattle.csub_text.specs.Names.{outputs_of};
 ghost use Rattle.csub_text.specs.Views.{program_of};
 ghost use Rattle.csub_run.specs.ProgramAnswers.{bare_inputs, bare_outputs};
 ghost use Rattle.csub_run.specs.Runners.{KeepsNames, IsFresh, program_in};
 
 use crate::interface::globals_interface;
-use crate::runner::CRunner;
+use crate::runner::ProgramRun;
+use base_types::NoMemory;
 use csub_text::CProgram;
-use est_base::NoMemory;
+use run_over_traces::{Interface, Runner, word_of};
+use run_trace_io::Word;
 use std::alloc::Global;
 use std::marker::Model;
-use trace_io::Word;
-use trace_run::{Interface, Runner, word_of};
 
 /// The machine of a program, as one that items drive: an event is one call, whose returned value gives the word. A
 /// contract sees it as the program and the values of its variables.
 #[derive(Drop)]
-pub struct CMachine {
-    calls: CRunner,
+pub struct CRunner {
+    calls: ProgramRun,
 }
 
-impl Model for CMachine {
+impl Model for CRunner {
     ghost use Rattle.csub_run.specs.Runners.{Runner};
 
     ghost Value = { Runner };
 
-    ghost use Rattle.expr_text.specs.contracts.trees.Expr as e;
+    ghost use Rattle.net_expressions.specs.contracts.trees.Expr as e;
     ghost use Rattle.std.specs.Coded.{codes};
 
     ghost coded = { Prim.hlevel (codes, e.the_row.coded) };
@@ -41,16 +41,16 @@ impl Model for CMachine {
     ghost invariant = { KeepsRules };
 }
 
-impl CMachine {
+impl CRunner {
     /// The machine of a program before its first call. The program keeps the rules on names, as each one does that
     /// some text describes. Want of memory is the only error.
-    pub fn new(alloc: Global, program: CProgram) -> Result<CMachine, NoMemory>
+    pub fn new(alloc: Global, program: CProgram) -> Result<CRunner, NoMemory>
         requires { KeepsNames (program_of program) }
         ensures program { IfOk result (λ m. m.code ≡ program) }
         ensures fresh { IfOk result IsFresh }
     {
-        match CRunner::new(alloc, program) {
-            Ok(calls) => Ok(CMachine { calls }),
+        match ProgramRun::new(alloc, program) {
+            Ok(calls) => Ok(CRunner { calls }),
             Err(NoMemory) => Err(NoMemory),
         }
     }
@@ -70,7 +70,7 @@ impl CMachine {
     }
 }
 
-impl Runner for CMachine {
+impl Runner for CRunner {
     ghost use Rattle.std.specs.Prelude.{⊤, length};
     ghost use Rattle.csub_text.specs.Names.{inputs_of, outputs_of};
     ghost use Rattle.csub_run.specs.Runners.{outputs_shown, program_in};

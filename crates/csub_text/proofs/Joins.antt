@@ -7,8 +7,8 @@ use Rattle.net_ir.specs.declared.netlist.Gate.{Gate}
 use Rattle.net_ir.specs.declared.netlist.Latch.{Latch}
 use Rattle.net_ir.specs.Netlists.{Netlist}
 use Rattle.net_ir.specs.Numbered.{numbered}
-use Rattle.net_text.specs.Parts.{joined}
-use Rattle.net_text.proofs.Exports.{joined-numbered, joined-mapped, joined-one, joined-last}
+use Rattle.net_writer.specs.Parts.{joined}
+use Rattle.net_writer.proofs.Exports.{joined-numbered, joined-mapped, joined-one, joined-last}
 use Rattle.csub_text.specs.Trees.{Name}
 use Rattle.csub_text.specs.Written.{input_name, gate_name, next_name, answer_name, input_variable, output_variable, net_state, input_assign}
 use Rattle.csub_text.specs.Written.{gate_assign, next_assign, output_assign, answer_assign, state_assign, gate_names, state_line, declaration, assign_line}

@@ -2,15 +2,15 @@
 use Rattle.std.proofs.Common.{◌≡◌, ℕ, ◌+◌, ◌<◌, ◌^◌, Bool, true, false, List, [], ◌∷◌, ◌++◌, refl, arith}
 use Rattle.std.specs.Prelude.{codes, decimal}
 use Rattle.std.proofs.lemmas.Bool.{ne_eqb}
-use Rattle.est_base.specs.Names.{is_name}
+use Rattle.base_types.specs.Names.{is_name}
 use Rattle.csub_text.specs.Tokens.{Kind, Static, Int, Return, Void, React, LeftParenthesis, RightParenthesis, LeftBrace}
 use Rattle.csub_text.specs.Tokens.{RightBrace, Semicolon, Equals, Zero, One, Bar, Ampersand, Bang, Named, Bad}
 use Rattle.csub_text.specs.Tokens.{front, word_kind}
 use Rattle.csub_text.specs.Grammar.{sign}
-use Rattle.expr_text.specs.Signs.{BitSign}
+use Rattle.net_expressions.specs.Signs.{BitSign}
 use Rattle.csub_text.specs.Written.{bit_text}
-use Rattle.expr_text.proofs.Saying as saying
-use Rattle.expr_text.proofs.Exports.{FrontsNames, begins_high, digits-decimal, bytes-decimal, bytes-name, no-word, Writes}
+use Rattle.net_expressions.proofs.Saying as saying
+use Rattle.net_expressions.proofs.Exports.{FrontsNames, begins_high, digits-decimal, bytes-decimal, bytes-name, no-word, Writes}
 
 -- a piece of a text has these tokens, whatever stands behind it
 abbrev pub Says : List ℕ → List Kind → Type 0

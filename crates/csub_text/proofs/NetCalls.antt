@@ -6,9 +6,9 @@ use Rattle.std.specs.List.{list_all}
 use Rattle.std.proofs.lemmas.Bool.{and_parts, or_parts, not-true, cases_lt}
 use Rattle.std.proofs.lemmas.List.{length-map, get_or-map, length-append, get_or_append_left, get_or-append-add, get_or_push}
 use Rattle.std.proofs.lemmas.List.{length_push}
-use Rattle.est_base.specs.Names.{is_same_name}
-use Rattle.est_base.specs.Distinct.{all_differ}
-use Rattle.est_base.proofs.Exports.{same_name-self}
+use Rattle.base_types.specs.Names.{is_same_name}
+use Rattle.base_types.specs.Distinct.{all_differ}
+use Rattle.base_types.proofs.Exports.{same_name-self}
 use Rattle.net_ir.specs.declared.netlist.Gate.{Gate}
 use Rattle.net_ir.specs.declared.netlist.NetOut.{NetOut}
 use Rattle.net_ir.specs.Gates.{operand_end, op_value, value_in, gate_values}
@@ -21,8 +21,8 @@ use Rattle.csub_text.specs.Machine.{Memory, with_value, value_of, run_body, with
 use Rattle.csub_text.specs.Written.{input_name, state_name, gate_name, next_name, answer_name, net_name, input_variable, output_variable}
 use Rattle.csub_text.specs.Written.{gate_names}
 use Rattle.csub_text.specs.Written.{op_expr, input_assign, gate_assign, next_assign, output_assign, answer_assign, state_assign, net_body}
-use Rattle.expr_text.proofs.Exports.{op-expr-value, mark, state_names, marks-states, marks-gates, differ-states, differ-gates, any_gate, any_latch}
-use Rattle.expr_text.proofs.Exports.{any_output, gate-low}
+use Rattle.net_expressions.proofs.Exports.{op-expr-value, mark, state_names, marks-states, marks-gates, differ-states, differ-gates, any_gate, any_latch}
+use Rattle.net_expressions.proofs.Exports.{any_output, gate-low}
 use Rattle.csub_text.proofs.NetNames.{input_names}
 use Rattle.csub_text.proofs.NetNames.{next_names, given_variables, shown_variables, marks-inputs, marks-nexts, marks-given}
 use Rattle.csub_text.proofs.NetNames.{marks-shown}

@@ -7,12 +7,12 @@ use Rattle.std.proofs.lemmas.Bool.{and_parts, not-true, or_parts}
 use Rattle.std.specs.Cmp.Lexicographic.{nat_list_eq_equiv}
 use Rattle.std.proofs.lemmas.List.{length-map, get_or-map, ext_get_or, get_or-drop, length-drop, length-append}
 use Rattle.std.proofs.lemmas.List.Elements.{All-append, All-map}
-use Rattle.facts.proofs.Lists.{map-composed}
-use Rattle.est_base.specs.declared.indices.WireId.{WireId}
-use Rattle.est_base.specs.Names.{is_name, is_same_name}
-use Rattle.est_base.specs.Distinct.{all_differ}
-use Rattle.est_base.specs.Items.{Item, Event, Reset, EachEvent}
-use Rattle.est_base.proofs.Exports.{same_name-self}
+use Rattle.base_facts.proofs.Lists.{map-composed}
+use Rattle.base_types.specs.declared.indices.WireId.{WireId}
+use Rattle.base_types.specs.Names.{is_name, is_same_name}
+use Rattle.base_types.specs.Distinct.{all_differ}
+use Rattle.base_types.specs.Items.{Item, Event, Reset, EachEvent}
+use Rattle.base_types.proofs.Exports.{same_name-self}
 use Rattle.net_ir.specs.declared.netlist.Gate.{Gate}
 use Rattle.net_ir.specs.declared.netlist.Latch.{Latch}
 use Rattle.net_ir.specs.declared.netlist.NetOut.{NetOut}
@@ -30,7 +30,7 @@ use Rattle.csub_text.specs.Machine.{Memory, with_inputs, first_memory, run_body,
 use Rattle.csub_text.specs.Written.{input_name, state_name, gate_name, next_name, answer_name, net_name, input_variable, output_variable, net_state}
 use Rattle.csub_text.specs.Written.{gate_names, net_globals, net_locals}
 use Rattle.csub_text.specs.Written.{net_body, net_program, shown_by_call, written, Means}
-use Rattle.expr_text.proofs.Exports.{says-whole, plain-op, mark, differ-states, any_gate, any_latch, any_output, gate-low, long-name}
+use Rattle.net_expressions.proofs.Exports.{says-whole, plain-op, mark, differ-states, any_gate, any_latch, any_output, gate-low, long-name}
 use Rattle.csub_text.proofs.Lexing.{IsVariable, variable-input, variable-state, variable-gate, variable-wire, variable-next, variable-answer}
 use Rattle.csub_text.proofs.Lexing.{variable-given, variable-shown}
 use Rattle.csub_text.proofs.Spelling.{IsPlain, IsFramed, IsSpelled, program_kinds, says-program, spells-program, written_program, meant-written}

@@ -5,16 +5,16 @@ use Rattle.std.specs.List.{list_all}
 use Rattle.std.proofs.lemmas.Bool.{and_from}
 use Rattle.std.proofs.lemmas.List.{map-id}
 use Rattle.net_ir.specs.declared.netlist.NetOut.{NetOut}
-use Rattle.est_base.specs.Distinct.{all_differ}
-use Rattle.est_base.specs.Names.{is_same_name}
+use Rattle.base_types.specs.Distinct.{all_differ}
+use Rattle.base_types.specs.Names.{is_same_name}
 use Rattle.net_ir.specs.Netlists.{Netlist}
 use Rattle.csub_text.specs.Written.{input_name, next_name, answer_name, input_variable, output_variable}
 use Rattle.csub_text.specs.Written.{net_globals, net_locals, gate_names}
 use Rattle.net_ir.specs.Numbered.{numbered}
 use Rattle.net_ir.proofs.Exports.{apart-by, differ-decimal, joined-differ, numbered-differ}
 use Rattle.net_ir.specs.Writing.{IsWritable}
-use Rattle.expr_text.proofs.Exports.{mark, state_names, all-numbered, all-mapped, marks-states, marks-gates, differ-states, differ-gates, marked-differ}
-use Rattle.expr_text.proofs.Exports.{in-front, all-both}
+use Rattle.net_expressions.proofs.Exports.{mark, state_names, all-numbered, all-mapped, marks-states, marks-gates, differ-states, differ-gates, marked-differ}
+use Rattle.net_expressions.proofs.Exports.{in-front, all-both}
 
 -- ---- the first byte tells the kinds of names apart
 

@@ -8,8 +8,8 @@ use Rattle.std.proofs.lemmas.List.Folds.{list_any-append, list_any_at}
 use Rattle.std.proofs.lemmas.Bool.{or_from, not_from_true}
 use Rattle.std.proofs.lemmas.List.{length-map, get_or-map}
 use Rattle.std.proofs.lemmas.List.Elements.{All-append}
-use Rattle.est_base.specs.Names.{is_same_name}
-use Rattle.est_base.proofs.Exports.{same_name-self}
+use Rattle.base_types.specs.Names.{is_same_name}
+use Rattle.base_types.proofs.Exports.{same_name-self}
 use Rattle.net_ir.specs.declared.netlist.Gate.{Gate}
 use Rattle.net_ir.specs.declared.netlist.Latch.{Latch}
 use Rattle.net_ir.specs.declared.netlist.NetOut.{NetOut}
@@ -22,15 +22,15 @@ use Rattle.csub_text.specs.Names.{name_found, undeclared, unset_from}
 use Rattle.csub_text.specs.Written.{input_name, state_name, gate_name, next_name, answer_name, net_name, input_variable, output_variable}
 use Rattle.csub_text.specs.Written.{net_state, net_globals, net_locals, gate_names, input_assign, gate_assign, next_assign, output_assign}
 use Rattle.csub_text.specs.Written.{answer_assign, state_assign, net_body, net_program}
-use Rattle.expr_text.proofs.Exports.{op-names, mark, state_names, among-numbered, among-left, among-right, any_gate, any_latch, find-none, any_output}
-use Rattle.expr_text.proofs.Exports.{gate-low}
+use Rattle.net_expressions.proofs.Exports.{op-names, mark, state_names, among-numbered, among-left, among-right, any_gate, any_latch, find-none, any_output}
+use Rattle.net_expressions.proofs.Exports.{gate-low}
 use Rattle.csub_text.proofs.NetNames.{input_names, next_names, given_variables}
 use Rattle.csub_text.proofs.NetNames.{shown_variables}
 use Rattle.csub_text.proofs.NetNames.{differ-declared}
 use Rattle.net_ir.proofs.Exports.{length-numbered, get_or-numbered, map-numbered, is_among-filter, once-differ, net_cases}
 use Rattle.net_ir.specs.Numbered.{numbered}
 use Rattle.net_ir.specs.Writing.{IsWritable}
-use Rattle.expr_text.proofs.Naming as naming
+use Rattle.net_expressions.proofs.Naming as naming
 
 pub declared-net : (net : Netlist) → declared (net_program net) ≡ state_names net ++ (net_globals net ++ net_locals net)
 declared-net net =

@@ -4,12 +4,12 @@ use Rattle.std.proofs.Common.{refl, sym, ap, ◌∙◌}
 use Rattle.std.proofs.Common.{subst, arith, None, inl, inr}
 use Rattle.std.specs.List.{AllByRecursion}
 use Rattle.std.proofs.lemmas.Bool.{or_left, or_right, cases_lt}
-use Rattle.est_base.specs.Names.{is_same_name}
+use Rattle.base_types.specs.Names.{is_same_name}
 use Rattle.net_ir.specs.declared.netlist.Gate.{Gate}
 use Rattle.net_ir.specs.Gates.{operand_end}
 use Rattle.net_ir.specs.Netlists.{Netlist, first_gate, net_count}
 use Rattle.std.proofs.lemmas.List.{length-map, get_or-map, append-nil}
-use Rattle.est_base.proofs.Exports.{same_name-self}
+use Rattle.base_types.proofs.Exports.{same_name-self}
 use Rattle.csub_text.specs.Trees.{Expr, Name, Assign}
 use Rattle.net_ir.specs.NameLists.{is_among}
 use Rattle.csub_text.specs.Names.{names_in, unset, name_fault}
@@ -20,7 +20,7 @@ use Rattle.net_ir.proofs.Exports.{length-numbered, get_or-numbered, differ-by}
 use Rattle.net_ir.specs.Numbered.{numbered}
 use Rattle.net_ir.specs.Writing.{IsWritable}
 use Rattle.csub_text.proofs.NetRules.{Known, Covered, unset-covered, net_name-input, net_name-state, net_name-gate}
-use Rattle.expr_text.proofs.Exports.{op-names, mark, any_gate, any_latch, any_output, gate-low}
+use Rattle.net_expressions.proofs.Exports.{op-names, mark, any_gate, any_latch, any_output, gate-low}
 use Rattle.csub_text.proofs.NetRules.{numbered-assigns, declared_once, undeclared_none}
 
 -- ---- what is assigned

@@ -3,11 +3,11 @@ use Rattle.std.proofs.Common.{◌≡◌, ℕ, ◌≤◌, suc, Bool, false, List,
 use Rattle.std.proofs.Common.{subst, arith, append_assoc, Some}
 use Rattle.std.specs.Prelude.{flat_map, codes}
 use Rattle.std.proofs.lemmas.List.{map-id}
-use Rattle.est_base.specs.Names.{is_name_byte}
-use Rattle.read_rules.specs.Languages.{One as Single, Then, Led, Loop, Many}
+use Rattle.base_types.specs.Names.{is_name_byte}
+use Rattle.base_reader.specs.Languages.{One as Single, Then, Led, Loop, Many}
 use Rattle.csub_text.specs.Tokens.{Kind, Static, Int, Return, Void, React, LeftParenthesis, RightParenthesis, LeftBrace}
 use Rattle.csub_text.specs.Tokens.{RightBrace, Semicolon, Equals, Named, Bad, front, word_kind}
-use Rattle.csub_text.specs.Trees.{Expr, State, Assign, Program}
+use Rattle.csub_text.specs.Trees.{Expr, StateVariable, Assign, Program}
 use Rattle.csub_text.specs.Grammar as grammar
 use Rattle.csub_text.specs.Grammar.{sign, SpellsExpression, WrittenAssign, WrittenProgram}
 use Rattle.csub_text.specs.Grammar.{SpellsState, SpellsGlobal, SpellsLocal, SpellsAssign}
@@ -17,10 +17,10 @@ use Rattle.csub_text.specs.Written.{expr_text, bit_text, line_end, state_line, d
 use Rattle.csub_text.specs.Written.{program_text}
 use Rattle.csub_text.proofs.Lexing.{Says, IsVariable, says-int, says-static, says-end, says-equals, says-head, says-return}
 use Rattle.csub_text.proofs.Lexing.{says-last, bit_kind, says-bit, writes}
-use Rattle.expr_text.specs.Grammar.{meant}
-use Rattle.expr_text.proofs.Saying as saying
-use Rattle.expr_text.proofs.Exports.{says-then, says-lines, plain_written, meant-plain, nesting-plain, spells-many}
-use Rattle.expr_text.proofs.Spelling as spelling
+use Rattle.net_expressions.specs.Grammar.{meant}
+use Rattle.net_expressions.proofs.Saying as saying
+use Rattle.net_expressions.proofs.Exports.{says-then, says-lines, plain_written, meant-plain, nesting-plain, spells-many}
+use Rattle.net_expressions.proofs.Spelling as spelling
 
 -- a name, a constant, or one operator on names
 abbrev pub IsPlain : Expr → Type 0
@@ -40,7 +40,7 @@ says-expr : (e : Expr) (d : ℕ) (ds : List ℕ) (ks : List Kind) → IsPlain e 
     → Says (expr_text e ++ d ∷ ds) (expr_kinds e ++ ks)
 says-expr = spelling.says-expr sign Bad front word_kind (codes "!") bit_text writes
 
-abbrev pub state_kinds : State → List Kind
+abbrev pub state_kinds : StateVariable → List Kind
 state_kinds s = Static ∷ Int ∷ Named s.name ∷ Equals ∷ bit_kind s.init ∷ Semicolon ∷ []
 
 abbrev pub declaration_kinds : List ℕ → List Kind
@@ -60,7 +60,7 @@ program_kinds p =
     flat_map state_kinds p.states ++ (flat_map declaration_kinds p.globals ++ (head_kinds
     ++ (flat_map declaration_kinds p.locals ++ (flat_map assign_kinds p.body ++ last_kinds p.answer))))
 
-says-state : (s : State) → IsVariable s.name → Says (state_line s) (state_kinds s)
+says-state : (s : StateVariable) → IsVariable s.name → Says (state_line s) (state_kinds s)
 says-state s is =
     let last = says-then (bit_text s.init) line_end (bit_kind s.init ∷ []) (Semicolon ∷ []) (says-bit s.init) says-end in
     let equals = says-then (codes " = ") (bit_text s.init ++ line_end) (Equals ∷ []) (bit_kind s.init ∷ Semicolon ∷ []) says-equals last in
@@ -80,7 +80,7 @@ says-assign a is plain =
     (says-then (codes " = ") (expr_text a.value ++ line_end) (Equals ∷ []) (expr_kinds a.value ++ Semicolon ∷ []) says-equals value)
 
 -- what holds of the declarations and the answer of a program whose text is read back
-pub record IsFramed (kept : List State) (shared own : List (List ℕ)) (returned : Expr) : Type 0 where
+pub record IsFramed (kept : List StateVariable) (shared own : List (List ℕ)) (returned : Expr) : Type 0 where
   pub states : All (λ s. IsVariable s.name) kept
   pub globals : All IsVariable shared
   pub locals : All IsVariable own
@@ -96,16 +96,16 @@ pub record IsSpelled (p : Program) : Type 0 where
   pub values : All (λ a. IsPlain a.value) p.body
 
 -- the text of a program whose body has this one
-abbrev pub framed_text : List State → List (List ℕ) → List (List ℕ) → Expr → List ℕ → List ℕ
+abbrev pub framed_text : List StateVariable → List (List ℕ) → List (List ℕ) → Expr → List ℕ → List ℕ
 framed_text states globals locals answer body =
     flat_map state_line states ++ (flat_map declaration globals ++ (head_line ++ (flat_map declaration locals ++ (body ++ last_lines answer))))
 
-abbrev pub framed_kinds : List State → List (List ℕ) → List (List ℕ) → Expr → List Kind → List Kind
+abbrev pub framed_kinds : List StateVariable → List (List ℕ) → List (List ℕ) → Expr → List Kind → List Kind
 framed_kinds states globals locals answer body =
     flat_map state_kinds states ++ (flat_map declaration_kinds globals ++ (head_kinds
     ++ (flat_map declaration_kinds locals ++ (body ++ last_kinds answer))))
 
-pub says-framed : (states : List State) (globals locals : List (List ℕ)) (answer : Expr) → IsFramed states globals locals answer
+pub says-framed : (states : List StateVariable) (globals locals : List (List ℕ)) (answer : Expr) → IsFramed states globals locals answer
     → (body : List ℕ) (ks : List Kind) → Says body ks → Says (framed_text states globals locals answer body) (framed_kinds states globals locals answer ks)
 says-framed states globals locals answer is body ks d =
     let a = says-lines state_line state_kinds states (λ k d h. says-state (get_or states k d) (is.states k d h)) in
@@ -174,7 +174,7 @@ own-passes n own = rw own refl
 semicolon : Single (grammar.is Semicolon) tt (Semicolon ∷ [])
 semicolon = record { token = Semicolon; only = refl; passes = refl }
 
-spells-state : (s : State) → begins_global s.name ≡ false → SpellsState s (state_kinds s)
+spells-state : (s : StateVariable) → begins_global s.name ≡ false → SpellsState s (state_kinds s)
 spells-state s own = record {
   token = Static;
   value = tt;
@@ -271,13 +271,13 @@ spells-globals (n ∷ names) all = record {
 }
 
 -- the declarations around a body that is such, and the answer
-abbrev pub SpellsFramed : List State → List (List ℕ) → List (List ℕ) → (List Kind → Type 0) → Expr → List Kind → Type 0
+abbrev pub SpellsFramed : List StateVariable → List (List ℕ) → List (List ℕ) → (List Kind → Type 0) → Expr → List Kind → Type 0
 SpellsFramed states globals locals Body answer =
     Then (Many SpellsState states) (Then (Loop SpellsGlobal globals)
     (Led (grammar.is LeftParenthesis) (λ _. Led (grammar.is Void) (λ _. Led (grammar.is RightParenthesis) (λ _. Led (grammar.is LeftBrace) (λ _.
     Then (Many SpellsLocal locals) (Then Body (SpellsAnswer (plain_written answer)))))))))
 
-pub spells-framed : (states : List State) (globals locals : List (List ℕ)) (answer : Expr) → IsFramed states globals locals answer
+pub spells-framed : (states : List StateVariable) (globals locals : List (List ℕ)) (answer : Expr) → IsFramed states globals locals answer
     → (Body : List Kind → Type 0) (ks : List Kind) → Body ks
     → SpellsFramed states globals locals Body answer (framed_kinds states globals locals answer ks)
 spells-framed states globals locals answer is Body ks body =

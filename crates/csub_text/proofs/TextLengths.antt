@@ -6,8 +6,8 @@ use Rattle.std.specs.List.{sum_by}
 use Rattle.std.proofs.lemmas.Grind.{flat_map-append}
 use Rattle.std.proofs.lemmas.List.Concat.{length-flat_map}
 use Rattle.std.proofs.lemmas.List.Sums.{sum_by-cons, sum_by-le}
-use Rattle.facts.proofs.Lists.{short-decimal}
-use Rattle.est_base.specs.declared.indices.WireId.{WireId}
+use Rattle.base_facts.proofs.Lists.{short-decimal}
+use Rattle.base_types.specs.declared.indices.WireId.{WireId}
 use Rattle.net_ir.specs.declared.netlist.Op.{Op}
 use Rattle.net_ir.specs.declared.netlist.Op.TheVariants as ops
 use Rattle.net_ir.specs.declared.netlist.Gate.{Gate}

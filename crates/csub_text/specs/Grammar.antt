@@ -9,15 +9,16 @@
 -- The name of a state or a local does not begin with I_ or O_.
 use Rattle.std.specs.Prelude.{ℕ, max, Bool, true, false, ◌||◌, ◌&&◌, List, [], ◌∷◌, length, nat_lt}
 use Rattle.std.specs.Prelude.{take, codes, Option, Some, None, if◌then◌else◌, map}
-use Rattle.est_base.specs.Names.{is_same_name}
-use Rattle.read_rules.specs.Languages.{One as Single, Then, Led, Loop, Many, Within}
+use Rattle.base_types.specs.Names.{is_same_name}
+use Rattle.base_reader.specs.Languages.{One as Single, Then, Led, Loop, Many, Within}
 use Rattle.csub_text.specs.Tokens.{Kind, Static, Int, Return, Void, React, If, Else, LeftParenthesis}
 use Rattle.csub_text.specs.Tokens.{RightParenthesis, LeftBrace, RightBrace, Semicolon, Equals, Zero, One, Bar}
 use Rattle.csub_text.specs.Tokens.{Ampersand, Bang, Named, Bad}
-use Rattle.csub_text.specs.Trees.{State, Assign, Program}
-use Rattle.expr_text.specs.Signs.{Sign, NameSign, BitSign, NotSign, OpenSign, CloseSign, AndSign, OrSign, OtherSign}
-use Rattle.expr_text.specs.Signs.{numbered_as, named, constant}
-use Rattle.expr_text.specs.Grammar.{Written, meant, written_nesting, Disjunction, SpellsExpr}
+use Rattle.csub_text.specs.Trees.{StateVariable, Assign, Program}
+use Rattle.net_expressions.specs.Signs.{Sign, NameSign, BitSign, NotSign, OpenSign, CloseSign, AndSign, OrSign}
+use Rattle.net_expressions.specs.Signs.{OtherSign}
+use Rattle.net_expressions.specs.Signs.{numbered_as, named, constant}
+use Rattle.net_expressions.specs.Grammar.{Written, meant, written_nesting, Disjunction, SpellsExpr}
 
 -- ---- tests of one token
 
@@ -99,14 +100,14 @@ pub record WrittenAssign : Type 0 where
   pub value : Written
 
 pub record WrittenProgram : Type 0 where
-  pub states : List State
+  pub states : List StateVariable
   pub globals : List (List ℕ)
   pub locals : List (List ℕ)
   pub body : List WrittenAssign
   pub answer : Written
 
 -- "static" "int" NAME "=" ( "0" | "1" ) ";"
-abbrev pub SpellsState : State → List Kind → Type 0
+abbrev pub SpellsState : StateVariable → List Kind → Type 0
 SpellsState s =
     Led (is Static) (λ _. Led (is Int) (λ _. Then (Single own_name s.name)
     (Led (is Equals) (λ _. Then (Single bit s.init) (Single (is Semicolon) tt)))))

@@ -1,10 +1,10 @@
 -- To believe: the machine of a program, over items. A memory has a value for each variable.
 use Rattle.std.specs.Prelude.{ℕ, Bool, false, List, [], ◌∷◌, map, if◌then◌else◌}
-use Rattle.est_base.specs.Items.{Item}
-use Rattle.est_base.specs.Names.{is_same_name}
-use Rattle.machines.specs.Machines.{Machine, computed, run_from}
-use Rattle.csub_text.specs.Trees.{State, Assign, Program}
-pub use Rattle.expr_text.specs.Values.{value_of, all_of, any_of}
+use Rattle.base_types.specs.Items.{Item}
+use Rattle.base_types.specs.Names.{is_same_name}
+use Rattle.base_machines.specs.Machines.{Machine, computed, run_from}
+use Rattle.csub_text.specs.Trees.{StateVariable, Assign, Program}
+pub use Rattle.net_expressions.specs.Values.{value_of, all_of, any_of}
 use Rattle.csub_text.specs.Names.{inputs_of, outputs_of}
 
 abbrev pub Memory : Type 0
@@ -26,7 +26,7 @@ with_inputs others more memory = memory
 
 -- The memory before the first call and behind a reset: a state has its value as written, and an output 0. No input and
 -- no local is read before it gets a value.
-abbrev pub first_memory : List State → Memory
+abbrev pub first_memory : List StateVariable → Memory
 first_memory [] = λ name. false
 first_memory (s ∷ states) = with_value s.name s.init (first_memory states)
 
@@ -48,13 +48,13 @@ abbrev pub memories : Program → List Item → List Memory
 memories p items = memories_from p (first_memory p.states) items
 
 -- what is seen of a call: the outputs in declared order, and the value returned
-pub record Seen : Type 0 where
+pub record SeenCall : Type 0 where
   pub outputs : List Bool
   pub answer : Bool
 
-abbrev pub seen : Program → Memory → Seen
+abbrev pub seen : Program → Memory → SeenCall
 seen p memory = record { outputs = map memory (outputs_of p); answer = value_of memory p.answer }
 
 -- what is seen of the calls
-abbrev pub run : Program → List Item → List Seen
+abbrev pub run : Program → List Item → List SeenCall
 run p items = map (seen p) (memories p items)

@@ -2,9 +2,9 @@
 -- and no local is read before it is assigned. The first rule that is broken counts, at its first place in the text.
 use Rattle.std.specs.Prelude.{ℕ, Bool, not, ◌||◌, List, [], ◌∷◌, ◌++◌, map, flat_map, find, filter}
 use Rattle.std.specs.Prelude.{Option, Some, None}
-use Rattle.est_base.specs.Names.{is_same_name}
+use Rattle.base_types.specs.Names.{is_same_name}
 use Rattle.net_ir.specs.NameLists.{is_among, first_again}
-pub use Rattle.expr_text.specs.Names.{names_in, all_names, or_else}
+pub use Rattle.net_expressions.specs.Names.{names_in, all_names, or_else}
 use Rattle.csub_text.specs.Trees.{Expr, Assign, Program}
 use Rattle.csub_text.specs.Grammar.{begins_input, begins_output}
 

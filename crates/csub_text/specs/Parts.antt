@@ -7,15 +7,15 @@ use Rattle.csub_text.specs.Written.{input_name, gate_name, next_name, answer_nam
 use Rattle.csub_text.specs.Written.{output_variable, net_state, input_assign, gate_assign, next_assign, output_assign}
 use Rattle.csub_text.specs.Written.{answer_assign, state_assign, state_line, declaration, assign_line, head_line}
 use Rattle.csub_text.specs.Written.{last_lines}
-use Rattle.csub_text.specs.declared.parts.Section.{Section}
-use Rattle.csub_text.specs.declared.parts.Section.TheVariants.{States, Inputs, Outputs, Head, InputLocals, GateLocals}
-use Rattle.csub_text.specs.declared.parts.Section.TheVariants.{NextLocals, AnswerLocal, InputAssigns, GateAssigns}
-use Rattle.csub_text.specs.declared.parts.Section.TheVariants.{NextAssigns, OutputAssigns, AnswerAssign}
-use Rattle.csub_text.specs.declared.parts.Section.TheVariants.{StateAssigns, LastLines}
+use Rattle.csub_text.specs.declared.parts.CSection.{CSection}
+use Rattle.csub_text.specs.declared.parts.CSection.TheVariants.{States, Inputs, Outputs, Head, InputLocals, GateLocals}
+use Rattle.csub_text.specs.declared.parts.CSection.TheVariants.{NextLocals, AnswerLocal, InputAssigns, GateAssigns}
+use Rattle.csub_text.specs.declared.parts.CSection.TheVariants.{NextAssigns, OutputAssigns, AnswerAssign}
+use Rattle.csub_text.specs.declared.parts.CSection.TheVariants.{StateAssigns, LastLines}
 use Rattle.csub_text.specs.declared.parts.TheConstants.{SECTIONS}
 
 -- the parts of a section
-abbrev pub parts_in : Netlist → Section → List (List ℕ)
+abbrev pub parts_in : Netlist → CSection → List (List ℕ)
 parts_in net States = numbered (λ j latch. state_line (net_state j latch)) 0 net.latches
 parts_in net Inputs = map (λ name. declaration (input_variable name)) net.inputs
 parts_in net Outputs = map (λ o. declaration (output_variable o)) net.outputs

@@ -2,9 +2,10 @@
 use Rattle.std.specs.Prelude.{ℕ, ◌+◌, ◌==◌, ◌&&◌, List, [], ◌∷◌, take, codes, map}
 use Rattle.std.specs.Prelude.{Option, Some, None, if◌then◌else◌}
 use Rattle.std.specs.List.{prefix_len}
-use Rattle.est_base.specs.Names.{is_name_byte, is_same_name}
-use Rattle.expr_text.specs.Lexemes as lexemes
-pub use Rattle.expr_text.specs.Lexemes.{Front, Gap, Lexeme, Wrong, mark_front, is_space, begins_name, tokens_behind}
+use Rattle.base_types.specs.Names.{is_name_byte, is_same_name}
+use Rattle.net_expressions.specs.Lexemes as lexemes
+pub use Rattle.net_expressions.specs.Lexemes.{Front, Gap, Lexeme, Wrong, mark_front, is_space, begins_name}
+pub use Rattle.net_expressions.specs.Lexemes.{tokens_behind}
 
 -- What a token is. `If` and `Else` are words of guarded texts alone, and here names; `Bad` is a token that no text has.
 pub data Kind : Type 0 where
@@ -31,7 +32,7 @@ pub data Kind : Type 0 where
 
 -- a token and the place of its first byte in the text
 abbrev pub Token : Type 0
-Token = lexemes.Token Kind
+Token = lexemes.PlacedToken Kind
 
 -- the reserved words, and all other names
 abbrev pub word_kind : List ℕ → Kind

@@ -1,9 +1,9 @@
 -- To believe: programs of the C subset as plain trees, without where they lie in memory.
 use Rattle.std.specs.Prelude.{ℕ, Bool, List}
-pub use Rattle.expr_text.specs.Trees.{Expr, Name, Const, Not, And, Or, Exprs, NoExprs, MoreExprs}
+pub use Rattle.net_expressions.specs.Trees.{Expr, Name, Const, Not, And, Or, Exprs, NoExprs, MoreExprs}
 
 -- a state: a variable that keeps its value from call to call, and its value before the first one
-pub record State : Type 0 where
+pub record StateVariable : Type 0 where
   pub name : List ℕ
   pub init : Bool
 
@@ -13,7 +13,7 @@ pub record Assign : Type 0 where
 
 -- the variables in the order of their declarations, the assignments in their order, and the expression returned
 pub record Program : Type 0 where
-  pub states : List State
+  pub states : List StateVariable
   pub globals : List (List ℕ)
   pub locals : List (List ℕ)
   pub body : List Assign

@@ -3,10 +3,10 @@ use Rattle.std.specs.Prelude.{map}
 use Rattle.csub_text.specs.declared.trees.State.{State as CodeState}
 use Rattle.csub_text.specs.declared.trees.Assign.{Assign as CodeAssign}
 use Rattle.csub_text.specs.declared.trees.CProgram.{CProgram}
-use Rattle.csub_text.specs.Trees.{State, Assign, Program}
-pub use Rattle.expr_text.specs.Views.{expr_of, exprs_of}
+use Rattle.csub_text.specs.Trees.{StateVariable, Assign, Program}
+pub use Rattle.net_expressions.specs.Views.{expr_of, exprs_of}
 
-abbrev pub state_of : CodeState → State
+abbrev pub state_of : CodeState → StateVariable
 state_of s = record { name = s.name; init = s.init }
 
 abbrev pub assign_of : CodeAssign → Assign

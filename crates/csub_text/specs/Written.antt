@@ -3,20 +3,20 @@
 -- is computed into `tJ`, and whether the program is still active into `r`, which is returned.
 use Rattle.std.specs.Prelude.{◌≡◌, ℕ, Bool, true, false, List, [], ◌∷◌, ◌++◌, length}
 use Rattle.std.specs.Prelude.{map, flat_map, codes, decimal, drop}
-use Rattle.est_base.specs.Items.{Item, EachEvent}
+use Rattle.base_types.specs.Items.{Item, EachEvent}
 use Rattle.net_ir.specs.declared.netlist.Gate.{Gate}
 use Rattle.net_ir.specs.declared.netlist.Latch.{Latch}
 use Rattle.net_ir.specs.declared.netlist.NetOut.{NetOut}
 use Rattle.net_ir.specs.Netlists.{Netlist, first_gate}
 use Rattle.net_ir.specs.Numbered.{numbered}
 use Rattle.net_ir.specs.Runs.{Shown, net_run, net_values_run}
-use Rattle.csub_text.specs.Trees.{Expr, Name, State, Assign, Program}
-use Rattle.expr_text.specs.Texts.{text_of}
-pub use Rattle.expr_text.specs.Operators.{op_expr}
-pub use Rattle.expr_text.specs.NetNames.{state_name, gate_name, gate_names, name_of_net}
+use Rattle.csub_text.specs.Trees.{Expr, Name, StateVariable, Assign, Program}
+use Rattle.net_expressions.specs.Texts.{text_of}
+pub use Rattle.net_expressions.specs.Operators.{op_expr}
+pub use Rattle.net_expressions.specs.NetNames.{state_name, gate_name, gate_names, name_of_net}
 use Rattle.csub_text.specs.Names.{inputs_of, outputs_of}
 use Rattle.csub_text.specs.Texts.{Describes}
-use Rattle.csub_text.specs.Machine.{Seen, memories, run}
+use Rattle.csub_text.specs.Machine.{SeenCall, memories, run}
 
 -- ---- names
 
@@ -42,7 +42,7 @@ output_variable output = codes "O_" ++ output.name
 
 -- ---- the program
 
-abbrev pub net_state : ℕ → Latch → State
+abbrev pub net_state : ℕ → Latch → StateVariable
 net_state j latch = record { name = state_name j; init = latch.init }
 
 -- each input is copied into its local
@@ -100,7 +100,7 @@ expr_text = text_of (codes "!") bit_text
 abbrev pub line_end : List ℕ
 line_end = 59 ∷ 10 ∷ []
 
-abbrev pub state_line : State → List ℕ
+abbrev pub state_line : StateVariable → List ℕ
 state_line s = codes "static int " ++ (s.name ++ (codes " = " ++ (bit_text s.init ++ line_end)))
 
 abbrev pub declaration : List ℕ → List ℕ
@@ -128,7 +128,7 @@ written net = program_text (net_program net)
 -- ---- what the text means
 
 -- what a call shows where a net shows this
-abbrev pub shown_by_call : Shown → Seen
+abbrev pub shown_by_call : Shown → SeenCall
 shown_by_call s = record { outputs = s.outputs; answer = s.paused }
 
 -- A text means a net: it describes a program with the net's inputs, outputs and latches, which shows at each call what

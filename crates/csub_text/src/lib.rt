@@ -11,8 +11,8 @@ mod pieces;
 mod trees;
 mod writer;
 
-pub use expr_text::Expr;
 pub use names::{begins_input, begins_output, declared_names, front_two, variable_names};
-pub use parts::Section;
+pub use net_expressions::Expr;
+pub use parts::CSection;
 pub use pieces::{CWriter, write_c};
 pub use trees::{Assign, CProgram, State};

@@ -6,7 +6,7 @@ ghost use Rattle.csub_text.specs.Names.{declared};
 ghost use Rattle.csub_text.specs.Views.{program_of, state_of};
 
 use crate::trees::{CProgram, State};
-use est_base::{NoMemory, Text};
+use base_types::{NoMemory, Text};
 use std::alloc::Global;
 
 /// The names that a program declares, in the order of the text. Its only error is want of memory.

@@ -10,14 +10,14 @@ use crate::writer::{
     put_input_assign, put_input_local, put_last_lines, put_next_assign, put_next_local, put_output,
     put_output_assign, put_state, put_state_assign,
 };
-use est_base::NoMemory;
+use base_types::NoMemory;
 use net_ir::{Net, look_at_wires};
-use net_text::NetText;
+use net_writer::NetText;
 use std::alloc::Global;
 
 /// The sections of a C text: the declarations, and in the function the locals and the assignments.
 #[derive(Clone, Copy)]
-pub enum Section {
+pub enum CSection {
     States,
     Inputs,
     Outputs,
@@ -35,22 +35,22 @@ pub enum Section {
     LastLines,
 }
 
-static SECTIONS: [Section; 15] = [
-    Section::States,
-    Section::Inputs,
-    Section::Outputs,
-    Section::Head,
-    Section::InputLocals,
-    Section::GateLocals,
-    Section::NextLocals,
-    Section::AnswerLocal,
-    Section::InputAssigns,
-    Section::GateAssigns,
-    Section::NextAssigns,
-    Section::OutputAssigns,
-    Section::AnswerAssign,
-    Section::StateAssigns,
-    Section::LastLines,
+static SECTIONS: [CSection; 15] = [
+    CSection::States,
+    CSection::Inputs,
+    CSection::Outputs,
+    CSection::Head,
+    CSection::InputLocals,
+    CSection::GateLocals,
+    CSection::NextLocals,
+    CSection::AnswerLocal,
+    CSection::InputAssigns,
+    CSection::GateAssigns,
+    CSection::NextAssigns,
+    CSection::OutputAssigns,
+    CSection::AnswerAssign,
+    CSection::StateAssigns,
+    CSection::LastLines,
 ];
 
 impl NetText for CWriter {
@@ -58,7 +58,7 @@ impl NetText for CWriter {
     ghost use Rattle.csub_text.specs.Written.{written, Means};
     ghost use Rattle.csub_text.specs.declared.parts.TheConstants.{SECTIONS};
 
-    type Section = Section;
+    type Section = CSection;
 
     ghost sections = { SECTIONS };
 
@@ -74,46 +74,49 @@ impl NetText for CWriter {
         Ok(CWriter {})
     }
 
-    fn sections() -> &'static [Section] {
+    fn sections() -> &'static [CSection] {
         &SECTIONS
     }
 
-    #[tactic(auto, using(net_text::proofs::Exports::section_parts))]
-    fn count(net: &Net, section: Section) -> usize {
+    #[tactic(auto, using(net_writer::proofs::Exports::section_parts))]
+    fn count(net: &Net, section: CSection) -> usize {
         match section {
-            Section::Inputs | Section::InputLocals | Section::InputAssigns => net.inputs.len(),
-            Section::Outputs | Section::OutputAssigns => net.outputs.len(),
-            Section::GateLocals | Section::GateAssigns => net.gates.len(),
-            Section::Head | Section::AnswerLocal | Section::AnswerAssign | Section::LastLines => 1,
-            Section::States | Section::NextLocals | Section::NextAssigns | Section::StateAssigns =>
-                net.latches.len(),
+            CSection::Inputs | CSection::InputLocals | CSection::InputAssigns => net.inputs.len(),
+            CSection::Outputs | CSection::OutputAssigns => net.outputs.len(),
+            CSection::GateLocals | CSection::GateAssigns => net.gates.len(),
+            CSection::Head | CSection::AnswerLocal | CSection::AnswerAssign | CSection::LastLines =>
+                1,
+            CSection::States
+            | CSection::NextLocals
+            | CSection::NextAssigns
+            | CSection::StateAssigns => net.latches.len(),
         }
     }
 
-    #[tactic(auto, using(net_text::proofs::Exports::section_parts))]
+    #[tactic(auto, using(net_writer::proofs::Exports::section_parts))]
     fn put_in(
         &self,
         text: &mut Vec<u8>,
         net: &Net,
-        section: Section,
+        section: CSection,
         k: usize,
     ) -> Result<(), NoMemory> {
         match section {
-            Section::States => put_state(text, k, net.latches[k]),
-            Section::Inputs => put_input(text, &net.inputs[k]),
-            Section::Outputs => put_output(text, &net.outputs[k]),
-            Section::Head => put_head(text),
-            Section::InputLocals => put_input_local(text, k),
-            Section::GateLocals => put_gate_local(text, k, net.gates[k]),
-            Section::NextLocals => put_next_local(text, k),
-            Section::AnswerLocal => put_answer_local(text),
-            Section::InputAssigns => put_input_assign(text, k, &net.inputs[k]),
-            Section::GateAssigns => put_gate(text, net, k, net.gates[k]),
-            Section::NextAssigns => put_next_assign(text, net, k, net.latches[k]),
-            Section::OutputAssigns => put_output_assign(text, net, &net.outputs[k]),
-            Section::AnswerAssign => put_answer_assign(text, net),
-            Section::StateAssigns => put_state_assign(text, k, net.latches[k]),
-            Section::LastLines => put_last_lines(text),
+            CSection::States => put_state(text, k, net.latches[k]),
+            CSection::Inputs => put_input(text, &net.inputs[k]),
+            CSection::Outputs => put_output(text, &net.outputs[k]),
+            CSection::Head => put_head(text),
+            CSection::InputLocals => put_input_local(text, k),
+            CSection::GateLocals => put_gate_local(text, k, net.gates[k]),
+            CSection::NextLocals => put_next_local(text, k),
+            CSection::AnswerLocal => put_answer_local(text),
+            CSection::InputAssigns => put_input_assign(text, k, &net.inputs[k]),
+            CSection::GateAssigns => put_gate(text, net, k, net.gates[k]),
+            CSection::NextAssigns => put_next_assign(text, net, k, net.latches[k]),
+            CSection::OutputAssigns => put_output_assign(text, net, &net.outputs[k]),
+            CSection::AnswerAssign => put_answer_assign(text, net),
+            CSection::StateAssigns => put_state_assign(text, k, net.latches[k]),
+            CSection::LastLines => put_last_lines(text),
         }
     }
 

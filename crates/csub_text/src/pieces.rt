@@ -4,12 +4,12 @@ ghost use Rattle.std.specs.Prelude.{◌≡◌, IfOk};
 ghost use Rattle.net_ir.specs.Runs.{netlist_of};
 ghost use Rattle.csub_text.specs.Written.{written, Means};
 
-use est_base::NoMemory;
+use base_types::NoMemory;
 use net_ir::Net;
-use net_text::write_net;
+use net_writer::write_net;
 use std::alloc::Global;
 
-/// What writes the C text of a net, for `net_text::net_pieces` piece by piece.
+/// What writes the C text of a net, for `net_writer::net_pieces` piece by piece.
 #[derive(Drop)]
 pub struct CWriter {}
 

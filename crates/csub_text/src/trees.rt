@@ -1,7 +1,7 @@
 // Programs of the C subset as trees.
 
-use est_base::Text;
-use expr_text::Expr;
+use base_types::Text;
+use net_expressions::Expr;
 
 /// A variable that keeps its value from call to call, and its value before the first one.
 #[derive(Drop)]

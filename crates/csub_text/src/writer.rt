@@ -11,10 +11,10 @@ ghost use Rattle.csub_text.specs.Written.{declaration, assign_line, head_line, l
 ghost use Rattle.csub_text.specs.Trees.{Name};
 
 use crate::pieces::CWriter;
-use est_base::{NoMemory, Text, put, put_number};
-use expr_text::{GateText, put_gate_name, put_net, put_op};
+use base_types::{NoMemory, Text, put, put_number};
+use net_expressions::{GateText, put_gate_name, put_net, put_op};
 use net_ir::{Gate, Latch, Net, NetOut};
-use net_text::put_named;
+use net_writer::put_named;
 
 impl GateText for CWriter {
     ghost use Rattle.std.specs.Prelude.{codes};

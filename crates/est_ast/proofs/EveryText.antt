@@ -8,12 +8,13 @@ use Rattle.std.proofs.lemmas.Bool.{cases_lt}
 use Rattle.std.proofs.lemmas.Bool.Decides.{nat_tests}
 use Rattle.std.proofs.lemmas.Slice.Eq.{bytes_eq-Decides}
 use Rattle.std.proofs.lemmas.List.Sums.{prefix_len-le-length, prefix_len_passes, prefix_len_stops}
-use Rattle.est_base.specs.Names.{is_letter, is_digit, is_name_byte}
+use Rattle.base_types.specs.Names.{is_letter, is_digit, is_name_byte}
 use Rattle.est_ast.specs.declared.tokens.Kind.{Kind}
 use Rattle.est_ast.specs.declared.tokens.Reserved.{Reserved as ReservedWord}
 use Rattle.est_ast.specs.Spelling.{spelling, sign}
 use Rattle.est_ast.specs.Lexemes.{IsLetter, IsDigit, IsNameByte, HasByte, OpensComment, ClosesComment, BeginsWithMark}
-use Rattle.est_ast.specs.Lexing.{number_of, IsFront, Piece, Cuts, width_of, tokens_from, BeginsWithBadByte, BeginsWithOpenComment, BeginsWithBigNumber, Lexing}
+use Rattle.est_ast.specs.Lexing.{number_of, IsFrontToken, TextPiece, Cuts, width_of, tokens_from, BeginsWithBadByte, BeginsWithOpenComment, BeginsWithBigNumber}
+use Rattle.est_ast.specs.Lexing.{Lexing}
 use Rattle.est_ast.specs.Lexing.{Tokens, BadByte, OpenComment, BigNumber, LexesAs}
 use Rattle.est_ast.proofs.Classes.{space_test, space_told, letter_told, digit_told, name_told, run_of}
 use Rattle.est_ast.proofs.Heads.{mark_head, within}
@@ -22,7 +23,7 @@ use Rattle.est_ast.proofs.Fronts.{space_front, line_front, block_front, reserved
 
 -- a piece or a fault stands at the front of a text
 pub data Stands (text : List ℕ) : Type 0 where
-  piece : (width : ℕ) (token : Option Kind) → IsFront text width token → Stands text
+  piece : (width : ℕ) (token : Option Kind) → IsFrontToken text width token → Stands text
   bad_byte : BeginsWithBadByte text → Stands text
   open_comment : BeginsWithOpenComment text → Stands text
   big_number : BeginsWithBigNumber text → Stands text
@@ -163,7 +164,7 @@ text_stands text some =
 
 -- a cut up to the end or to a fault
 pub record Cut (text : List ℕ) : Type 0 where
-  pub pieces : List Piece
+  pub pieces : List TextPiece
   pub rest : List ℕ
   pub cut : Cuts pieces text rest
   pub ends : (rest ≡ []) ⊎ (BeginsWithBadByte rest ⊎ (BeginsWithOpenComment rest ⊎ BeginsWithBigNumber rest))

@@ -4,28 +4,28 @@ use Rattle.est_ast.specs.declared.tokens.Kind.{Kind}
 use Rattle.est_ast.specs.declared.tokens.Kind.TheVariants.{Reserved, Mark, Ident, Number}
 use Rattle.est_ast.specs.declared.tokens.Reserved.{Reserved as ReservedWord}
 use Rattle.est_ast.specs.Spelling.{spelling}
-use Rattle.est_ast.specs.Lexemes.{IsSpace, IsLetter, IsDigit, IsNameByte, BeginsWithLineComment, BeginsWithBlockComment, BeginsWithMark, Part, Space}
-use Rattle.est_ast.specs.Lexemes.{LineComment, BlockComment, Word, Numeral, Sign, Begins, BeginsLongest}
-use Rattle.est_ast.specs.Lexing.{number_of, IsFront, BeginsWithBadByte, BeginsWithBigNumber}
+use Rattle.est_ast.specs.Lexemes.{IsSpace, IsLetter, IsDigit, IsNameByte, BeginsWithLineComment, BeginsWithBlockComment, BeginsWithMark, LexicalPart, Space}
+use Rattle.est_ast.specs.Lexemes.{LineComment, BlockComment, Word, Numeral, Sign, BeginsPart, BeginsLongest}
+use Rattle.est_ast.specs.Lexing.{number_of, IsFrontToken, BeginsWithBadByte, BeginsWithBigNumber}
 use Rattle.est_ast.specs.Runs.{IsRun}
 use Rattle.est_ast.proofs.Heads.{opens, within}
 use Rattle.est_ast.proofs.Longest.{longest_space, longest_line, longest_block, longest_word, longest_numeral, longest_sign}
 
 -- a piece has bytes, and they are in the text
-pub front_fits : (text : List ℕ) (width : ℕ) (token : Option Kind) → IsFront text width token → (0 < width) × (width ≤ length text)
+pub front_fits : (text : List ℕ) (width : ℕ) (token : Option Kind) → IsFrontToken text width token → (0 < width) × (width ≤ length text)
 front_fits text width token front = within front.part text width front.longest.begins
 
-pub space_front : (text : List ℕ) → 0 < length text → IsSpace (get_or text 0 0) → IsFront text 1 None
+pub space_front : (text : List ℕ) → 0 < length text → IsSpace (get_or text 0 0) → IsFrontToken text 1 None
 space_front text some space = record {
   part = Space;
   longest = longest_space text 1 (record { one_byte = refl; there = some; space = space });
   makes = tt;
 }
 
-pub line_front : (text : List ℕ) (n : ℕ) → BeginsWithLineComment text n → IsFront text n None
+pub line_front : (text : List ℕ) (n : ℕ) → BeginsWithLineComment text n → IsFrontToken text n None
 line_front text n begins = record { part = LineComment; longest = longest_line text n begins; makes = tt }
 
-pub block_front : (text : List ℕ) (n : ℕ) → BeginsWithBlockComment text n → IsFront text n None
+pub block_front : (text : List ℕ) (n : ℕ) → BeginsWithBlockComment text n → IsFrontToken text n None
 block_front text n begins = record { part = BlockComment; longest = longest_block text n begins; makes = tt }
 
 -- a run of bytes of a class is not empty where the first byte is of the class
@@ -39,11 +39,11 @@ word_longest text n some letter run =
     run.stops
 
 pub reserved_front : (text : List ℕ) (n : ℕ) (word : ReservedWord) → 0 < length text → IsLetter (get_or text 0 0) → IsRun IsNameByte text n →
-    take n text ≡ spelling word → IsFront text n (Some (Reserved word))
+    take n text ≡ spelling word → IsFrontToken text n (Some (Reserved word))
 reserved_front text n word some letter run written = record { part = Word; longest = word_longest text n some letter run; makes = written }
 
 pub ident_front : (text : List ℕ) (n : ℕ) → 0 < length text → IsLetter (get_or text 0 0) → IsRun IsNameByte text n →
-    ((word : ReservedWord) → take n text ≢ spelling word) → IsFront text n (Some (Ident (take n text)))
+    ((word : ReservedWord) → take n text ≢ spelling word) → IsFrontToken text n (Some (Ident (take n text)))
 ident_front text n some letter run other = record { part = Word; longest = word_longest text n some letter run; makes = (refl, other) }
 
 numeral_longest : (text : List ℕ) (n : ℕ) → 0 < length text → IsDigit (get_or text 0 0) → IsRun IsDigit text n → BeginsLongest Numeral text n
@@ -51,14 +51,14 @@ numeral_longest text n some digit run =
     longest_numeral text n (record { some = run_some IsDigit text n some digit run; within = run.within; digits = run.passes }) run.stops
 
 pub number_front : (text : List ℕ) (n : ℕ) → 0 < length text → IsDigit (get_or text 0 0) → IsRun IsDigit text n → number_of (take n text) < 2 ^ 128 →
-    IsFront text n (Some (Number (number_of (take n text))))
+    IsFrontToken text n (Some (Number (number_of (take n text))))
 number_front text n some digit run fits = record { part = Numeral; longest = numeral_longest text n some digit run; makes = (refl, fits) }
 
 pub big_front : (text : List ℕ) (n : ℕ) → 0 < length text → IsDigit (get_or text 0 0) → IsRun IsDigit text n → 2 ^ 128 ≤ number_of (take n text) →
     BeginsWithBigNumber text
 big_front text n some digit run big = record { width = n; longest = numeral_longest text n some digit run; big = big }
 
-pub mark_front : (text : List ℕ) (n : ℕ) (begins : BeginsWithMark text n) → IsFront text n (Some (Mark begins.mark))
+pub mark_front : (text : List ℕ) (n : ℕ) (begins : BeginsWithMark text n) → IsFrontToken text n (Some (Mark begins.mark))
 mark_front text n begins = record { part = Sign; longest = longest_sign text n begins; makes = begins.written }
 
 -- the first byte begins no space, comment, word or numeral
@@ -75,7 +75,7 @@ bad_front text some other no_mark = record {
   no_comment = λ comment. other.no_percent comment.0.1;
 }
   where
-    no_part : (part : Part) (n : ℕ) → ¬ Begins part text n
+    no_part : (part : LexicalPart) (n : ℕ) → ¬ BeginsPart part text n
     no_part Space n begins = other.no_space (opens Space text n begins)
     no_part LineComment n begins = other.no_percent begins.percent.1
     no_part BlockComment n begins = other.no_percent begins.opens.0.1

@@ -4,8 +4,8 @@ use Rattle.std.proofs.lemmas.List.{get_or-take, length-take}
 use Rattle.est_ast.specs.declared.tokens.Mark.{Mark}
 use Rattle.est_ast.specs.declared.tokens.Mark.TheVariants.{Semicolon}
 use Rattle.est_ast.specs.Spelling.{sign}
-use Rattle.est_ast.specs.Lexemes.{IsSpace, IsLetter, IsDigit, HasByte, OpensComment, BeginsWithLineComment, BeginsWithMark, Part, Space, LineComment}
-use Rattle.est_ast.specs.Lexemes.{BlockComment, Word, Numeral, Sign, Begins}
+use Rattle.est_ast.specs.Lexemes.{IsSpace, IsLetter, IsDigit, HasByte, OpensComment, BeginsWithLineComment, BeginsWithMark, LexicalPart, Space, LineComment}
+use Rattle.est_ast.specs.Lexemes.{BlockComment, Word, Numeral, Sign, BeginsPart}
 
 -- a byte that begins a mark begins nothing else
 pub record IsMarkByte (byte : ℕ) : Type 0 where
@@ -15,7 +15,7 @@ pub record IsMarkByte (byte : ℕ) : Type 0 where
   pub no_digit : ¬ IsDigit byte
 
 -- how a part of this kind opens a text
-abbrev pub Opens : Part → List ℕ → Type 0
+abbrev pub Opens : LexicalPart → List ℕ → Type 0
 Opens Space text = IsSpace (get_or text 0 0)
 Opens LineComment text = HasByte text 0 37 × ¬ OpensComment text
 Opens BlockComment text = OpensComment text
@@ -50,7 +50,7 @@ line_some text zero begins =
     absurd (omega (arith, ends, begins.percent.1))
 line_some text (suc n) begins = omega arith
 
-pub opens : (part : Part) (text : List ℕ) (n : ℕ) → Begins part text n → Opens part text
+pub opens : (part : LexicalPart) (text : List ℕ) (n : ℕ) → BeginsPart part text n → Opens part text
 opens Space text n begins = begins.space
 opens LineComment text n begins = (begins.percent, begins.no_block)
 opens BlockComment text n begins = begins.opens
@@ -77,7 +77,7 @@ apart_letter_percent : (byte : ℕ) → IsLetter byte → byte ≢ 37
 apart_letter_percent byte = grind arith
 
 -- the first byte and, at a comment, the second leave one kind of part
-pub one_part : (part other : Part) (text : List ℕ) → Opens part text → Opens other text → part ≡ other
+pub one_part : (part other : LexicalPart) (text : List ℕ) → Opens part text → Opens other text → part ≡ other
 one_part Space Space text a b = refl
 one_part Space LineComment text a b = absurd (apart_space_percent _ a b.0.1)
 one_part Space BlockComment text a b = absurd (apart_space_percent _ a b.0.1)
@@ -116,7 +116,7 @@ one_part Sign Numeral text a b = absurd (a.no_digit b)
 one_part Sign Sign text a b = refl
 
 -- a part has bytes, and they are in the text
-pub within : (part : Part) (text : List ℕ) (n : ℕ) → Begins part text n → (0 < n) × (n ≤ length text)
+pub within : (part : LexicalPart) (text : List ℕ) (n : ℕ) → BeginsPart part text n → (0 < n) × (n ≤ length text)
 within Space text n begins = (omega (arith, begins.one_byte), omega (arith, begins.one_byte, begins.there))
 within LineComment text n begins = (line_some text n begins, begins.within)
 within BlockComment text n begins = (omega (arith, begins.length_is), omega (arith, begins.length_is, begins.closes.1.0))

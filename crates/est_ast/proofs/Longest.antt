@@ -3,16 +3,17 @@ use Rattle.std.proofs.Common.{◌≡◌, ℕ, ◌<◌, ◌≤◌, List, length, 
 use Rattle.std.proofs.lemmas.Bool.{cases_lt}
 use Rattle.est_ast.specs.Spelling.{sign}
 use Rattle.est_ast.specs.Lexemes.{IsNameByte, IsDigit, BeginsWithSpace, BeginsWithLineComment, BeginsWithBlockComment, BeginsWithWord, BeginsWithNumeral}
-use Rattle.est_ast.specs.Lexemes.{BeginsWithMark, Part, Space, LineComment, BlockComment, Word, Numeral, Sign, Begins, BeginsLongest}
+use Rattle.est_ast.specs.Lexemes.{BeginsWithMark, LexicalPart, Space, LineComment, BlockComment, Word, Numeral, Sign, BeginsPart, BeginsLongest}
 use Rattle.est_ast.proofs.Heads.{opens, one_part, mark_head}
 use Rattle.est_ast.proofs.OneToken.{mark_of, mark_of-head}
 
 -- only parts of its own kind could be longer
-pub longest_of_kind : (part : Part) (text : List ℕ) (n : ℕ) → Begins part text n → ((m : ℕ) → Begins part text m → m ≤ n) → BeginsLongest part text n
+pub longest_of_kind : (part : LexicalPart) (text : List ℕ) (n : ℕ) → BeginsPart part text n → ((m : ℕ) → BeginsPart part text m → m ≤ n)
+    → BeginsLongest part text n
 longest_of_kind part text n begins longest = record {
   begins = begins;
   longest = λ other m found.
-      longest m (subst (λ (kind : Part). Begins kind text m) (one_part other part text (opens other text m found) (opens part text n begins)) found);
+      longest m (subst (λ (kind : LexicalPart). BeginsPart kind text m) (one_part other part text (opens other text m found) (opens part text n begins)) found);
 }
 
 pub longest_space : (text : List ℕ) (n : ℕ) → BeginsWithSpace text n → BeginsLongest Space text n

@@ -12,7 +12,7 @@ use Rattle.est_ast.specs.declared.tokens.Reserved.TheVariants.{Repeat, Run, Sign
 use Rattle.est_ast.specs.declared.tokens.Mark.TheVariants.{Semicolon, DoubleBar, LeftBracket, RightBracket, LeftParenthesis, RightParenthesis, Comma, Slash}
 use Rattle.est_ast.specs.declared.tokens.Mark.TheVariants.{Colon, Hash, Arrow, Period}
 use Rattle.est_ast.specs.Spelling.{spelling, sign}
-use Rattle.est_ast.specs.Lexemes.{Part, Space, LineComment, BlockComment, Word, Numeral, Sign}
+use Rattle.est_ast.specs.Lexemes.{LexicalPart, Space, LineComment, BlockComment, Word, Numeral, Sign}
 use Rattle.est_ast.specs.Lexing.{Makes, number_of}
 
 -- the word that is written so; of bytes that are no reserved word it says nothing
@@ -144,7 +144,7 @@ block_makes bytes None makes = refl
 block_makes bytes (Some kind) makes = absurd makes
 
 -- the bytes of a part are one token, or none
-pub one_token : (part : Part) (bytes : List ℕ) (token other : Option Kind) → Makes part bytes token → Makes part bytes other → token ≡ other
+pub one_token : (part : LexicalPart) (bytes : List ℕ) (token other : Option Kind) → Makes part bytes token → Makes part bytes other → token ≡ other
 one_token Space bytes token other a b = space_makes bytes token a ∙ sym (space_makes bytes other b)
 one_token LineComment bytes token other a b = line_makes bytes token a ∙ sym (line_makes bytes other b)
 one_token BlockComment bytes token other a b = block_makes bytes token a ∙ sym (block_makes bytes other b)

@@ -1,9 +1,9 @@
 -- Contract: what a flat program keeps.
 use Rattle.std.specs.Prelude.{ℕ, ◌+◌, ◌<◌, ◌≤◌, nat_lt, All, IsTrue, length, take}
-use Rattle.est_base.specs.declared.bounds.TheConstants.Limits.{SIGNALS}
-use Rattle.est_base.specs.Distinct.{all_differ}
-use Rattle.est_base.specs.Names.{is_name, is_same_name}
-use Rattle.est_base.specs.Relations.{Relation, Implies, Excludes}
+use Rattle.base_types.specs.declared.bounds.TheConstants.Limits.{SIGNALS}
+use Rattle.base_types.specs.Distinct.{all_differ}
+use Rattle.base_types.specs.Names.{is_name, is_same_name}
+use Rattle.base_types.specs.Relations.{Relation, Implies, Excludes}
 use Rattle.est_ast.specs.FlatTrees.{Flat}
 use Rattle.est_ast.specs.FlatFits.{Scope, Fits}
 use Rattle.est_ast.specs.NewSignals.{new_in}

@@ -1,7 +1,7 @@
 -- To believe: flat programs as plain data, without where they lie in memory. Signals and traps are numbers.
 use Rattle.std.specs.Prelude.{ℕ, List, [], ◌∷◌}
-use Rattle.est_base.specs.declared.place.Span.{Span}
-use Rattle.est_base.specs.Relations.{Relation}
+use Rattle.base_types.specs.declared.place.Span.{Span}
+use Rattle.base_types.specs.Relations.{Relation}
 
 mutual
   -- a test of signals

@@ -2,7 +2,7 @@
 use Rattle.std.specs.Prelude.{List, map, Option, Some, None}
 use Rattle.std.specs.declared.alloc.Global.{Global}
 use Rattle.std.specs.declared.boxed.Box.{Box}
-use Rattle.est_base.specs.Relations.{relation_of}
+use Rattle.base_types.specs.Relations.{relation_of}
 use Rattle.est_ast.specs.declared.flat.Flat.{Flat as CodeFlat}
 use Rattle.est_ast.specs.declared.flat.FlatCase.{FlatCase, FlatCase', Held-FlatCase-body, FlatCase-body-None'}
 use Rattle.est_ast.specs.declared.flat.FlatCase.{FlatCase-body-Some'}

@@ -20,7 +20,7 @@
 -- Esterel", in the concrete syntax of Berry, "The Esterel v5 Language Primer".
 use Rattle.std.specs.Prelude.{◌≡◌, ◌⊎◌, ℕ, List, [], ◌∷◌, Option, Some, None, if◌then◌else◌}
 use Rattle.std.specs.Str.{bytes_eq}
-use Rattle.est_base.specs.declared.place.Span.{Span}
+use Rattle.base_types.specs.declared.place.Span.{Span}
 use Rattle.est_ast.specs.declared.tokens.Token.{Token}
 use Rattle.est_ast.specs.declared.tokens.Kind.{Kind}
 use Rattle.est_ast.specs.declared.tokens.Kind.TheVariants as kinds
@@ -35,10 +35,10 @@ use Rattle.est_ast.specs.Trees.{Expr, Tick, Sig, Not, And, Or, Round, Square, Ex
 use Rattle.est_ast.specs.Trees.{Immediate, Count, Stmt, At, Form, Nothing, Pause, Halt, Emit, Sustain, Await, AwaitCase}
 use Rattle.est_ast.specs.Trees.{Present, PresentCase, Loop, LoopEach, Every, Repeat, Abort, AbortCase, WeakAbort}
 use Rattle.est_ast.specs.Trees.{Suspend, Trap, Exit, Signal, Run, Seq, Par, Group, Part, Missing, Written, Handler}
-use Rattle.est_ast.specs.Trees.{NoHandler, Handled, Stmts, NoStmts, MoreStmts, Cases, NoCases, MoreCases, Relation}
-use Rattle.est_ast.specs.Trees.{Implies, Excludes, Decl, Input, InputOutput, Output, Relations, Module, Program}
-use Rattle.read_rules.specs.Languages.{Empty, One, Then, Led, Maybe, Parted, Many}
-use Rattle.read_rules.specs.Languages.{Loop as Steps}
+use Rattle.est_ast.specs.Trees.{NoHandler, Handled, Stmts, NoStmts, MoreStmts, Cases, NoCases, MoreCases, NamedRelation}
+use Rattle.est_ast.specs.Trees.{Implies, Excludes, Decl, Input, InputOutput, Output, Relations, Module, SourceProgram}
+use Rattle.base_reader.specs.Languages.{Empty, One, Then, Led, Maybe, Parted, Many}
+use Rattle.base_reader.specs.Languages.{Loop as Steps}
 
 -- this reserved word: the one that is spelled so
 abbrev pub is_word : Reserved → Kind → Option (Unit {0})
@@ -104,13 +104,13 @@ abbrev pub Ends : Reserved → List Token → Type 0
 Ends w = Led (word words.End) (λ _. Maybe (word w))
 
 -- expr, conj and neg
-pub data Tier : Type 0 where
-  Disjunction : Tier
-  Conjunction : Tier
-  Negation : Tier
+pub data TestTier : Type 0 where
+  Disjunction : TestTier
+  Conjunction : TestTier
+  Negation : TestTier
 
 abbrev mutual
-  pub SpellsExpr : Tier → Expr → List Token → Type 0
+  pub SpellsExpr : TestTier → Expr → List Token → Type 0
   -- "tick"
   SpellsExpr tier (Tick span) = One tick span
   -- NAME
@@ -133,16 +133,16 @@ abbrev mutual
   SpellsExpr Negation (Or parts) = λ _. ⊥
 
   -- two parts or more, with the word between them
-  pub SpellsExprs : Reserved → Tier → Exprs → List Token → Type 0
+  pub SpellsExprs : Reserved → TestTier → Exprs → List Token → Type 0
   SpellsExprs w tier NoExprs = λ _. ⊥
   SpellsExprs w tier (MoreExprs e others) = Then (SpellsExpr tier e) (SpellsNextExprs w tier others)
 
-  pub SpellsNextExprs : Reserved → Tier → Exprs → List Token → Type 0
+  pub SpellsNextExprs : Reserved → TestTier → Exprs → List Token → Type 0
   SpellsNextExprs w tier NoExprs = λ _. ⊥
   SpellsNextExprs w tier (MoreExprs e others) = Then (Led (word w) (λ _. SpellsExpr tier e))
       (SpellsOtherExprs w tier others)
 
-  pub SpellsOtherExprs : Reserved → Tier → Exprs → List Token → Type 0
+  pub SpellsOtherExprs : Reserved → TestTier → Exprs → List Token → Type 0
   SpellsOtherExprs w tier NoExprs = Empty
   SpellsOtherExprs w tier (MoreExprs e others) = Then (Led (word w) (λ _. SpellsExpr tier e))
       (SpellsOtherExprs w tier others)
@@ -323,7 +323,7 @@ abbrev mutual
       (SpellsOtherCases others)
 
 -- rel = NAME "=>" NAME | NAME "#" NAME { "#" NAME }
-abbrev pub SpellsRelation : Relation → List Token → Type 0
+abbrev pub SpellsRelation : NamedRelation → List Token → Type 0
 SpellsRelation (Implies cause effect) = Then (One name cause) (Led (mark marks.Arrow) (λ _. One name effect))
 SpellsRelation (Excludes []) = λ _. ⊥
 SpellsRelation (Excludes (first ∷ others)) =
@@ -352,6 +352,6 @@ SpellsModule m =
     Then (Many SpellsDecl m.decls) (Then (Spells Whole m.body) EndsModule))))
 
 -- program = module { module }
-abbrev pub SpellsProgram : Program → List Token → Type 0
+abbrev pub SpellsProgram : SourceProgram → List Token → Type 0
 SpellsProgram [] = λ _. ⊥
 SpellsProgram (first ∷ others) = Then (SpellsModule first) (Many SpellsModule others)

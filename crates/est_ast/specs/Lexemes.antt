@@ -76,24 +76,24 @@ pub record BeginsWithMark (text : List ℕ) (n : ℕ) : Type 0 where
   pub written : take n text ≡ sign mark
 
 -- the kinds of parts
-pub data Part : Type 0 where
-  Space : Part
-  LineComment : Part
-  BlockComment : Part
-  Word : Part
-  Numeral : Part
-  Sign : Part
+pub data LexicalPart : Type 0 where
+  Space : LexicalPart
+  LineComment : LexicalPart
+  BlockComment : LexicalPart
+  Word : LexicalPart
+  Numeral : LexicalPart
+  Sign : LexicalPart
 
 -- a part of this kind, n bytes long, begins the text
-abbrev pub Begins : Part → List ℕ → ℕ → Type 0
-Begins Space = BeginsWithSpace
-Begins LineComment = BeginsWithLineComment
-Begins BlockComment = BeginsWithBlockComment
-Begins Word = BeginsWithWord
-Begins Numeral = BeginsWithNumeral
-Begins Sign = BeginsWithMark
+abbrev pub BeginsPart : LexicalPart → List ℕ → ℕ → Type 0
+BeginsPart Space = BeginsWithSpace
+BeginsPart LineComment = BeginsWithLineComment
+BeginsPart BlockComment = BeginsWithBlockComment
+BeginsPart Word = BeginsWithWord
+BeginsPart Numeral = BeginsWithNumeral
+BeginsPart Sign = BeginsWithMark
 
 -- it is as long as it can be: no part of any kind that begins the text is longer
-pub record BeginsLongest (part : Part) (text : List ℕ) (n : ℕ) : Type 0 where
-  pub begins : Begins part text n
-  pub longest : (other : Part) (m : ℕ) → Begins other text m → m ≤ n
+pub record BeginsLongest (part : LexicalPart) (text : List ℕ) (n : ℕ) : Type 0 where
+  pub begins : BeginsPart part text n
+  pub longest : (other : LexicalPart) (m : ℕ) → BeginsPart other text m → m ≤ n

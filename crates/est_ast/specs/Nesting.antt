@@ -8,9 +8,9 @@ use Rattle.est_ast.specs.Trees.{Immediate, Count, Stmt, At, Form, Nothing, Pause
 use Rattle.est_ast.specs.Trees.{Present, PresentCase, Loop, LoopEach, Every, Repeat, Abort, AbortCase, WeakAbort}
 use Rattle.est_ast.specs.Trees.{Suspend, Trap, Exit, Signal, Run, Seq, Par, Group, Part, Missing, Written, Handler}
 use Rattle.est_ast.specs.Trees.{NoHandler, Handled, Stmts, NoStmts, MoreStmts, Cases, NoCases, MoreCases, Module}
-use Rattle.est_ast.specs.Trees.{Program}
+use Rattle.est_ast.specs.Trees.{SourceProgram}
 use Rattle.est_ast.specs.Grammar.{SpellsProgram}
-use Rattle.read_rules.specs.Languages.{Within}
+use Rattle.base_reader.specs.Languages.{Within}
 
 abbrev mutual
   pub expr_nesting : Expr → ℕ
@@ -78,10 +78,10 @@ abbrev mutual
   cases_nesting (MoreCases event body others) = max (max (expr_nesting event) (part_nesting body))
       (cases_nesting others)
 
-abbrev pub program_nesting : Program → ℕ
+abbrev pub program_nesting : SourceProgram → ℕ
 program_nesting [] = 0
 program_nesting (m ∷ others) = max (nesting m.body) (program_nesting others)
 
 -- the tokens spell the program, and it is nested at most so deep
-abbrev pub IsProgram : ℕ → Program → List Token → Type 0
+abbrev pub IsProgram : ℕ → SourceProgram → List Token → Type 0
 IsProgram = Within SpellsProgram program_nesting

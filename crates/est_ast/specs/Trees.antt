@@ -1,6 +1,6 @@
 -- To believe: source trees as plain data, without where they lie in memory.
 use Rattle.std.specs.Prelude.{ℕ, List, [], ◌∷◌}
-use Rattle.est_base.specs.declared.place.Span.{Span}
+use Rattle.base_types.specs.declared.place.Span.{Span}
 use Rattle.est_ast.specs.declared.trees.Name.{Name}
 use Rattle.est_ast.specs.declared.trees.Rename.{Rename}
 
@@ -77,23 +77,23 @@ mutual
     MoreCases : (event : Expr) (body : Part) (others : Cases) → Cases
 
 -- what the environment keeps of the given signals
-pub data Relation : Type 0 where
-  Implies : (cause effect : Name) → Relation
-  Excludes : (names : List Name) → Relation
+pub data NamedRelation : Type 0 where
+  Implies : (cause effect : Name) → NamedRelation
+  Excludes : (names : List Name) → NamedRelation
 
 pub data Decl : Type 0 where
   Input : (names : List Name) → Decl
   InputOutput : (names : List Name) → Decl
   Output : (names : List Name) → Decl
-  Relations : (relations : List Relation) → Decl
+  Relations : (relations : List NamedRelation) → Decl
 
 pub record Module : Type 0 where
   pub name : Name
   pub decls : List Decl
   pub body : Stmt
 
-abbrev pub Program : Type 0
-Program = List Module
+abbrev pub SourceProgram : Type 0
+SourceProgram = List Module
 
 -- The lists of a tree, made of lists of their parts.
 

@@ -24,8 +24,8 @@ use Rattle.est_ast.specs.Trees.{Expr, Tick, Sig, Not, And, Or, Round, Square, Ex
 use Rattle.est_ast.specs.Trees.{Immediate, Count, Stmt, At, Form, Nothing, Pause, Halt, Emit, Sustain, Await, AwaitCase}
 use Rattle.est_ast.specs.Trees.{Present, PresentCase, Loop, LoopEach, Every, Repeat, Abort, AbortCase, WeakAbort}
 use Rattle.est_ast.specs.Trees.{Suspend, Trap, Exit, Signal, Run, Seq, Par, Group, Part, Missing, Written, Handler}
-use Rattle.est_ast.specs.Trees.{NoHandler, Handled, Stmts, NoStmts, MoreStmts, Cases, NoCases, MoreCases, Relation}
-use Rattle.est_ast.specs.Trees.{Implies, Excludes, Decl, Input, InputOutput, Output, Relations, Module, Program}
+use Rattle.est_ast.specs.Trees.{NoHandler, Handled, Stmts, NoStmts, MoreStmts, Cases, NoCases, MoreCases, NamedRelation}
+use Rattle.est_ast.specs.Trees.{Implies, Excludes, Decl, Input, InputOutput, Output, Relations, Module, SourceProgram}
 
 abbrev mutual
   pub expr_of : SigExpr → Expr
@@ -119,7 +119,7 @@ part_of q = part_in (back-Form-Await-1 q)
 abbrev pub handle_of : Option Handle → Handler
 handle_of handle = handler_in (back-Form-Trap-2 handle)
 
-abbrev pub relation_of : CodeRelation → Relation
+abbrev pub relation_of : CodeRelation → NamedRelation
 relation_of (relations.Implies cause effect) = Implies cause effect
 relation_of (relations.Excludes names) = Excludes names.items
 
@@ -132,5 +132,5 @@ decl_of (decls.Relation relations) = Relations (map relation_of relations.items)
 abbrev pub module_of : CodeModule → Module
 module_of m = record { name = m.name; decls = map decl_of m.decls.items; body = stmt_of m.body }
 
-abbrev pub program_of : CodeProgram → Program
+abbrev pub program_of : CodeProgram → SourceProgram
 program_of program = map module_of program.modules.items

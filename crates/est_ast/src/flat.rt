@@ -2,7 +2,7 @@
 
 ghost use Rattle.std.specs.Prelude.{◌≤◌, length};
 
-use est_base::{InputRelation, SigId, SignalInfo, Span, Text};
+use base_types::{InputRelation, SigId, SignalInfo, Span, Text};
 
 /// A program whose modules stand in one body. Signals are, in this order, the inputs, the inputoutputs, the
 /// outputs and the local ones, each kind in the order of the text. There are at most `Limits::SIGNALS`.

@@ -1,6 +1,6 @@
 // The tokens of a program text.
 
-use est_base::{Span, Text};
+use base_types::{Span, Text};
 
 /// A token and its place in the source: `span` has its bytes and no others.
 #[derive(Drop)]

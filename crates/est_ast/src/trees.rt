@@ -1,6 +1,6 @@
 // Source trees.
 
-use est_base::{Span, Text};
+use base_types::{Span, Text};
 
 /// A name and its place in the source.
 #[derive(Drop)]

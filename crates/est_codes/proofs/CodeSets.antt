@@ -1,6 +1,6 @@
 -- The row of a sequence.
 use Rattle.std.proofs.Common.{◌≡◌, ℕ, Bool, true, false, ◌||◌, sym, ◌∙◌}
-use Rattle.est_base.specs.Codes.{either, except, maxima}
+use Rattle.base_types.specs.Codes.{either, except, maxima}
 use Rattle.est_kernel.specs.StaticCodes.{codes_if, has_code, branch_codes}
 
 -- the codes of a resumed sequence, from those of its parts

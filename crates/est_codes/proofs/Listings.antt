@@ -2,15 +2,15 @@
 use Rattle.std.proofs.Common.{◌≡◌, ◌<◌, List, [], ◌∷◌, ◌++◌, length, drop, map, refl, sym, ap, ◌∙◌, subst, arith, append_assoc, length-append}
 use Rattle.std.proofs.Math.ListN.{set}
 use Rattle.std.proofs.lemmas.List.{map-append, length-map}
-use Rattle.facts.proofs.Lists.{map-set-append}
-use Rattle.est_base.specs.CodeSet.{members}
+use Rattle.base_facts.proofs.Lists.{map-set-append}
+use Rattle.base_types.specs.CodeSet.{members}
 use Rattle.est_kernel.specs.Terms.{Term, Nothing, Pause, Emit, Exit, Present, Suspend, Seq, Loop, Par, Trap, Local, Awake}
 use Rattle.est_kernel.specs.StaticCodes.{started_codes, resumed_codes, instant_loops}
 use Rattle.est_kernel.specs.Preorder.{preorder}
 use Rattle.est_codes.specs.declared.entries.Entry.{Entry}
 use Rattle.est_codes.specs.declared.walk.Found.{Found}
 use Rattle.est_codes.specs.Entries.{HasCodesOf, Lists, ListsParts}
-use Rattle.est_codes.specs.Faults.{IsLeast}
+use Rattle.est_codes.specs.Faults.{IsLeastSpan}
 
 -- the place of a statement lies before the entries of its parts
 at_in : {A B : Type 0} (f : A → B) (old end : List A) (x : A) (rest : List B)
@@ -91,7 +91,7 @@ pub listed_two : (old mid end : List Entry) (first second found : Found) (entry 
     → drop 1 (preorder t) ≡ preorder p ++ preorder q
     → found.entry ≡ entry
     → HasCodesOf entry t
-    → IsLeast found.least (instant_loops t)
+    → IsLeastSpan found.least (instant_loops t)
     → ListsParts old end found t
 listed_two old mid end first second found entry p q t one two order same codes least = record {
   started = two_put (λ e. members e.started) started_codes old mid end p q one.started two.started

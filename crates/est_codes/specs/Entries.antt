@@ -1,13 +1,13 @@
 -- Inner: what the walk over a body keeps.
 use Rattle.std.specs.Prelude.{◌≡◌, ◌<◌, List, ◌++◌, drop, map, ⊤}
-use Rattle.est_base.specs.CodeSet.{members}
+use Rattle.base_types.specs.CodeSet.{members}
 use Rattle.est_kernel.specs.Terms.{Term, Nothing, Pause, Emit, Exit, Present, Suspend, Seq, Loop, Par, Trap, Local}
 use Rattle.est_kernel.specs.Terms.{Awake}
 use Rattle.est_kernel.specs.StaticCodes.{started_codes, resumed_codes, instant_loops}
 use Rattle.est_kernel.specs.Preorder.{preorder}
 use Rattle.est_codes.specs.declared.entries.Entry.{Entry}
 use Rattle.est_codes.specs.declared.walk.Found.{Found}
-use Rattle.est_codes.specs.Faults.{IsLeast}
+use Rattle.est_codes.specs.Faults.{IsLeastSpan}
 
 -- the entry has the codes of the statement
 pub record HasCodesOf (entry : Entry) (p : Term) : Type 0 where
@@ -37,7 +37,7 @@ pub record Lists (old new : List Entry) (found : Found) (p : Term) : Type 0 wher
   pub resumed : map (λ entry. members entry.resumed) new
       ≡ map (λ entry. members entry.resumed) old ++ map resumed_codes (preorder p)
   pub entry : HasCodesOf found.entry p
-  pub least : IsLeast found.least (instant_loops p)
+  pub least : IsLeastSpan found.least (instant_loops p)
 
 -- the same of all in the statement but itself: the entry of the statement stands before theirs
 pub record ListsParts (old new : List Entry) (found : Found) (p : Term) : Type 0 where
@@ -46,4 +46,4 @@ pub record ListsParts (old new : List Entry) (found : Found) (p : Term) : Type 0
   pub resumed : map (λ entry. members entry.resumed) new
       ≡ map (λ entry. members entry.resumed) old ++ map resumed_codes (drop 1 (preorder p))
   pub entry : HasCodesOf found.entry p
-  pub least : IsLeast found.least (instant_loops p)
+  pub least : IsLeastSpan found.least (instant_loops p)

@@ -1,6 +1,6 @@
 -- To believe: when a body is refused, and for which of its loops.
 use Rattle.std.specs.Prelude.{◌≡◌, ◌≤◌, List, [], Option, Some, None, All, Contains, ⊤}
-use Rattle.est_base.specs.declared.place.Span.{Span}
+use Rattle.base_types.specs.declared.place.Span.{Span}
 use Rattle.est_codes.specs.declared.refusal.CodeFault.{CodeFault}
 use Rattle.est_codes.specs.declared.refusal.CodeFault.TheVariants.{InstantLoop, NoMemory}
 
@@ -10,11 +10,11 @@ pub record IsNotAfter (a b : Span) : Type 0 where
   pub end : a.start ≡ b.start → a.end ≤ b.end
 
 -- a place of the list that is not after any of them; no place, where the list has none
-abbrev pub IsLeast : Option Span → List Span → Type 0
-IsLeast None places = places ≡ []
-IsLeast (Some a) places = Contains places a × All (λ b. IsNotAfter a b) places
+abbrev pub IsLeastSpan : Option Span → List Span → Type 0
+IsLeastSpan None places = places ≡ []
+IsLeastSpan (Some a) places = Contains places a × All (λ b. IsNotAfter a b) places
 
 -- the fault that the places of the instantaneous loops call for
 abbrev pub FaultHasCause : List Span → CodeFault → Type 0
-FaultHasCause places (InstantLoop a) = IsLeast (Some a) places
+FaultHasCause places (InstantLoop a) = IsLeastSpan (Some a) places
 FaultHasCause places NoMemory = ⊤

@@ -1,9 +1,9 @@
 // The codes of one statement, and the list of them.
 
 ghost use Rattle.std.specs.Prelude.{◌≡◌, ◌<◌, ◌++◌, ◌∷◌, [], length, slice_set, IfOk, map};
-ghost use Rattle.est_base.specs.CodeSet.{members};
+ghost use Rattle.base_types.specs.CodeSet.{members};
 
-use est_base::{CodeSet, NoMemory};
+use base_types::{CodeSet, NoMemory};
 use std::alloc::Global;
 
 /// The codes of one statement, started and resumed.
@@ -14,8 +14,8 @@ pub(crate) struct Entry {
 }
 
 impl Entry {
-    ghost use Rattle.est_base.specs.Codes.{no_code, only};
-    ghost use Rattle.est_base.specs.CodeSet.{members};
+    ghost use Rattle.base_types.specs.Codes.{no_code, only};
+    ghost use Rattle.base_types.specs.CodeSet.{members};
 
     /// No code.
     pub(crate) fn empty() -> Entry {

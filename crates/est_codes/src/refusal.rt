@@ -3,7 +3,7 @@
 ghost use Rattle.std.specs.Prelude.{◌≡◌};
 ghost use Rattle.est_codes.specs.declared.refusal.CodeFault.TheVariants.{NoMemory as lacks_memory};
 
-use est_base::Span;
+use base_types::Span;
 use std::alloc::{AllocError, AllocFailed};
 use thiserror::Error;
 
@@ -35,10 +35,10 @@ impl<T: Drop> From<AllocFailed<T>> for CodeFault {
     }
 }
 
-impl From<est_base::NoMemory> for CodeFault {
+impl From<base_types::NoMemory> for CodeFault {
     ghost from_gives = { λ _ error. error ≡ lacks_memory };
 
-    fn from(_error: est_base::NoMemory) -> CodeFault {
+    fn from(_error: base_types::NoMemory) -> CodeFault {
         CodeFault::NoMemory
     }
 }

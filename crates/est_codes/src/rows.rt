@@ -1,15 +1,15 @@
 // The rows of the tables of static codes that combine the codes of parts.
 
 ghost use Rattle.std.specs.Prelude.{◌≡◌, ◌||◌, if◌then◌else◌};
-ghost use Rattle.est_base.specs.CodeSet.{members};
-ghost use Rattle.est_base.specs.Codes.{either, except, maxima};
-ghost use Rattle.est_base.specs.declared.place.Span.{Span};
+ghost use Rattle.base_types.specs.CodeSet.{members};
+ghost use Rattle.base_types.specs.Codes.{either, except, maxima};
+ghost use Rattle.base_types.specs.declared.place.Span.{Span};
 ghost use Rattle.est_kernel.specs.StaticCodes.{codes_if, has_code, branch_codes};
 ghost use Rattle.est_kernel.specs.Terms.{Expression, Term, Present, Suspend, Seq, Loop, Par, Trap};
 ghost use Rattle.est_codes.specs.Entries.{HasCodesOf};
 
 use crate::entries::Entry;
-use est_base::CodeSet;
+use base_types::CodeSet;
 
 impl Entry {
     /// The codes of a choice between these two branches.

@@ -1,7 +1,7 @@
 // The walk over a body that lists the codes of its statements.
 
 ghost use Rattle.std.specs.Prelude.{◌≡◌, List, [], ◌++◌, IfOk, IfErr};
-ghost use Rattle.est_base.specs.declared.place.Span.{Span};
+ghost use Rattle.base_types.specs.declared.place.Span.{Span};
 ghost use Rattle.est_kernel.specs.CodeLists.{AreCodesOf};
 ghost use Rattle.est_kernel.specs.Plain.{term_of};
 ghost use Rattle.est_kernel.specs.StaticCodes.{instant_loops, NoInstantLoop};
@@ -9,12 +9,12 @@ ghost use Rattle.est_kernel.specs.WellFormed.{KeepsLimits};
 ghost use Rattle.est_kernel.specs.Terms.{Term, Loop};
 ghost use Rattle.est_codes.specs.declared.walk.Found.{Found};
 ghost use Rattle.est_codes.specs.Entries.{ExitsFit, HasCodesOf, Lists, ListsParts};
-ghost use Rattle.est_codes.specs.Faults.{FaultHasCause, IsLeast};
+ghost use Rattle.est_codes.specs.Faults.{FaultHasCause, IsLeastSpan};
 
 use crate::entries::{Entry, resumed_sets, started_sets};
 use crate::places::lesser;
 use crate::refusal::CodeFault;
-use est_base::{NoMemory, Span};
+use base_types::{NoMemory, Span};
 use est_kernel::{Codes, Kernel};
 use std::alloc::Global;
 
@@ -83,8 +83,8 @@ impl Found {
     // Of a statement that has these codes and these parts.
     fn of_two(entry: Entry, first: Found, second: Found) -> Found
         ensures entry { result.entry ≡ entry }
-        ensures least { (a b : List Span) → IsLeast first.least a → IsLeast second.least b
-            → IsLeast result.least (a ++ b) }
+        ensures least { (a b : List Span) → IsLeastSpan first.least a → IsLeastSpan second.least b
+            → IsLeastSpan result.least (a ++ b) }
     {
         let least = lesser(first.least, second.least);
         Found { entry, least }
@@ -93,8 +93,8 @@ impl Found {
     // Of a loop over this part.
     fn of_loop(place: Span, part: Found) -> Found
         ensures entry { (p : Term) → HasCodesOf part.entry p → HasCodesOf result.entry (Loop place p) }
-        ensures least { (p : Term) → HasCodesOf part.entry p → IsLeast part.least (instant_loops p)
-            → IsLeast result.least (instant_loops (Loop place p)) }
+        ensures least { (p : Term) → HasCodesOf part.entry p → IsLeastSpan part.least (instant_loops p)
+            → IsLeastSpan result.least (instant_loops (Loop place p)) }
     {
         let least = if part.entry.started.has(0) {
             lesser(Some(place), part.least)

@@ -1,6 +1,6 @@
 -- Inner: an abortion by any delay is made in two steps.
 use Rattle.std.proofs.Common.{◌≡◌, ℕ, Bool, true, false, nat_le, cond, refl}
-use Rattle.est_base.specs.declared.place.Span.{Span}
+use Rattle.base_types.specs.declared.place.Span.{Span}
 use Rattle.est_kernel.specs.Terms as terms
 use Rattle.est_kernel.specs.Terms.{Term}
 use Rattle.est_ast.specs.FlatTrees.{Delay, Plain, Immediate, Count}

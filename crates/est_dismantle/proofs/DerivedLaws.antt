@@ -3,8 +3,8 @@ use Rattle.std.proofs.Common.{◌≡◌, ◌⊎◌, inl, inr, ℕ, ◌+◌, ◌�
 use Rattle.std.proofs.Common.{refl, sym, ◌∙◌, ap, arith}
 use Rattle.std.proofs.lemmas.Bool.{eqb-true, eqb-false}
 use Rattle.std.specs.Prelude.{option_and_then}
-use Rattle.facts.proofs.Tests.{or-false}
-use Rattle.est_base.specs.declared.place.Span.{Span}
+use Rattle.base_facts.proofs.Tests.{or-false}
+use Rattle.base_types.specs.declared.place.Span.{Span}
 use Rattle.est_kernel.specs.Laws.{left_by_step, left_after}
 use Rattle.est_kernel.specs.Statuses.{Status, Plus, Minus, Unknown, Environment, value}
 use Rattle.est_kernel.specs.Steps.{Step, ended, left_by, leaving, leaves, chosen_step, then_step, sequence_step, loop_step, parallel_step, trap_code, trap_step}

@@ -4,11 +4,11 @@ use Rattle.std.specs.Prelude.{codes, replicate}
 use Rattle.std.proofs.lemmas.List.Elements.{All-weaker}
 use Rattle.std.proofs.lemmas.List.{length-append, length-replicate, take-append-le}
 use Rattle.std.proofs.lemmas.Bool.{ltb-false}
-use Rattle.est_base.specs.declared.place.Span.{Span}
-use Rattle.est_base.specs.declared.bounds.TheConstants.Limits.{KERNEL_NODES, KERNEL_HEIGHT, TRAPS}
-use Rattle.est_base.specs.Names.{is_name, is_same_name}
-use Rattle.est_base.specs.Distinct.{all_differ}
-use Rattle.est_base.specs.Relations.{Relation, Implies, Excludes}
+use Rattle.base_types.specs.declared.place.Span.{Span}
+use Rattle.base_types.specs.declared.bounds.TheConstants.Limits.{KERNEL_NODES, KERNEL_HEIGHT, TRAPS}
+use Rattle.base_types.specs.Names.{is_name, is_same_name}
+use Rattle.base_types.specs.Distinct.{all_differ}
+use Rattle.base_types.specs.Relations.{Relation, Implies, Excludes}
 use Rattle.est_kernel.specs.Terms.{Term}
 use Rattle.est_kernel.specs.Plain.{Program}
 use Rattle.est_kernel.specs.Sizes.{size_of, height_of, trap_depth}

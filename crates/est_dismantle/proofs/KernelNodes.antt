@@ -6,9 +6,9 @@ use Rattle.std.proofs.lemmas.Bool.{le-leb, lt-leb}
 use Rattle.std.specs.declared.alloc.Global.{Global}
 use Rattle.std.specs.declared.boxed.Box.{Box}
 use Rattle.std.specs.declared.vec.Vec.{Vec}
-use Rattle.facts.proofs.Lists.{drop-at}
-use Rattle.est_base.specs.declared.indices.SigId.{SigId}
-use Rattle.est_base.specs.declared.place.Span.{Span}
+use Rattle.base_facts.proofs.Lists.{drop-at}
+use Rattle.base_types.specs.declared.indices.SigId.{SigId}
+use Rattle.base_types.specs.declared.place.Span.{Span}
 use Rattle.est_kernel.specs.Terms as terms
 use Rattle.est_kernel.specs.Terms.{Term, Expression}
 use Rattle.est_ast.specs.declared.flat.FlatCase.{FlatCase, FlatCase', FlatCase-body-None', FlatCase-body-Some', out-FlatCase}

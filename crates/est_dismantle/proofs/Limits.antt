@@ -2,8 +2,8 @@
 use Rattle.std.proofs.Common.{◌≡◌, ◌<◌, ◌≤◌, Bool, true, false, nat_lt, cond, List, [], ◌∷◌, length, Some, None, refl, sym, ◌∙◌, ap}
 use Rattle.std.proofs.Common.{subst, arith}
 use Rattle.std.proofs.lemmas.Bool.{lt-ltb, le-ltb}
-use Rattle.est_base.specs.declared.place.Span.{Span}
-use Rattle.est_base.specs.declared.bounds.TheConstants.Limits.{KERNEL_NODES, KERNEL_HEIGHT, TRAPS}
+use Rattle.base_types.specs.declared.place.Span.{Span}
+use Rattle.base_types.specs.declared.bounds.TheConstants.Limits.{KERNEL_NODES, KERNEL_HEIGHT, TRAPS}
 use Rattle.est_kernel.specs.Terms.{Term}
 use Rattle.est_kernel.specs.Sizes.{size_of, height_of, trap_depth}
 use Rattle.est_ast.specs.FlatTrees.{Flat}

@@ -1,6 +1,6 @@
 -- Inner: the measures of an expansion are those that are computed without it.
 use Rattle.std.proofs.Common.{◌≡◌, ℕ, zero, suc, ◌+◌, ◌*◌, max, Bool, true, false, nat_le, cond, List, [], ◌∷◌, length, map, refl, ◌∙◌, ap, arith}
-use Rattle.est_base.specs.declared.place.Span.{Span}
+use Rattle.base_types.specs.declared.place.Span.{Span}
 use Rattle.est_kernel.specs.Terms as terms
 use Rattle.est_kernel.specs.Terms.{Term, Expression}
 use Rattle.est_kernel.specs.Sizes.{size_of, height_of, trap_depth}

@@ -1,8 +1,8 @@
 -- Inner: a kernel program put together from what was made of a flat program's parts.
 use Rattle.std.proofs.Common.{◌≡◌, ℕ, ◌+◌, ◌-◌, ◌≤◌, List, [], ◌++◌, length, codes, sym, ◌∙◌, ap, subst, arith}
 use Rattle.std.specs.Prelude.{replicate}
-use Rattle.est_base.specs.declared.bounds.TheConstants.Limits.{KERNEL_NODES, TRAPS}
-use Rattle.est_base.specs.Relations.{Relation}
+use Rattle.base_types.specs.declared.bounds.TheConstants.Limits.{KERNEL_NODES, TRAPS}
+use Rattle.base_types.specs.Relations.{Relation}
 use Rattle.est_kernel.specs.Terms.{Term}
 use Rattle.est_kernel.specs.Plain.{Program}
 use Rattle.est_ast.specs.FlatTrees.{Flat}

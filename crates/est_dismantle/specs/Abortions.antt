@@ -1,6 +1,6 @@
 -- Inner: an abortion by any delay, in the two steps in which it is made.
 use Rattle.std.specs.Prelude.{ℕ, nat_le, if◌then◌else◌}
-use Rattle.est_base.specs.declared.place.Span.{Span}
+use Rattle.base_types.specs.declared.place.Span.{Span}
 use Rattle.est_kernel.specs.Terms as terms
 use Rattle.est_kernel.specs.Terms.{Term, Expression}
 use Rattle.est_ast.specs.FlatTrees.{Delay, Plain, Immediate, Count}

@@ -1,4 +1,5 @@
 -- Inner: kernel statements in boxes.
+-- (It is in specs/, short as it is, because a contract can cite definitions of specs/ alone.)
 use Rattle.std.specs.declared.alloc.Global.{Global}
 use Rattle.std.specs.declared.boxed.Box.{Box}
 use Rattle.est_kernel.specs.declared.statements.Kernel.{Kernel}

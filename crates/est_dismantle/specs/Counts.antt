@@ -1,7 +1,7 @@
 -- To believe: the places of counts that are 0 or above 255, in the order in which they are written.
 use Rattle.std.specs.Prelude.{ℕ, ◌&&◌, nat_le, if◌then◌else◌, List, [], ◌∷◌, ◌++◌}
-use Rattle.est_base.specs.declared.place.Span.{Span}
-use Rattle.est_base.specs.declared.bounds.TheConstants.Limits.{LEAST_COUNT, GREATEST_COUNT}
+use Rattle.base_types.specs.declared.place.Span.{Span}
+use Rattle.base_types.specs.declared.bounds.TheConstants.Limits.{LEAST_COUNT, GREATEST_COUNT}
 use Rattle.est_ast.specs.FlatTrees.{Delay, Plain, Immediate, Count, Stmt, At, Form, Nothing, Pause, Halt, Emit, Sustain}
 use Rattle.est_ast.specs.FlatTrees.{Await, AwaitCase, Present, PresentCase, Loop, LoopEach, Every, Repeat, Abort}
 use Rattle.est_ast.specs.FlatTrees.{AbortCase, WeakAbort, Suspend, Trap, Exit, Signal, Seq, Par, Part, Missing, Written}

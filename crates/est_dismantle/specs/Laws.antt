@@ -1,6 +1,6 @@
 -- Contract: laws of kernel expansion.
 use Rattle.std.specs.Prelude.{◌≡◌, ℕ, ◌+◌, ◌==◌, false, List, ◌∷◌, Some}
-use Rattle.est_base.specs.declared.place.Span.{Span}
+use Rattle.base_types.specs.declared.place.Span.{Span}
 use Rattle.est_kernel.specs.Laws.{left_after}
 use Rattle.est_kernel.specs.Plain.{Program}
 use Rattle.est_kernel.specs.Statuses.{Plus, Environment, value}

@@ -1,6 +1,6 @@
 -- Inner: the traps around a statement as a list.
 use Rattle.std.specs.Prelude.{ℕ, ◌+◌, ◌≤◌, Bool, true, false, List, [], ◌∷◌, length}
-use Rattle.est_base.specs.declared.bounds.TheConstants.Limits.{TRAPS}
+use Rattle.base_types.specs.declared.bounds.TheConstants.Limits.{TRAPS}
 use Rattle.est_dismantle.specs.declared.traps.Traps.{Traps as CodeTraps, fold-Traps}
 use Rattle.est_dismantle.specs.declared.traps.Traps.TheOpen.{Traps-F}
 use Rattle.est_dismantle.specs.Kernels.{Traps}

@@ -9,8 +9,8 @@ ghost use Rattle.est_dismantle.specs.Kernels.{aborting, awaiting, handled};
 
 use crate::events::{any_event, test_of};
 use crate::{derived as rows, terms};
+use base_types::{NoMemory, Span};
 use est_ast::{FlatCase, FlatExpr};
-use est_base::{NoMemory, Span};
 use est_kernel::{Kernel, Test};
 use std::alloc::Global;
 

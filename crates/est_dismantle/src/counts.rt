@@ -4,8 +4,8 @@ ghost use Rattle.std.specs.Prelude.{◌≡◌};
 ghost use Rattle.est_dismantle.specs.FlatNodes.{bad_of_stmt, bad_of_form, bad_of_part, bad_of_delay, bad_of_count};
 ghost use Rattle.est_dismantle.specs.FlatNodes.{bad_of_stmts, bad_of_cases, bad_of_case};
 
+use base_types::{Limits, Span};
 use est_ast::{FlatCase, FlatDelay, FlatForm, FlatStmt};
-use est_base::{Limits, Span};
 
 /// The place of the first count that is 0 or above 255, in the order in which they are written.
 #[cycle(counts)]

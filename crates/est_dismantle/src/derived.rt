@@ -18,8 +18,8 @@ ghost use Rattle.est_dismantle.specs.Kernels.{locals as spec_locals, sequence, t
 
 use crate::events::test_of;
 use crate::terms;
+use base_types::{NoMemory, SigId, Span};
 use est_ast::FlatDelay;
-use est_base::{NoMemory, SigId, Span};
 use est_kernel::{Kernel, Test};
 use std::alloc::Global;
 

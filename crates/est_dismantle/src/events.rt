@@ -6,8 +6,8 @@ ghost use Rattle.est_kernel.specs.Terms.{Expression, And, Or, Tick};
 ghost use Rattle.est_dismantle.specs.Kernels.{nested};
 ghost use Rattle.est_dismantle.specs.FlatNodes.{event_test, events_tests, any_event_test};
 
+use base_types::NoMemory;
 use est_ast::{FlatCase, FlatExpr};
-use est_base::NoMemory;
 use est_kernel::Test;
 use std::alloc::Global;
 

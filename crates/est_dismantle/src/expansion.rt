@@ -18,8 +18,8 @@ use crate::forms::{
 };
 use crate::traps::{Traps, code};
 use crate::{derived as rows, terms};
+use base_types::{NoMemory, Span};
 use est_ast::{FlatCase, FlatForm, FlatStmt};
-use est_base::{NoMemory, Span};
 use est_kernel::Kernel;
 use std::alloc::Global;
 

@@ -4,7 +4,7 @@
 // can name the form.
 
 ghost use Rattle.std.specs.Prelude.{◌≡◌, ◌+◌, ◌<◌, ◌^◌, IfOk, OnOk};
-ghost use Rattle.est_base.specs.declared.place.Span.{Span as CodeSpan};
+ghost use Rattle.base_types.specs.declared.place.Span.{Span as CodeSpan};
 ghost use Rattle.est_ast.specs.declared.flat.FlatForm.TheVariants.{Await, AwaitCase, Present, PresentCase, Loop};
 ghost use Rattle.est_ast.specs.declared.flat.FlatForm.TheVariants.{LoopEach, Every, Repeat, Abort, AbortCase};
 ghost use Rattle.est_ast.specs.declared.flat.FlatForm.TheVariants.{WeakAbort, Suspend, Trap, Signal, Seq, Par};
@@ -16,8 +16,8 @@ use crate::choices::{aborting_cases, awaiting_cases, choice_by, chosen};
 use crate::expansion::{expand, expand_cases, expand_part, expand_parts};
 use crate::traps::Traps;
 use crate::{derived as rows, terms};
+use base_types::{NoMemory, SigId, Span};
 use est_ast::{FlatCase, FlatDelay, FlatExpr, FlatStmt};
-use est_base::{NoMemory, SigId, Span};
 use est_kernel::Kernel;
 use std::alloc::Global;
 

@@ -1,7 +1,7 @@
 // From a flat program to its kernel program.
 
 ghost use Rattle.std.specs.Prelude.{◌≡◌, IfOk, MatchOption};
-ghost use Rattle.est_base.specs.Stops.{IfFault};
+ghost use Rattle.base_types.specs.Stops.{IfFault};
 ghost use Rattle.est_ast.specs.FlatPrograms.{IsFlat, IsNamed};
 ghost use Rattle.est_ast.specs.FlatViews.{flat_of};
 ghost use Rattle.est_kernel.specs.Plain.{program_of};
@@ -17,8 +17,8 @@ use crate::measure::measure;
 use crate::refusal::DismantleFault;
 use crate::signals::signals_with;
 use crate::traps::Traps;
+use base_types::{Limits, NoMemory, Stop};
 use est_ast::Flat;
-use est_base::{Limits, NoMemory, Stop};
 use est_kernel::{Kernel, KernelProgram};
 use std::alloc::Global;
 

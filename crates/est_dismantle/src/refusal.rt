@@ -1,6 +1,6 @@
 // Why a flat program has no kernel program.
 
-use est_base::Span;
+use base_types::Span;
 use thiserror::Error;
 
 /// Why `dismantle` gives no kernel program, where it does not lack memory.

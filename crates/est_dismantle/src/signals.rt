@@ -2,7 +2,7 @@
 
 ghost use Rattle.std.specs.Prelude.{◌≡◌, ◌++◌, IfOk, map, replicate, codes};
 
-use est_base::{NoMemory, SignalInfo, Text};
+use base_types::{NoMemory, SignalInfo, Text};
 use std::alloc::Global;
 
 /// These signals, and behind them so many new ones, each of the name `x`.

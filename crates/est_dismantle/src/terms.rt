@@ -6,7 +6,7 @@ ghost use Rattle.est_dismantle.specs.Boxes.{boxed_term};
 ghost use Rattle.est_kernel.specs.Terms.{Present, Suspend, Seq, Loop, Par, Trap, Local};
 ghost use Rattle.est_dismantle.specs.Kernels.{sequence as spec_sequence, parallel as spec_parallel, times};
 
-use est_base::{NoMemory, SigId, Span};
+use base_types::{NoMemory, SigId, Span};
 use est_kernel::{Kernel, Test};
 use std::alloc::Global;
 

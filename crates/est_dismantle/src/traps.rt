@@ -1,7 +1,7 @@
 // The traps around a statement, and the codes of exits.
 
 ghost use Rattle.std.specs.Prelude.{◌≡◌, ◌+◌, ◌≤◌, length};
-ghost use Rattle.est_base.specs.declared.bounds.TheConstants.Limits.{TRAPS};
+ghost use Rattle.base_types.specs.declared.bounds.TheConstants.Limits.{TRAPS};
 ghost use Rattle.est_dismantle.specs.Kernels.{exit_code};
 ghost use Rattle.est_dismantle.specs.TrapLists.{traps_of};
 

@@ -5,8 +5,8 @@ use Rattle.std.specs.Prelude.{flat_map, if◌then◌else◌}
 use Rattle.std.specs.Cmp.Lexicographic.{nat_list_eq_equiv}
 use Rattle.std.proofs.lemmas.List.{map-append, append-nil}
 use Rattle.std.proofs.lemmas.Slice.Eq.{bytes_eq-Decides}
-use Rattle.est_base.specs.Names.{is_same_name}
-use Rattle.est_base.specs.Distinct.{all_differ}
+use Rattle.base_types.specs.Names.{is_same_name}
+use Rattle.base_types.specs.Distinct.{all_differ}
 use Rattle.est_ast.specs.declared.trees.Name.{Name}
 use Rattle.est_ast.specs.Trees.{Decl, Input, InputOutput, Output, Relations}
 use Rattle.est_names.specs.declared.refusal.NameFault.TheVariants.{DuplicateSignal}

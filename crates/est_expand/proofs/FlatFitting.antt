@@ -6,21 +6,21 @@ use Rattle.std.specs.Option.{option_map, option_or}
 use Rattle.std.proofs.lemmas.Result.{IfOk-weaker}
 use Rattle.std.proofs.lemmas.List.{append-nil}
 use Rattle.std.proofs.lemmas.Bool.{eq-eqb, ltb-true, ltb-false, leb-true, leb-false}
-use Rattle.est_base.specs.declared.bounds.TheConstants.Limits.{STATEMENTS, SIGNALS}
-use Rattle.est_base.specs.declared.place.Span.{Span}
-use Rattle.est_base.specs.Names.{is_same_name}
+use Rattle.base_types.specs.declared.bounds.TheConstants.Limits.{STATEMENTS, SIGNALS}
+use Rattle.base_types.specs.declared.place.Span.{Span}
+use Rattle.base_types.specs.Names.{is_same_name}
 use Rattle.est_ast.specs.declared.trees.Name.{Name}
 use Rattle.est_ast.specs.declared.trees.Rename.{Rename}
 use Rattle.est_ast.specs.FlatTrees as flat
 use Rattle.est_ast.specs.Trees.{Expr, Tick, Sig, Not, And, Or, Round, Square, Exprs, NoExprs, MoreExprs, Delay, Plain, Immediate, Count, Stmt, At, Form}
 use Rattle.est_ast.specs.Trees.{Nothing, Pause, Halt, Emit, Sustain, Await, AwaitCase, Present, PresentCase, Loop, LoopEach, Every, Repeat, Abort, AbortCase}
 use Rattle.est_ast.specs.Trees.{WeakAbort, Suspend, Trap, Exit, Signal, Run, Seq, Par, Group, Part, Missing, Written, Handler, NoHandler, Handled, Stmts}
-use Rattle.est_ast.specs.Trees.{NoStmts, MoreStmts, Cases, NoCases, MoreCases, Module, Program}
+use Rattle.est_ast.specs.Trees.{NoStmts, MoreStmts, Cases, NoCases, MoreCases, Module, SourceProgram}
 use Rattle.est_names.specs.Names.{texts}
 use Rattle.est_expand.specs.declared.scope.Meaning.{Meaning}
-use Rattle.est_expand.specs.Faults.{Fault, EmitInput, Unbound, UnknownTrap, TooManySignals, TooManyStatements}
-use Rattle.est_expand.specs.Scopes.{Scope, meaning, binding, Formal, interface}
-use Rattle.est_expand.specs.Walks.{Met, Walk, on_ok, give, stop, after, meet_statement, meet_signals, meet_added}
+use Rattle.est_expand.specs.Faults.{FlattenFault, EmitInput, Unbound, UnknownTrap, TooManySignals, TooManyStatements}
+use Rattle.est_expand.specs.Scopes.{NameScope, meaning, binding, Formal, interface}
+use Rattle.est_expand.specs.Walks.{WalkCounts, FlatWalk, on_ok, give, stop, after, meet_statement, meet_signals, meet_added}
 use Rattle.est_expand.specs.Tests.{found_or, signal_of, test, tests, awaited}
 use Rattle.est_expand.specs.Runs.{module_named, chain_with, formal_names, renamed, opened}
 use Rattle.est_expand.specs.Flattening.{Around, in_signals, in_trap, part, each, each_case, numbers, meet_delay, traps_between, exit_of, handler, emitted, ran}
@@ -31,23 +31,24 @@ use Rattle.est_ast.specs.NewSignals.{new_by, new_in, new_in_form, new_in_part, n
 -- ---- results
 
 -- where there is a value, go on
-pub on_ok-IfOk : {A B : Type 0} (r : Result A Fault) (next : A → Result B Fault) (P : A → Type 0) (Q : B → Type 0)
+pub on_ok-IfOk : {A B : Type 0} (r : Result A FlattenFault) (next : A → Result B FlattenFault) (P : A → Type 0) (Q : B → Type 0)
     → IfOk r P → ((a : A) → P a → IfOk (next a) Q) → IfOk (on_ok r next) Q
 on_ok-IfOk (Ok a) next P Q is more = more a is
 on_ok-IfOk (Err fault) next P Q is more = tt
 
-pub found_or-IfOk : {A : Type 0} (fault : Fault) (found : Option A) (P : A → Type 0) → ((a : A) → found ≡ Some a → P a) → IfOk (found_or fault found) P
+pub found_or-IfOk : {A : Type 0} (fault : FlattenFault) (found : Option A) (P : A → Type 0) → ((a : A) → found ≡ Some a → P a) → IfOk (found_or fault found) P
 found_or-IfOk fault (Some a) P is = is a refl
 found_or-IfOk fault None P is = tt
 
-pub if-IfOk : {A : Type 0} (b : Bool) (r : Result A Fault) (fault : Fault) (P : A → Type 0) → (b ≡ true → IfOk r P) → IfOk (if b then r else Err fault) P
+pub if-IfOk : {A : Type 0} (b : Bool) (r : Result A FlattenFault) (fault : FlattenFault) (P : A → Type 0) → (b ≡ true → IfOk r P)
+    → IfOk (if b then r else Err fault) P
 if-IfOk true r fault P is = is refl
 if-IfOk false r fault P is = tt
 
 -- ---- names
 
 -- what names mean is visible
-abbrev pub SeesNames : Scope → (ℕ → Bool) → Type 0
+abbrev pub SeesNames : NameScope → (ℕ → Bool) → Type 0
 SeesNames scope visible = (name : List ℕ) (m : Meaning) → meaning scope name ≡ Some m → visible m.signal ≡ true
 
 pub sees_none : (visible : ℕ → Bool) → SeesNames [] visible
@@ -58,7 +59,7 @@ or_true true = refl
 or_true false = refl
 
 -- a name more, of a signal that is visible
-pub sees_more : (scope : Scope) (visible : ℕ → Bool) (name : List ℕ) (m : Meaning) → SeesNames scope visible → visible m.signal ≡ true →
+pub sees_more : (scope : NameScope) (visible : ℕ → Bool) (name : List ℕ) (m : Meaning) → SeesNames scope visible → visible m.signal ≡ true →
     SeesNames ((name, m) ∷ scope) visible
 sees_more scope visible name m sees shown n k is = by (is_same_name n name) is
   where
@@ -67,13 +68,13 @@ sees_more scope visible name m sees shown n k is = by (is_same_name n name) is
     by false is = sees n k is
 
 -- more is visible
-sees_above : (scope : Scope) (visible : ℕ → Bool) (s : ℕ) → SeesNames scope visible → SeesNames scope (λ t. t == s || visible t)
+sees_above : (scope : NameScope) (visible : ℕ → Bool) (s : ℕ) → SeesNames scope visible → SeesNames scope (λ t. t == s || visible t)
 sees_above scope visible s sees n k is = ap (λ b. k.signal == s || b) (sees n k is) ∙ or_true (k.signal == s)
 
 self_seen : (s : ℕ) (visible : ℕ → Bool) → (s == s || visible s) ≡ true
 self_seen s visible = ap (λ b. b || visible s) (eq-eqb s s refl)
 
-pub sees_binding : (input : Bool) (names : List (List ℕ)) (next : ℕ) (scope : Scope) (visible : ℕ → Bool) → SeesNames scope visible
+pub sees_binding : (input : Bool) (names : List (List ℕ)) (next : ℕ) (scope : NameScope) (visible : ℕ → Bool) → SeesNames scope visible
     → SeesNames (binding input names next scope) (fits.binding (numbers next names) visible)
 sees_binding input [] next scope visible sees = sees
 sees_binding input (name ∷ names) next scope visible sees =
@@ -82,13 +83,13 @@ sees_binding input (name ∷ names) next scope visible sees =
     sees_binding input names (next + 1) ((name, m) ∷ scope) more
     (sees_more scope more name m (sees_above scope visible next sees) (self_seen next visible))
 
-signal_of-IfOk : (scope : Scope) (visible : ℕ → Bool) (name : Name) → SeesNames scope visible → IfOk (signal_of scope name) (λ m. visible m.signal ≡ true)
+signal_of-IfOk : (scope : NameScope) (visible : ℕ → Bool) (name : Name) → SeesNames scope visible → IfOk (signal_of scope name) (λ m. visible m.signal ≡ true)
 signal_of-IfOk scope visible name sees = found_or-IfOk _ (meaning scope name.text) (λ m. visible m.signal ≡ true) (λ m is. sees name.text m is)
 
 -- ---- tests
 
 mutual
-  test-IfOk : (scope : Scope) (visible : ℕ → Bool) (e : Expr) → SeesNames scope visible → IfOk (test scope e) (λ f. fits.TestFits visible f)
+  test-IfOk : (scope : NameScope) (visible : ℕ → Bool) (e : Expr) → SeesNames scope visible → IfOk (test scope e) (λ f. fits.TestFits visible f)
   test-IfOk scope visible (Tick span) sees = tt
   test-IfOk scope visible (Sig name) sees =
       on_ok-IfOk (signal_of scope name) _ (λ m. visible m.signal ≡ true) _ (signal_of-IfOk scope visible name sees) (λ m is. is)
@@ -98,7 +99,7 @@ mutual
   test-IfOk scope visible (Round e) sees = on_ok-IfOk (test scope e) _ (fits.TestFits visible) _ (test-IfOk scope visible e sees) (λ f is. is)
   test-IfOk scope visible (Square e) sees = on_ok-IfOk (test scope e) _ (fits.TestFits visible) _ (test-IfOk scope visible e sees) (λ f is. is)
 
-  tests-IfOk : (scope : Scope) (visible : ℕ → Bool) (es : Exprs) → SeesNames scope visible → IfOk (tests scope es) (λ fs. fits.TestsFit visible fs)
+  tests-IfOk : (scope : NameScope) (visible : ℕ → Bool) (es : Exprs) → SeesNames scope visible → IfOk (tests scope es) (λ fs. fits.TestsFit visible fs)
   tests-IfOk scope visible NoExprs sees = tt
   tests-IfOk scope visible (MoreExprs e others) sees =
       on_ok-IfOk (test scope e) _ (fits.TestFits visible) _ (test-IfOk scope visible e sees) (λ f is.
@@ -110,7 +111,7 @@ adds (Plain event) = 0
 adds (Immediate event) = 0
 adds (Count count span event) = if nat_le count 1 then 0 else 1
 
-awaited-IfOk : (scope : Scope) (visible : ℕ → Bool) (delay : Delay) → SeesNames scope visible
+awaited-IfOk : (scope : NameScope) (visible : ℕ → Bool) (delay : Delay) → SeesNames scope visible
     → IfOk (awaited scope delay) (λ d. fits.DelayFits visible d × (new_by d ≡ adds delay))
 awaited-IfOk scope visible (Plain event) sees = on_ok-IfOk (test scope event) _ (fits.TestFits visible) _ (test-IfOk scope visible event sees)
     (λ f is. (is, refl))
@@ -137,7 +138,7 @@ traps_between-within name (trap ∷ traps) k is = by (is_same_name name trap) (t
 exit_of-IfOk : (traps : List (List ℕ)) (name : Name) → IfOk (exit_of traps name) (λ k. k < length traps)
 exit_of-IfOk traps name = found_or-IfOk _ (traps_between name.text traps) (λ k. k < length traps) (traps_between-within name.text traps)
 
-emitted-IfOk : (inputs : ℕ) (scope : Scope) (visible : ℕ → Bool) (name : Name) → SeesNames scope visible
+emitted-IfOk : (inputs : ℕ) (scope : NameScope) (visible : ℕ → Bool) (name : Name) → SeesNames scope visible
     → IfOk (emitted inputs scope name) (λ s. (visible s ≡ true) × (inputs ≤ s))
 emitted-IfOk inputs scope visible name sees =
     on_ok-IfOk (signal_of scope name) _ (λ m. visible m.signal ≡ true) _ (signal_of-IfOk scope visible name sees)
@@ -151,7 +152,8 @@ emitted-IfOk inputs scope visible name sees =
 
 -- ---- runs
 
-renamed-IfOk : (formals : List Formal) (scope given : Scope) (visible : ℕ → Bool) (renames : List Rename) → SeesNames scope visible → SeesNames given visible
+renamed-IfOk : (formals : List Formal) (scope given : NameScope) (visible : ℕ → Bool) (renames : List Rename) → SeesNames scope visible
+    → SeesNames given visible
     → IfOk (renamed formals scope given renames) (λ given. SeesNames given visible)
 renamed-IfOk formals scope given visible [] sees shows = shows
 renamed-IfOk formals scope given visible (rename ∷ renames) sees shows =
@@ -166,7 +168,7 @@ either_seen : (given here : Option Meaning) (visible : ℕ → Bool) → ((m : M
 either_seen (Some k) here visible shows sees m is = shows m is
 either_seen None here visible shows sees m is = sees m is
 
-opened-IfOk : (place : Span) (scope given inner : Scope) (visible : ℕ → Bool) (formals : List Formal) → SeesNames scope visible → SeesNames given visible →
+opened-IfOk : (place : Span) (scope given inner : NameScope) (visible : ℕ → Bool) (formals : List Formal) → SeesNames scope visible → SeesNames given visible →
     SeesNames inner visible
     → IfOk (opened place scope given inner formals) (λ inner. SeesNames inner visible)
 opened-IfOk place scope given inner visible [] sees shows holds = holds
@@ -178,14 +180,14 @@ opened-IfOk place scope given inner visible (formal ∷ formals) sees shows hold
     opened-IfOk place scope given ((formal.name, record { signal = m.signal; input = formal.input }) ∷ inner) visible formals sees shows
     (sees_more inner visible formal.name (record { signal = m.signal; input = formal.input }) holds is))
 
-any-IfOk : {A : Type 0} (r : Result A Fault) → IfOk r (λ a. ⊤)
+any-IfOk : {A : Type 0} (r : Result A FlattenFault) → IfOk r (λ a. ⊤)
 any-IfOk (Ok a) = tt
 any-IfOk (Err fault) = tt
 
 -- ---- what a walk keeps
 
 -- the signals that the environment sees have been met, and there are not too many
-pub record Begun (seen : ℕ) (met : Met) : Type 0 where
+pub record Begun (seen : ℕ) (met : WalkCounts) : Type 0 where
   pub shown : seen ≤ length met.signals
   pub few : length met.signals + met.added ≤ SIGNALS
 
@@ -195,17 +197,17 @@ Begins names all = (more : List (List ℕ)) × (all ≡ names ++ more)
 
 -- Between what was met before and after: signals are only added, so many are announced, and what is found is in its place
 -- in every program with at least the signals that have been met.
-pub record Kept (met met' : Met) (new : ℕ) (InPlace : ℕ → Type 0) : Type 0 where
+pub record Kept (met met' : WalkCounts) (new : ℕ) (InPlace : ℕ → Type 0) : Type 0 where
   pub begins : Begins met.signals met'.signals
   pub grows : length met.signals ≤ length met'.signals
   pub added : met'.added ≡ met.added + new
   pub few : length met'.signals + met'.added ≤ SIGNALS
   pub in_place : (all : ℕ) → length met'.signals ≤ all → InPlace all
 
-begun_after : (seen : ℕ) (met met' : Met) (new : ℕ) (F : ℕ → Type 0) → Begun seen met → Kept met met' new F → Begun seen met'
+begun_after : (seen : ℕ) (met met' : WalkCounts) (new : ℕ) (F : ℕ → Type 0) → Begun seen met → Kept met met' new F → Begun seen met'
 begun_after seen met met' new F begun kept = record { shown = omega (arith, begun.shown, kept.grows); few = kept.few }
 
-nothing_met : (seen : ℕ) (met : Met) (F : ℕ → Type 0) → Begun seen met → ((all : ℕ) → F all) → Kept met met 0 F
+nothing_met : (seen : ℕ) (met : WalkCounts) (F : ℕ → Type 0) → Begun seen met → ((all : ℕ) → F all) → Kept met met 0 F
 nothing_met seen met F begun is = record {
   begins = ([], sym (append-nil met.signals));
   grows = omega arith;
@@ -214,7 +216,7 @@ nothing_met seen met F begun is = record {
   in_place = λ all low. is all;
 }
 
-both : (met met' met'' : Met) (n m : ℕ) (F G : ℕ → Type 0) → Kept met met' n F → Kept met' met'' m G → Kept met met'' (n + m) (λ all. F all × G all)
+both : (met met' met'' : WalkCounts) (n m : ℕ) (F G : ℕ → Type 0) → Kept met met' n F → Kept met' met'' m G → Kept met met'' (n + m) (λ all. F all × G all)
 both met met' met'' n m F G f g = record {
   begins = (f.begins.0 ++ g.begins.0, g.begins.1 ∙ ap (λ l. l ++ g.begins.0) f.begins.1 ∙ append_assoc met.signals f.begins.0 g.begins.0);
   grows = omega (arith, f.grows, g.grows);
@@ -223,7 +225,7 @@ both met met' met'' n m F G f g = record {
   in_place = λ all low. (f.in_place all (omega (arith, g.grows, low)), g.in_place all low);
 }
 
-kept_as : (met met' : Met) (n m : ℕ) (F G : ℕ → Type 0) → Kept met met' n F → n ≡ m → ((all : ℕ) → F all → G all) → Kept met met' m G
+kept_as : (met met' : WalkCounts) (n m : ℕ) (F G : ℕ → Type 0) → Kept met met' n F → n ≡ m → ((all : ℕ) → F all → G all) → Kept met met' m G
 kept_as met met' n m F G f same as_ = record {
   begins = f.begins;
   grows = f.grows;
@@ -232,14 +234,14 @@ kept_as met met' n m F G f same as_ = record {
   in_place = λ all low. as_ all (f.in_place all low);
 }
 
-meet_added-IfOk : (seen : ℕ) (met : Met) → Begun seen met → IfOk (meet_added met) (λ d. Kept met d.1 1 (λ all. ⊤))
+meet_added-IfOk : (seen : ℕ) (met : WalkCounts) → Begun seen met → IfOk (meet_added met) (λ d. Kept met d.1 1 (λ all. ⊤))
 meet_added-IfOk seen met begun =
-    let r : Result (Unit {0} × Met) Fault = Ok (tt, record met { added = met.added + 1 }) in
+    let r : Result (Unit {0} × WalkCounts) FlattenFault = Ok (tt, record met { added = met.added + 1 }) in
     if-IfOk (nat_lt (length met.signals + met.added) SIGNALS) r TooManySignals (λ d. Kept met d.1 1 (λ all. ⊤)) (λ low.
     let few = ltb-true (length met.signals + met.added) SIGNALS low in
     record { begins = ([], sym (append-nil met.signals)); grows = omega arith; added = refl; few = omega (arith, few); in_place = λ all _. tt })
 
-meet_delay-IfOk : (seen : ℕ) (met : Met) (delay : Delay) → Begun seen met → IfOk (meet_delay delay met) (λ d. Kept met d.1 (adds delay) (λ all. ⊤))
+meet_delay-IfOk : (seen : ℕ) (met : WalkCounts) (delay : Delay) → Begun seen met → IfOk (meet_delay delay met) (λ d. Kept met d.1 (adds delay) (λ all. ⊤))
 meet_delay-IfOk seen met (Plain event) begun = nothing_met seen met (λ all. ⊤) begun (λ all. tt)
 meet_delay-IfOk seen met (Immediate event) begun = nothing_met seen met (λ all. ⊤) begun (λ all. tt)
 meet_delay-IfOk seen met (Count count span event) begun = by (nat_lt 1 count) (nat_le count 1) refl refl
@@ -258,10 +260,10 @@ numbers_local inputs seen all next (name ∷ names) low high =
     let more : next + 1 + length names ≤ all = omega (arith, high) in
     (low, omega (arith, high), numbers_local inputs seen all (next + 1) names (omega (arith, low)) more)
 
-meet_signals-IfOk : (inputs seen : ℕ) (met : Met) (names : List (List ℕ)) → Begun seen met
+meet_signals-IfOk : (inputs seen : ℕ) (met : WalkCounts) (names : List (List ℕ)) → Begun seen met
     → IfOk (meet_signals names met) (λ d. Kept met d.1 0 (λ all. fits.AreLocal inputs seen all (numbers d.0 names)))
 meet_signals-IfOk inputs seen met names begun =
-    let r : Result (ℕ × Met) Fault = Ok (length met.signals, record met { signals = met.signals ++ names }) in
+    let r : Result (ℕ × WalkCounts) FlattenFault = Ok (length met.signals, record met { signals = met.signals ++ names }) in
     if-IfOk (nat_le (length met.signals + length names + met.added) SIGNALS) r TooManySignals
     (λ d. Kept met d.1 0 (λ all. fits.AreLocal inputs seen all (numbers d.0 names))) (λ low.
     let few = leb-true (length met.signals + length names + met.added) SIGNALS low in
@@ -274,9 +276,9 @@ meet_signals-IfOk inputs seen met names begun =
       in_place = λ all high. numbers_local inputs seen all (length met.signals) names begun.shown (omega (arith, all_of, high));
     })
 
-pub meet_statement-IfOk : (met : Met) → IfOk (meet_statement met) (λ d. (d.1.signals ≡ met.signals) × (d.1.added ≡ met.added))
+pub meet_statement-IfOk : (met : WalkCounts) → IfOk (meet_statement met) (λ d. (d.1.signals ≡ met.signals) × (d.1.added ≡ met.added))
 meet_statement-IfOk met =
-    let r : Result (Unit {0} × Met) Fault = Ok (tt, record met { statements = met.statements + 1 }) in
+    let r : Result (Unit {0} × WalkCounts) FlattenFault = Ok (tt, record met { statements = met.statements + 1 }) in
     if-IfOk (nat_lt met.statements STATEMENTS) r TooManyStatements (λ d. (d.1.signals ≡ met.signals) × (d.1.added ≡ met.added)) (λ low. (refl, refl))
 
 -- ---- statements
@@ -295,19 +297,19 @@ module _ (inputs seen : ℕ) where
   sees_trap name around place sees = record { names = sees.names; traps = omega (arith, sees.traps) }
 
   -- a statement that is found keeps what a flat statement keeps
-  abbrev pub InsideFits : (Around → Stmt → Walk flat.Stmt) → Type 0
-  InsideFits inside = (around : Around) (place : fits.Scope) (p : Stmt) (met : Met) → Sees around place → Begun seen met
+  abbrev pub InsideFits : (Around → Stmt → FlatWalk flat.Stmt) → Type 0
+  InsideFits inside = (around : Around) (place : fits.Scope) (p : Stmt) (met : WalkCounts) → Sees around place → Begun seen met
       → IfOk (inside around p met) (λ d. Kept met d.1 (new_in d.0) (λ all. fits.Fits inputs seen all place d.0))
 
-  module _ (inside : Around → Stmt → Walk flat.Stmt) (keeps : InsideFits inside) (around : Around) (place : fits.Scope) (sees : Sees around place) where
-    part-IfOk : (q : Part) (met : Met) → Begun seen met → IfOk (part (inside around) q met)
+  module _ (inside : Around → Stmt → FlatWalk flat.Stmt) (keeps : InsideFits inside) (around : Around) (place : fits.Scope) (sees : Sees around place) where
+    part-IfOk : (q : Part) (met : WalkCounts) → Begun seen met → IfOk (part (inside around) q met)
         (λ d. Kept met d.1 (new_in_part d.0) (λ all. fits.PartFits inputs seen all place d.0))
     part-IfOk Missing met begun = nothing_met seen met (λ all. ⊤) begun (λ all. tt)
     part-IfOk (Written p) met begun =
         on_ok-IfOk (inside around p met) _ (λ d. Kept met d.1 (new_in d.0) (λ all. fits.Fits inputs seen all place d.0)) _ (keeps around place p met sees begun)
         (λ d is. is)
 
-    each-IfOk : (ps : Stmts) (met : Met) → Begun seen met → IfOk (each (inside around) ps met)
+    each-IfOk : (ps : Stmts) (met : WalkCounts) → Begun seen met → IfOk (each (inside around) ps met)
         (λ d. Kept met d.1 (new_in_stmts d.0) (λ all. fits.AllFit inputs seen all place d.0))
     each-IfOk NoStmts met begun = nothing_met seen met (λ all. ⊤) begun (λ all. tt)
     each-IfOk (MoreStmts p others) met begun =
@@ -316,7 +318,7 @@ module _ (inputs seen : ℕ) where
         on_ok-IfOk (each (inside around) others d.1) _ (λ e. Kept d.1 e.1 (new_in_stmts e.0) (λ all. fits.AllFit inputs seen all place e.0)) _
         (each-IfOk others d.1 (begun_after seen met d.1 _ _ begun is)) (λ e are. both met d.1 e.1 _ _ _ _ is are))
 
-    cases-IfOk : (cs : Cases) (met : Met) → Begun seen met
+    cases-IfOk : (cs : Cases) (met : WalkCounts) → Begun seen met
         → IfOk (each_case around.scope (inside around) cs met) (λ d. Kept met d.1 (new_in_cases d.0) (λ all. fits.CasesFit inputs seen all place d.0))
     cases-IfOk NoCases met begun = nothing_met seen met (λ all. ⊤) begun (λ all. tt)
     cases-IfOk (MoreCases event body others) met begun =
@@ -328,7 +330,7 @@ module _ (inputs seen : ℕ) where
         (cases-IfOk others d.1 (begun_after seen met d.1 _ _ begun is))
         (λ e are. kept_as met e.1 _ _ _ _ (both met d.1 e.1 _ _ _ _ is are) refl (λ all h. (there, h.0, h.1)))))
 
-    handler-IfOk : (name : Name) (handled : Handler) (met : Met) → Begun seen met
+    handler-IfOk : (name : Name) (handled : Handler) (met : WalkCounts) → Begun seen met
         → IfOk (handler (inside around) name handled met) (λ d. Kept met d.1 (new_in_part d.0) (λ all. fits.PartFits inputs seen all place d.0))
     handler-IfOk name NoHandler met begun = nothing_met seen met (λ all. ⊤) begun (λ all. tt)
     handler-IfOk name (Handled handled p) met begun = by (is_same_name handled.text name.text)
@@ -340,12 +342,12 @@ module _ (inputs seen : ℕ) where
             (keeps around place p met sees begun) (λ d is. is)
         by false = tt
 
-  module _ (modules : Program) (inside : Around → Stmt → Walk flat.Stmt) (keeps : InsideFits inside) where
+  module _ (modules : SourceProgram) (inside : Around → Stmt → FlatWalk flat.Stmt) (keeps : InsideFits inside) where
     -- what a row keeps
-    abbrev RowFits : fits.Scope → Met → flat.Stmt × Met → Type 0
+    abbrev RowFits : fits.Scope → WalkCounts → flat.Stmt × WalkCounts → Type 0
     RowFits place met d = Kept met d.1 (new_in d.0) (λ all. fits.Fits inputs seen all place d.0)
 
-    ran-IfOk : (around : Around) (place : fits.Scope) (name : Name) (renames : List Rename) (met : Met) → Sees around place → Begun seen met
+    ran-IfOk : (around : Around) (place : fits.Scope) (name : Name) (renames : List Rename) (met : WalkCounts) → Sees around place → Begun seen met
         → IfOk (ran modules inputs inside around name renames met) (RowFits place met)
     ran-IfOk around place name renames met sees begun =
         on_ok-IfOk (module_named modules name) _ (λ m. ⊤) _ (any-IfOk (module_named modules name)) (λ m _.
@@ -356,7 +358,7 @@ module _ (inputs seen : ℕ) where
         (opened-IfOk name.span around.scope given [] place.visible (interface m) sees.names shows (sees_none place.visible)) (λ scope holds.
         keeps (record { scope = scope; traps = []; chain = chain }) place m.body met (record { names = holds; traps = omega arith }) begun))))
 
-    row-IfOk : (around : Around) (place : fits.Scope) (at : Span) (form : Form) (met : Met) → Sees around place → Begun seen met
+    row-IfOk : (around : Around) (place : fits.Scope) (at : Span) (form : Form) (met : WalkCounts) → Sees around place → Begun seen met
         → IfOk (row modules inputs inside around at form met) (RowFits place met)
     row-IfOk around place at Nothing met sees begun = nothing_met seen met (λ all. ⊤) begun (λ all. tt)
     row-IfOk around place at Pause met sees begun = nothing_met seen met (λ all. ⊤) begun (λ all. tt)
@@ -459,7 +461,7 @@ module _ (inputs seen : ℕ) where
     row-IfOk around place at (Group p) met sees begun = keeps around place p met sees begun
 
   -- so does every statement
-  pub flattening-IfOk : (modules : Program) (room : ℕ) → InsideFits (flattening modules inputs room)
+  pub flattening-IfOk : (modules : SourceProgram) (room : ℕ) → InsideFits (flattening modules inputs room)
   unfolding flattening
   flattening-IfOk modules zero around place (At at form) met sees begun =
       on_ok-IfOk (meet_statement met) _ (λ d. ⊤) _ (any-IfOk (meet_statement met)) (λ d _. tt)

@@ -12,24 +12,24 @@ use Rattle.std.proofs.Math.Seq.{take-length}
 use Rattle.std.proofs.lemmas.List.{map-append, take-append-le}
 use Rattle.std.proofs.lemmas.List.Elements.{All-append, All-nil, All-cons, All-map}
 use Rattle.std.proofs.lemmas.List.Folds.{list_any-append}
-use Rattle.facts.proofs.Lists.{Every, all-of-every, every-append}
-use Rattle.facts.proofs.Tests.{or-swapped}
-use Rattle.est_base.specs.declared.bounds.TheConstants.Limits.{SIGNALS, DEPTH}
-use Rattle.est_base.specs.Distinct.{all_differ}
-use Rattle.est_base.specs.Names.{is_name, is_same_name}
-use Rattle.est_base.specs.Relations as flat_relations
+use Rattle.base_facts.proofs.Lists.{Every, all-of-every, every-append}
+use Rattle.base_facts.proofs.Tests.{or-swapped}
+use Rattle.base_types.specs.declared.bounds.TheConstants.Limits.{SIGNALS, DEPTH}
+use Rattle.base_types.specs.Distinct.{all_differ}
+use Rattle.base_types.specs.Names.{is_name, is_same_name}
+use Rattle.base_types.specs.Relations as flat_relations
 use Rattle.est_ast.specs.declared.trees.Name.{Name}
-use Rattle.est_ast.specs.Trees.{Relation, Implies, Excludes, Decl, Input, InputOutput, Output, Relations, Module, Program}
+use Rattle.est_ast.specs.Trees.{NamedRelation, Implies, Excludes, Decl, Input, InputOutput, Output, Relations, Module, SourceProgram}
 use Rattle.est_names.specs.declared.refusal.NameFault.{NameFault}
 use Rattle.est_names.specs.declared.refusal.NameFault.TheVariants.{DuplicateSignal, RelationName}
 use Rattle.est_names.specs.Names.{texts, is_among}
 use Rattle.est_names.specs.NameFaults.{again, declared_in, given_in, related_in, names_of_relation, not_given, decl_faults, interface_faults}
 use Rattle.est_expand.specs.declared.scope.Meaning.{Meaning}
 use Rattle.est_expand.specs.declared.refusal.ExpandFault.{ExpandFault}
-use Rattle.est_expand.specs.Answers.{Answers}
-use Rattle.est_expand.specs.Faults.{Fault, TooManySignals}
-use Rattle.est_expand.specs.Scopes.{Scope, meaning, binding, inputs_in, both_in, outputs_in, Interface, main_interface, main_signals, main_scope}
-use Rattle.est_expand.specs.Walks.{Met, beginning, meet_signals}
+use Rattle.est_expand.specs.Answers.{AnswersAsDefined}
+use Rattle.est_expand.specs.Faults.{FlattenFault, TooManySignals}
+use Rattle.est_expand.specs.Scopes.{NameScope, meaning, binding, inputs_in, both_in, outputs_in, ModuleInterface, main_interface, main_signals, main_scope}
+use Rattle.est_expand.specs.Walks.{WalkCounts, beginning, meet_signals}
 use Rattle.est_expand.specs.Flattening.{around_main, related, relation_in, relations_in, main_flattening, main_walk, flat_program, flattened, flattening}
 use Rattle.est_ast.specs.FlatFits as fits
 use Rattle.est_ast.specs.NewSignals.{new_in}
@@ -41,7 +41,7 @@ use Rattle.est_expand.proofs.FlatFitting.{on_ok-IfOk, if-IfOk, SeesNames, sees_n
 -- ---- the scope of the main module
 
 -- binders of signals below a bound
-sees_bound : (input : Bool) (names : List (List ℕ)) (next : ℕ) (scope : Scope) (bound : ℕ) → next + length names ≤ bound
+sees_bound : (input : Bool) (names : List (List ℕ)) (next : ℕ) (scope : NameScope) (bound : ℕ) → next + length names ≤ bound
     → SeesNames scope (λ s. nat_lt s bound) → SeesNames (binding input names next scope) (λ s. nat_lt s bound)
 sees_bound input [] next scope bound low sees = sees
 sees_bound input (name ∷ names) next scope bound low sees =
@@ -49,14 +49,14 @@ sees_bound input (name ∷ names) next scope bound low sees =
     sees_bound input names (next + 1) ((name, record { signal = next; input = input }) ∷ scope) bound (omega (arith, low))
     (sees_more scope below name (record { signal = next; input = input }) sees (lt-ltb next bound (omega (arith, low))))
 
-sees_main : (i : Interface) → SeesNames (main_scope i) (λ s. nat_lt s (length i.inputs + (length i.both + length i.outputs)))
+sees_main : (i : ModuleInterface) → SeesNames (main_scope i) (λ s. nat_lt s (length i.inputs + (length i.both + length i.outputs)))
 sees_main i =
     let bound = length i.inputs + (length i.both + length i.outputs) in
     sees_bound true i.inputs 0 _ bound (omega arith) (sees_bound false i.both (length i.inputs) _ bound (omega arith)
     (sees_bound false i.outputs (length i.inputs + length i.both) [] bound (omega arith) (sees_none (λ s. nat_lt s bound))))
 
 -- a name that none of the binders has
-pub binding-passes : (input : Bool) (names : List (List ℕ)) (next : ℕ) (scope : Scope) (name : List ℕ) → is_among name names ≡ false
+pub binding-passes : (input : Bool) (names : List (List ℕ)) (next : ℕ) (scope : NameScope) (name : List ℕ) → is_among name names ≡ false
     → meaning (binding input names next scope) name ≡ meaning scope name
 binding-passes input [] next scope name out = refl
 binding-passes input (n ∷ names) next scope name out =
@@ -73,7 +73,7 @@ binding-passes input (n ∷ names) next scope name out =
 abbrev IsBelow : Option Meaning → ℕ → Type 0
 IsBelow found bound = (m : Meaning) × (found ≡ Some m) × (m.signal < bound)
 
-binding-found : (input : Bool) (names : List (List ℕ)) (next : ℕ) (scope : Scope) (name : List ℕ) → is_among name names ≡ true
+binding-found : (input : Bool) (names : List (List ℕ)) (next : ℕ) (scope : NameScope) (name : List ℕ) → is_among name names ≡ true
     → IsBelow (meaning (binding input names next scope) name) (next + length names)
 binding-found input [] next scope name there = absurd (cc)
 binding-found input (n ∷ names) next scope name there =
@@ -117,11 +117,11 @@ given_among name (Output names ∷ decls) = given_among name decls
 given_among name (Relations relations ∷ decls) = given_among name decls
 
 -- such a name means a given signal
-main_scope-given : (i : Interface) (name : List ℕ) → (is_among name i.inputs || is_among name i.both) ≡ true
+main_scope-given : (i : ModuleInterface) (name : List ℕ) → (is_among name i.inputs || is_among name i.both) ≡ true
     → IsBelow (meaning (main_scope i) name) (length i.inputs + length i.both)
 main_scope-given i name there = by (is_among name i.inputs) refl there
   where
-    inner : Scope
+    inner : NameScope
     inner = binding false i.both (length i.inputs) (binding false i.outputs (length i.inputs + length i.both) [])
 
     by : (b : Bool) → is_among name i.inputs ≡ b → (is_among name i.inputs || is_among name i.both) ≡ true
@@ -162,10 +162,10 @@ each_given given (name ∷ names) none =
     by true none = refl
     by false none = absurd (cc)
 
-abbrev NamesAmong : List (List ℕ) → Relation → Type 0
+abbrev NamesAmong : List (List ℕ) → NamedRelation → Type 0
 NamesAmong given r = Every (Among given) (names_of_relation r)
 
-each_relation : (given : List (List ℕ)) (rs : List Relation) → Every (Among given) (flat_map names_of_relation rs) → Every (NamesAmong given) rs
+each_relation : (given : List (List ℕ)) (rs : List NamedRelation) → Every (Among given) (flat_map names_of_relation rs) → Every (NamesAmong given) rs
 each_relation given [] each = tt
 each_relation given (r ∷ rs) each =
     let (here, others) = each-split (Among given) (names_of_relation r) (flat_map names_of_relation rs) each in
@@ -190,7 +190,7 @@ relations_among given before (decl ∷ decls) none =
 
 -- a relation of given names is one of given signals
 module _ (main : Module) where
-  abbrev shown : Interface
+  abbrev shown : ModuleInterface
   shown = main_interface main
 
   abbrev given : List (List ℕ)
@@ -208,11 +208,11 @@ module _ (main : Module) where
   related-all [] each = tt
   related-all (name ∷ names) each = (related-below name each.0, related-all names each.1)
 
-  relation-given : (r : Relation) → NamesAmong given r → RelatesGiven bound (relation_in (main_scope shown) r)
+  relation-given : (r : NamedRelation) → NamesAmong given r → RelatesGiven bound (relation_in (main_scope shown) r)
   relation-given (Implies cause effect) each = (related-below cause each.0, related-below effect each.1.0)
   relation-given (Excludes names) each = all-of-every (λ s. s < bound) (map (related (main_scope shown)) names) (related-all names each)
 
-  relations-given : (rs : List Relation) → Every (NamesAmong given) rs → All (RelatesGiven bound) (map (relation_in (main_scope shown)) rs)
+  relations-given : (rs : List NamedRelation) → Every (NamesAmong given) rs → All (RelatesGiven bound) (map (relation_in (main_scope shown)) rs)
   relations-given [] each = All-nil (RelatesGiven bound)
   relations-given (r ∷ rs) each =
       All-cons (RelatesGiven bound) (relation_in (main_scope shown) r) (map (relation_in (main_scope shown)) rs) (relation-given r each.0)
@@ -221,14 +221,14 @@ module _ (main : Module) where
   -- ---- the program
 
   -- the signals of the main module have been met
-  record Shown (met : Met) : Type 0 where
+  record Shown (met : WalkCounts) : Type 0 where
     signals : met.signals ≡ main_signals shown
     added : met.added ≡ 0
     few : length (main_signals shown) ≤ SIGNALS
 
   meet_shown : IfOk (meet_signals (main_signals shown) beginning) (λ d. Shown d.1)
   meet_shown =
-      let r : Result (ℕ × Met) Fault = Ok (0, record beginning { signals = [] ++ main_signals shown }) in
+      let r : Result (ℕ × WalkCounts) FlattenFault = Ok (0, record beginning { signals = [] ++ main_signals shown }) in
       if-IfOk (nat_le (length (let none : List (List ℕ) = [] in none) + length (main_signals shown) + 0) SIGNALS) r TooManySignals (λ d. Shown d.1) (λ low.
       let few = leb-true (0 + length (main_signals shown) + 0) SIGNALS low in
       record { signals = refl; added = refl; few = omega (arith, few) })
@@ -244,13 +244,13 @@ module _ (main : Module) where
   place = record { visible = λ s. nat_lt s seen; traps = 0 }
 
   -- what a walk from there keeps
-  record Walked (done : flat.Stmt × Met) : Type 0 where
+  record Walked (done : flat.Stmt × WalkCounts) : Type 0 where
     interface : seen ≤ length done.1.signals
     room : length done.1.signals + new_in done.0 ≤ SIGNALS
     body : fits.Fits (length shown.inputs) seen (length done.1.signals) place done.0
     names : take seen done.1.signals ≡ main_signals shown
 
-  walked : (modules : Program) → IfOk (main_walk modules main beginning) Walked
+  walked : (modules : SourceProgram) → IfOk (main_walk modules main beginning) Walked
   walked modules =
       on_ok-IfOk (meet_signals (main_signals shown) beginning) _ (λ d. Shown d.1) Walked meet_shown (λ d met.
       let all : length d.1.signals ≡ seen = ap length met.signals ∙ length-shown in
@@ -267,7 +267,7 @@ module _ (main : Module) where
             ∙ take-length (main_signals shown);
       }) (flattening-IfOk (length shown.inputs) seen modules (DEPTH + 1) (around_main main) place main.body d.1 sees begun))
 
-  pub flattened-fits : (modules : Program) → interface_faults main.decls ≡ [] → IfOk (flattened modules main) IsFlat
+  pub flattened-fits : (modules : SourceProgram) → interface_faults main.decls ≡ [] → IfOk (flattened modules main) IsFlat
   flattened-fits modules faultless =
       on_ok-IfOk (main_walk modules main beginning) _ Walked IsFlat (walked modules) (λ done is. record {
         interface = is.interface;
@@ -277,7 +277,7 @@ module _ (main : Module) where
         differ = ap (all_differ is_same_name) is.names ∙ interface-differs given main.decls faultless;
       })
 
-  pub flattened-named : (modules : Program) → IsNamedModule main → IfOk (flattened modules main) IsNamed
+  pub flattened-named : (modules : SourceProgram) → IsNamedModule main → IfOk (flattened modules main) IsNamed
   flattened-named modules named =
       on_ok-IfOk (main_walk modules main beginning) _ Walked IsNamed (walked modules) (λ done is. record {
         name = named.name;
@@ -285,12 +285,12 @@ module _ (main : Module) where
       })
 
 -- so an answer that is the flat form keeps it too
-pub answer-named : (result : Result CodeFlat ExpandFault) (modules : Program) (main : Module) → IsNamedModule main
-    → Answers flat_of result (flattened modules main) → IfOk result (λ flat. IsNamed (flat_of flat))
+pub answer-named : (result : Result CodeFlat ExpandFault) (modules : SourceProgram) (main : Module) → IsNamedModule main
+    → AnswersAsDefined flat_of result (flattened modules main) → IfOk result (λ flat. IsNamed (flat_of flat))
 answer-named (Ok flat) modules main named is = IfOk-at_ok IsNamed is (flattened-named main modules named)
 answer-named (Err error) modules main named is = tt
 
-pub answer-fits : (result : Result CodeFlat ExpandFault) (modules : Program) (main : Module) → interface_faults main.decls ≡ []
-    → Answers flat_of result (flattened modules main) → IfOk result (λ flat. IsFlat (flat_of flat))
+pub answer-fits : (result : Result CodeFlat ExpandFault) (modules : SourceProgram) (main : Module) → interface_faults main.decls ≡ []
+    → AnswersAsDefined flat_of result (flattened modules main) → IfOk result (λ flat. IsFlat (flat_of flat))
 answer-fits (Ok flat) modules main faultless is = IfOk-at_ok IsFlat is (flattened-fits main modules faultless)
 answer-fits (Err error) modules main faultless is = tt

@@ -7,21 +7,21 @@ use Rattle.std.proofs.lemmas.List.Folds.{find_at}
 use Rattle.std.proofs.lemmas.List.Quantifiers.{position-Some}
 use Rattle.std.proofs.lemmas.Option.{slice_get-get_or, slice_get_past}
 use Rattle.std.proofs.lemmas.Bool.{ltb-false}
-use Rattle.est_base.specs.Names.{is_same_name}
+use Rattle.base_types.specs.Names.{is_same_name}
 use Rattle.est_ast.specs.declared.trees.Rename.{Rename}
-use Rattle.est_ast.specs.Trees.{Module, Program}
+use Rattle.est_ast.specs.Trees.{Module, SourceProgram}
 use Rattle.est_names.specs.Names.{is_among, place_of}
 use Rattle.est_names.specs.NameFaults.{module_names}
 use Rattle.est_names.proofs.Exports.{position-map}
 use Rattle.est_expand.specs.Faults.{BadRename}
-use Rattle.est_expand.specs.Scopes.{Scope, meaning, Formal}
+use Rattle.est_expand.specs.Scopes.{NameScope, meaning, Formal}
 use Rattle.est_expand.specs.Runs.{formal_names, renamed}
 use Rattle.est_expand.specs.Tests.{signal_of}
 use Rattle.est_expand.specs.Walks.{on_ok}
 
 -- ---- renamings
 
-pub renamed-refused : (formals : List Formal) (scope given : Scope) (renames : List Rename) (i : ℕ) (rename : Rename)
+pub renamed-refused : (formals : List Formal) (scope given : NameScope) (renames : List Rename) (i : ℕ) (rename : Rename)
     → i < length renames
     → rename ≡ get_or renames i rename
     → (is_among rename.formal.text (formal_names formals) && not (is_some (meaning given rename.formal.text))) ≡ false
@@ -31,7 +31,7 @@ renamed-refused formals scope given renames i rename low is refused =
     ∙ ap (λ b. if b then on_ok (signal_of scope rename.actual) (λ actual. renamed formals scope ((rename.formal.text, actual) ∷ given) (drop (suc i) renames))
     else Err (BadRename rename.formal.span)) refused
 
-pub renamed-allowed : (formals : List Formal) (scope given : Scope) (renames : List Rename) (i : ℕ) (rename : Rename)
+pub renamed-allowed : (formals : List Formal) (scope given : NameScope) (renames : List Rename) (i : ℕ) (rename : Rename)
     → i < length renames
     → rename ≡ get_or renames i rename
     → (is_among rename.formal.text (formal_names formals) && not (is_some (meaning given rename.formal.text))) ≡ true
@@ -66,13 +66,13 @@ pub find-None : {X : Type 0} (p : X → Bool) (xs : List X) → position p xs �
 find-None p xs none = position-none p xs (nat_lt (position_or_len p xs) (length xs)) refl none
 
 -- the module of a name, and that there is none
-pub module-Some : (modules : Program) (name : List ℕ) (k : ℕ) (d : Module) → place_of name (module_names modules) ≡ Some k
+pub module-Some : (modules : SourceProgram) (name : List ℕ) (k : ℕ) (d : Module) → place_of name (module_names modules) ≡ Some k
     → (k < length modules) × (find (λ m. is_same_name name m.name.text) modules ≡ Some (get_or modules k d))
 module-Some modules name k d found =
     let at = sym (position-map (is_same_name name) (λ (m : Module). m.name.text) modules) ∙ found in
     ((position-Some (λ m. is_same_name name m.name.text) modules k d at).0, find-Some (λ m. is_same_name name m.name.text) modules k d at)
 
-pub module-None : (modules : Program) (name : List ℕ) → place_of name (module_names modules) ≡ None
+pub module-None : (modules : SourceProgram) (name : List ℕ) → place_of name (module_names modules) ≡ None
     → find (λ m. is_same_name name m.name.text) modules ≡ None
 module-None modules name none =
     find-None (λ m. is_same_name name m.name.text) modules (sym (position-map (is_same_name name) (λ m. m.name.text) modules) ∙ none)

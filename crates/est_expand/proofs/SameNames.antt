@@ -6,17 +6,17 @@ use Rattle.std.specs.Option.{option_map, option_or}
 use Rattle.std.specs.List.{list_all}
 use Rattle.std.specs.Cmp.Lexicographic.{nat_list_eq_equiv}
 use Rattle.std.proofs.lemmas.Bool.{or_left}
-use Rattle.est_base.specs.declared.place.Span.{Span}
-use Rattle.est_base.specs.Names.{is_same_name}
-use Rattle.est_base.proofs.Exports.{same_name-is}
+use Rattle.base_types.specs.declared.place.Span.{Span}
+use Rattle.base_types.specs.Names.{is_same_name}
+use Rattle.base_types.proofs.Exports.{same_name-is}
 use Rattle.est_ast.specs.declared.trees.Name.{Name}
 use Rattle.est_ast.specs.declared.trees.Rename.{Rename}
 use Rattle.est_ast.specs.FlatTrees as flat
-use Rattle.est_ast.specs.Trees.{Expr, Exprs, Delay, Module, Program}
+use Rattle.est_ast.specs.Trees.{Expr, Exprs, Delay, Module, SourceProgram}
 use Rattle.est_names.specs.Names.{is_among}
 use Rattle.est_expand.specs.declared.scope.Meaning.{Meaning}
-use Rattle.est_expand.specs.Faults.{Fault, UnknownModule, BadRename, UnknownSignal, Unbound, UnknownTrap, EmitInput}
-use Rattle.est_expand.specs.Scopes.{Scope, meaning, binding, Formal, interface}
+use Rattle.est_expand.specs.Faults.{FlattenFault, UnknownModule, BadRename, UnknownSignal, Unbound, UnknownTrap, EmitInput}
+use Rattle.est_expand.specs.Scopes.{NameScope, meaning, binding, Formal, interface}
 use Rattle.est_expand.specs.Walks.{on_ok}
 use Rattle.est_expand.specs.Tests.{found_or, signal_of, test, tests, awaited}
 use Rattle.est_expand.specs.Runs.{module_named, formal_names, renamed, opened}
@@ -28,33 +28,33 @@ use Rattle.est_expand.specs.Renaming.{without_formal, BothAre}
 
 -- ---- results
 
-pub on_ok-both : {A B C D : Type 0} (R : A → B → Type 0) (Q : C → D → Type 0) (r : Result A Fault) (s : Result B Fault)
-    (next : A → Result C Fault) (more : B → Result D Fault)
+pub on_ok-both : {A B C D : Type 0} (R : A → B → Type 0) (Q : C → D → Type 0) (r : Result A FlattenFault) (s : Result B FlattenFault)
+    (next : A → Result C FlattenFault) (more : B → Result D FlattenFault)
     → BothAre R r s → ((a : A) (b : B) → R a b → BothAre Q (next a) (more b)) → BothAre Q (on_ok r next) (on_ok s more)
 on_ok-both R Q (Ok a) (Ok b) next more same on = on a b same
 on_ok-both R Q (Ok a) (Err g) next more same on = absurd same
 on_ok-both R Q (Err f) (Ok b) next more same on = absurd same
 on_ok-both R Q (Err f) (Err g) next more same on = same
 
-both-weaker : {A B : Type 0} (R Q : A → B → Type 0) (r : Result A Fault) (s : Result B Fault)
+both-weaker : {A B : Type 0} (R Q : A → B → Type 0) (r : Result A FlattenFault) (s : Result B FlattenFault)
     → ((a : A) (b : B) → R a b → Q a b) → BothAre R r s → BothAre Q r s
 both-weaker R Q (Ok a) (Ok b) weaker same = weaker a b same
 both-weaker R Q (Ok a) (Err g) weaker same = same
 both-weaker R Q (Err f) (Ok b) weaker same = same
 both-weaker R Q (Err f) (Err g) weaker same = same
 
-pub both-refl : {A : Type 0} (r : Result A Fault) → BothAre (λ a b. a ≡ b) r r
+pub both-refl : {A : Type 0} (r : Result A FlattenFault) → BothAre (λ a b. a ≡ b) r r
 both-refl (Ok a) = refl
 both-refl (Err f) = refl
 
-found_or-both : {A : Type 0} (f g : Fault) (o p : Option A) → without_formal f ≡ without_formal g → o ≡ p
+found_or-both : {A : Type 0} (f g : FlattenFault) (o p : Option A) → without_formal f ≡ without_formal g → o ≡ p
     → BothAre (λ a b. a ≡ b) (found_or f o) (found_or g p)
 found_or-both f g (Some a) (Some b) fault same = cc
 found_or-both f g (Some a) None fault same = absurd (cc)
 found_or-both f g None (Some b) fault same = absurd (cc)
 found_or-both f g None None fault same = fault
 
-pub if-both : {A B : Type 0} (R : A → B → Type 0) (b c : Bool) (r : Result A Fault) (s : Result B Fault) (f g : Fault)
+pub if-both : {A B : Type 0} (R : A → B → Type 0) (b c : Bool) (r : Result A FlattenFault) (s : Result B FlattenFault) (f g : FlattenFault)
     → without_formal f ≡ without_formal g → b ≡ c → BothAre R r s → BothAre R (if b then r else Err f) (if c then s else Err g)
 if-both R true true r s f g fault is same = same
 if-both R true false r s f g fault is same = absurd (cc)
@@ -157,16 +157,16 @@ nearest_beside f x y names others pairs all = first (f (x, y)) (list_all f pairs
 -- ---- scopes
 
 -- names that are the same mean the same
-abbrev pub Agree : Pairs → Scope → Scope → Type 0
+abbrev pub Agree : Pairs → NameScope → NameScope → Type 0
 Agree pairs scope other = (a b : List ℕ) → are_same pairs a b ≡ true → meaning scope a ≡ meaning other b
 
 pub agree-none : Agree [] [] []
 agree-none a b is = refl
 
-pub agree-self : (scope : Scope) → Agree [] scope scope
+pub agree-self : (scope : NameScope) → Agree [] scope scope
 agree-self scope a b is = ap (meaning scope) (same_name-is a b is)
 
-agree-more : (pairs : Pairs) (scope other : Scope) (x y : List ℕ) (m n : Meaning) → m ≡ n → Agree pairs scope other
+agree-more : (pairs : Pairs) (scope other : NameScope) (x y : List ℕ) (m n : Meaning) → m ≡ n → Agree pairs scope other
     → Agree ((x, y) ∷ pairs) ((x, m) ∷ scope) ((y, n) ∷ other)
 agree-more pairs scope other x y m n same agree a b is = by (is_same_name a x) (is_same_name b y) is
   where
@@ -180,7 +180,7 @@ agree-more pairs scope other x y m n same agree a b is = by (is_same_name a x) (
 abbrev meant : Bool → ℕ → Meaning
 meant input s = record { signal = s; input = input }
 
-pub agree-binding : (pairs : Pairs) (input : Bool) (names others : List (List ℕ)) (next more : ℕ) (scope other : Scope) → length names ≡ length others →
+pub agree-binding : (pairs : Pairs) (input : Bool) (names others : List (List ℕ)) (next more : ℕ) (scope other : NameScope) → length names ≡ length others →
     next ≡ more
     → Agree pairs scope other → Agree (beside names others pairs) (binding input names next scope) (binding input others more other)
 agree-binding pairs input [] [] next more scope other long same agree = agree
@@ -226,7 +226,7 @@ exit_of-both pairs traps others n m agree same =
 
 -- ---- signals and tests
 
-module _ (pairs : Pairs) (scope other : Scope) (agree : Agree pairs scope other) where
+module _ (pairs : Pairs) (scope other : NameScope) (agree : Agree pairs scope other) where
   signal_of-both : (n m : Name) → SameName pairs n m → BothAre (λ a b. a ≡ b) (signal_of scope n) (signal_of other m)
   signal_of-both n m same =
       found_or-both (UnknownSignal n.span) (UnknownSignal m.span) (meaning scope n.text) (meaning other m.text) (ap UnknownSignal same.place)
@@ -282,10 +282,10 @@ abbrev pub renamed_names : List Rename → List (List ℕ)
 renamed_names renames = map (λ r. r.formal.text) renames
 
 -- what is in the one scope, and these names, are in the other
-abbrev Keeps : List (List ℕ) → Scope → Scope → Type 0
+abbrev Keeps : List (List ℕ) → NameScope → NameScope → Type 0
 Keeps names given inner = (a : List ℕ) → (is_among a names || is_some (meaning given a)) ≡ true → is_some (meaning inner a) ≡ true
 
-keeps-more : (x : List ℕ) (m : Meaning) (names : List (List ℕ)) (given inner : Scope) → Keeps names ((x, m) ∷ given) inner → Keeps (x ∷ names) given inner
+keeps-more : (x : List ℕ) (m : Meaning) (names : List (List ℕ)) (given inner : NameScope) → Keeps names ((x, m) ∷ given) inner → Keeps (x ∷ names) given inner
 keeps-more x m names given inner keeps a there = keeps a (by (is_same_name a x) (is_among a names) (meaning given a) there)
   where
     or_true : (b : Bool) → (b || true) ≡ true
@@ -296,8 +296,8 @@ keeps-more x m names given inner keeps a there = keeps a (by (is_same_name a x) 
     by true b o there = or_true b
     by false b o there = there
 
-module _ (formals signals : Pairs) (scope other : Scope) (agree : Agree signals scope other) where
-  given-more : (given given' : Scope) (x y : List ℕ) (a b : Meaning) → are_same formals x y ≡ true → a ≡ b → Agree formals given given'
+module _ (formals signals : Pairs) (scope other : NameScope) (agree : Agree signals scope other) where
+  given-more : (given given' : NameScope) (x y : List ℕ) (a b : Meaning) → are_same formals x y ≡ true → a ≡ b → Agree formals given given'
       → Agree formals ((x, a) ∷ given) ((y, b) ∷ given')
   given-more given given' x y a b same is agrees p q are =
       ap (λ c. if c then Some a else meaning given p) (are_same-one formals p q x y are same)
@@ -305,10 +305,10 @@ module _ (formals signals : Pairs) (scope other : Scope) (agree : Agree signals 
       ∙ ap (λ k. if is_same_name q y then Some k else meaning given' q) is
 
   module _ (ms ns : List Formal) (among : (a b : List ℕ) → are_same formals a b ≡ true → is_among a (formal_names ms) ≡ is_among b (formal_names ns)) where
-    abbrev Renamed : List Rename → Scope → Scope → Scope → Type 0
+    abbrev Renamed : List Rename → NameScope → NameScope → NameScope → Type 0
     Renamed renames given g h = Agree formals g h × Keeps (renamed_names renames) given g
 
-    renamed-both : {rs ss : List Rename} → SameRenames formals signals rs ss → (given given' : Scope) → Agree formals given given'
+    renamed-both : {rs ss : List Rename} → SameRenames formals signals rs ss → (given given' : NameScope) → Agree formals given given'
         → BothAre (Renamed rs given) (renamed ms scope given rs) (renamed ns other given' ss)
     renamed-both BothNoRenames given given' agrees = (agrees, λ a there. there)
     renamed-both (BothMoreRenames {r = r} {s = s} {rs = rs} {ss = ss} formal actual others) given given' agrees =
@@ -327,10 +327,10 @@ module _ (formals signals : Pairs) (scope other : Scope) (agree : Agree signals 
 
 -- ---- the scopes of modules
 
-module _ (f g : List ℕ × List ℕ → Bool) (place : Span) (scope other given given' : Scope)
+module _ (f g : List ℕ × List ℕ → Bool) (place : Span) (scope other given given' : NameScope)
     (means : (a b : List ℕ) → f (a, b) ≡ true → g (a, b) ≡ true → option_or (meaning given a) (meaning scope a) ≡
     option_or (meaning given' b) (meaning other b)) where
-  opened-both : (ms ns : List Formal) (pairs : Pairs) (inner inner' : Scope) → map (λ formal. formal.input) ms ≡ map (λ formal. formal.input) ns
+  opened-both : (ms ns : List Formal) (pairs : Pairs) (inner inner' : NameScope) → map (λ formal. formal.input) ms ≡ map (λ formal. formal.input) ns
       → list_all f (beside (formal_names ms) (formal_names ns) pairs) ≡ true → list_all g (beside (formal_names ms) (formal_names ns) pairs) ≡ true
       → Agree pairs inner inner'
       → BothAre (Agree (beside (formal_names ms) (formal_names ns) pairs)) (opened place scope given inner ms) (opened place other given' inner' ns)
@@ -358,12 +358,12 @@ formal_means None s t true d either given here = let no : false ≡ true = given
 formal_means None s t false d either given here = here either
 
 -- what follows the scopes of two runs that are the same
-pub run-both : {C D : Type 0} (Q : C → D → Type 0) (next : Scope → Result C Fault) (more : Scope → Result D Fault)
-    (signals : Pairs) (place : Span) (scope other : Scope) (m n : Module) (rs ss : List Rename) → Agree signals scope other
+pub run-both : {C D : Type 0} (Q : C → D → Type 0) (next : NameScope → Result C FlattenFault) (more : NameScope → Result D FlattenFault)
+    (signals : Pairs) (place : Span) (scope other : NameScope) (m n : Module) (rs ss : List Rename) → Agree signals scope other
     → map (λ formal. formal.input) (interface m) ≡ map (λ formal. formal.input) (interface n)
     → list_all (λ pair. are_same (both_formals m n) pair.0 pair.1) (both_formals m n) ≡ true
     → SameRun signals m n rs ss
-    → ((inner within : Scope) → Agree (both_formals m n) inner within → BothAre Q (next inner) (more within))
+    → ((inner within : NameScope) → Agree (both_formals m n) inner within → BothAre Q (next inner) (more within))
     → BothAre Q
     (on_ok (renamed (interface m) scope [] rs) (λ given. on_ok (opened place scope given [] (interface m)) next))
     (on_ok (renamed (interface n) other [] ss) (λ given. on_ok (opened place other given [] (interface n)) more))
@@ -399,7 +399,7 @@ run-both Q next more signals place scope other m n rs ss agree inputs formals ru
 
 -- ---- modules
 
-module _ (modules others : Program) where
+module _ (modules others : SourceProgram) where
   -- both modules of a name are found, or none is
   abbrev FoundBoth : Option Module → Option Module → Type 0
   FoundBoth (Some m) (Some n) = SameModule modules others m n
@@ -407,7 +407,7 @@ module _ (modules others : Program) where
   FoundBoth None (Some n) = ⊥
   FoundBoth None None = Unit {0}
 
-  find-both : (name : List ℕ) {ms ns : Program} → SameModules modules others ms ns
+  find-both : (name : List ℕ) {ms ns : SourceProgram} → SameModules modules others ms ns
       → FoundBoth (find (λ m. is_same_name name m.name.text) ms) (find (λ m. is_same_name name m.name.text) ns)
   find-both name BothNoModules = tt
   find-both name (BothMoreModules {m = m} {n = n} {ms = ms} {ns = ns} same more) =

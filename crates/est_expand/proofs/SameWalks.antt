@@ -4,16 +4,16 @@ use Rattle.std.proofs.Common.{◌≡◌, ℕ, zero, suc, ◌+◌, ◌≤◌, Boo
 use Rattle.std.proofs.Common.{length-append, take}
 use Rattle.std.specs.Prelude.{nat_le, if◌then◌else◌}
 use Rattle.std.proofs.lemmas.List.{take-append-le, length-map}
-use Rattle.est_base.specs.declared.bounds.TheConstants.Limits.{STATEMENTS, SIGNALS, DEPTH}
-use Rattle.est_base.specs.declared.place.Span.{Span}
-use Rattle.est_base.specs.Names.{is_same_name}
+use Rattle.base_types.specs.declared.bounds.TheConstants.Limits.{STATEMENTS, SIGNALS, DEPTH}
+use Rattle.base_types.specs.declared.place.Span.{Span}
+use Rattle.base_types.specs.Names.{is_same_name}
 use Rattle.est_ast.specs.declared.trees.Name.{Name}
 use Rattle.est_ast.specs.FlatTrees as flat
-use Rattle.est_ast.specs.Trees.{Delay, Stmt, Form, Part, Handler, Stmts, Cases, Module, Program}
+use Rattle.est_ast.specs.Trees.{Delay, Stmt, Form, Part, Handler, Stmts, Cases, Module, SourceProgram}
 use Rattle.est_names.specs.Names.{texts}
 use Rattle.est_expand.specs.Faults.{UnknownTrap, TooManySignals, TooManyStatements}
-use Rattle.est_expand.specs.Scopes.{interface, Interface, main_interface, main_signals, main_scope}
-use Rattle.est_expand.specs.Walks.{Met, beginning, Walk, give, stop, after, meet_statement, meet_signals, meet_added}
+use Rattle.est_expand.specs.Scopes.{interface, ModuleInterface, main_interface, main_signals, main_scope}
+use Rattle.est_expand.specs.Walks.{WalkCounts, beginning, FlatWalk, give, stop, after, meet_statement, meet_signals, meet_added}
 use Rattle.est_expand.specs.Tests.{test, awaited}
 use Rattle.est_expand.specs.Runs.{module_named, chain_with}
 use Rattle.est_expand.specs.Flattening.{Around, in_signals, in_trap, part, each, each_case, numbers, meet_delay, exit_of, handler, emitted, row, flattening}
@@ -33,7 +33,7 @@ ap_two f a a' b b' p q = ap (λ x. f x b) p ∙ ap (f a') q
 -- ---- what is met
 
 -- The same was met but for the names of local signals. The interface has so many.
-pub record Alike (seen : ℕ) (met other : Met) : Type 0 where
+pub record Alike (seen : ℕ) (met other : WalkCounts) : Type 0 where
   pub statements : met.statements ≡ other.statements
   pub added : met.added ≡ other.added
   pub count : length met.signals ≡ length other.signals
@@ -42,11 +42,11 @@ pub record Alike (seen : ℕ) (met other : Met) : Type 0 where
 
 module _ (seen : ℕ) where
   -- two walks gave the same
-  abbrev pub Done : {A : Type 0} → A × Met → A × Met → Type 0
+  abbrev pub Done : {A : Type 0} → A × WalkCounts → A × WalkCounts → Type 0
   Done d e = (d.0 ≡ e.0) × Alike seen d.1 e.1
 
-  abbrev pub AlikeWalks : {A : Type 0} → Walk A → Walk A → Type 0
-  AlikeWalks walk more = (met other : Met) → Alike seen met other → BothAre Done (walk met) (more other)
+  abbrev pub AlikeWalks : {A : Type 0} → FlatWalk A → FlatWalk A → Type 0
+  AlikeWalks walk more = (met other : WalkCounts) → Alike seen met other → BothAre Done (walk met) (more other)
 
   meet_statement-alike : AlikeWalks meet_statement meet_statement
   meet_statement-alike met other is =
@@ -118,14 +118,14 @@ around_traps b around other n m is = record {
 
 -- ---- statements
 
-module _ (modules others : Program) (seen : ℕ) where
+module _ (modules others : SourceProgram) (seen : ℕ) where
   -- statements that are the same give the same
-  abbrev pub InsideBoth : (Around → Stmt → Walk flat.Stmt) → (Around → Stmt → Walk flat.Stmt) → Type 0
+  abbrev pub InsideBoth : (Around → Stmt → FlatWalk flat.Stmt) → (Around → Stmt → FlatWalk flat.Stmt) → Type 0
   InsideBoth inside within =
       (b : Binders) (around other : Around) → AroundBoth b around other → (p q : Stmt) → SameStmt modules others b p q
       → AlikeWalks seen (inside around p) (within other q)
 
-  module _ (inside within : Around → Stmt → Walk flat.Stmt) (both : InsideBoth inside within) where
+  module _ (inside within : Around → Stmt → FlatWalk flat.Stmt) (both : InsideBoth inside within) where
     part-both : {b : Binders} {p q : Part} → SamePart modules others b p q → (around other : Around) → AroundBoth b around other
         → AlikeWalks seen (part (inside around) p) (part (within other) q)
     part-both BothMissing around other is met met' alike = (refl, alike)
@@ -299,13 +299,13 @@ module _ (modules others : Program) (seen : ℕ) where
 -- ---- programs
 
 -- so many signals has the interface of the main module
-abbrev seen_by : Interface → ℕ
+abbrev seen_by : ModuleInterface → ℕ
 seen_by i = length i.inputs + (length i.both + length i.outputs)
 
-abbrev Begun : ℕ → ℕ × Met → ℕ × Met → Type 0
+abbrev Begun : ℕ → ℕ × WalkCounts → ℕ × WalkCounts → Type 0
 Begun seen d e = Alike seen d.1 e.1
 
-first-both : (i : Interface) → BothAre (Begun (seen_by i)) (meet_signals (main_signals i) beginning) (meet_signals (main_signals i) beginning)
+first-both : (i : ModuleInterface) → BothAre (Begun (seen_by i)) (meet_signals (main_signals i) beginning) (meet_signals (main_signals i) beginning)
 first-both i = by (nat_le (length beginning.signals + length (main_signals i) + beginning.added) SIGNALS)
   where
     by : (b : Bool) → BothAre (Begun (seen_by i))
@@ -316,7 +316,7 @@ first-both i = by (nat_le (length beginning.signals + length (main_signals i) + 
         record { statements = refl; added = refl; count = refl; shown = omega (arith, all, length-append i.both i.outputs); names = refl }
     by false = refl
 
-pub flattened-both : (modules others : Program) (main : Module) (body : Stmt) → SamePrograms modules others
+pub flattened-both : (modules others : SourceProgram) (main : Module) (body : Stmt) → SamePrograms modules others
     → SameStmt modules others no_binders main.body body
     → BothAre SameButForNames (flattened modules main) (flattened others (record main { body = body }))
 flattened-both modules others main body programs same =

@@ -2,9 +2,9 @@
 use Rattle.std.proofs.Common.{◌≡◌, ℕ, ◌+◌, ◌-◌, ◌≤◌, Bool, true, false, List, [], ◌∷◌, map, length, refl, ap, ◌∙◌, Option, Some, None, arith}
 use Rattle.std.specs.Prelude.{if◌then◌else◌}
 use Rattle.std.specs.Option.{option_map}
-use Rattle.est_base.specs.Names.{is_same_name}
+use Rattle.base_types.specs.Names.{is_same_name}
 use Rattle.est_expand.specs.declared.scope.Meaning.{Meaning}
-use Rattle.est_expand.specs.Scopes.{Scope, meaning}
+use Rattle.est_expand.specs.Scopes.{NameScope, meaning}
 use Rattle.est_expand.specs.Counted.{Numbered}
 use Rattle.est_expand.specs.Flattening.{traps_between}
 
@@ -19,7 +19,7 @@ later (Some m) n between (low, is) =
     let e : n - 1 - m.signal + 1 ≡ n + 1 - 1 - m.signal = omega arith in
     (omega arith, ap (option_map (λ k. k + 1)) is ∙ ap Some e)
 
-pub traps_between-numbered : (traps : Scope) (name : List ℕ) → Numbered traps →
+pub traps_between-numbered : (traps : NameScope) (name : List ℕ) → Numbered traps →
     IsBetween (meaning traps name) (length traps) (traps_between name (map (λ b. b.0) traps))
 traps_between-numbered [] name numbered = refl
 traps_between-numbered (trap ∷ traps) name (number, numbered) = by (is_same_name name trap.0) (traps_between-numbered traps name numbered)

@@ -5,10 +5,10 @@
 use Rattle.std.specs.Prelude.{ℕ, zero, suc, ◌+◌, false, ◌||◌, nat_lt, if◌then◌else◌, List, [], ◌∷◌, map, flat_map}
 use Rattle.std.specs.Prelude.{length, Option, Some, None, Result, Ok, Err}
 use Rattle.std.specs.Option.{option_map, option_map_or}
-use Rattle.est_base.specs.declared.place.Span.{Span}
-use Rattle.est_base.specs.declared.bounds.TheConstants.Limits.{DEPTH}
-use Rattle.est_base.specs.Names.{is_same_name}
-use Rattle.est_base.specs.Relations as flat_relations
+use Rattle.base_types.specs.declared.place.Span.{Span}
+use Rattle.base_types.specs.declared.bounds.TheConstants.Limits.{DEPTH}
+use Rattle.base_types.specs.Names.{is_same_name}
+use Rattle.base_types.specs.Relations as flat_relations
 use Rattle.est_ast.specs.declared.trees.Name.{Name}
 use Rattle.est_ast.specs.declared.trees.Rename.{Rename}
 use Rattle.est_ast.specs.FlatTrees as flat
@@ -16,12 +16,12 @@ use Rattle.est_ast.specs.Trees.{Delay, Plain, Immediate, Count, Stmt, At, Form, 
 use Rattle.est_ast.specs.Trees.{Await, AwaitCase, Present, PresentCase, Loop, LoopEach, Every, Repeat, Abort, AbortCase}
 use Rattle.est_ast.specs.Trees.{WeakAbort, Suspend, Trap, Exit, Signal, Run, Seq, Par, Group, Part, Missing, Written}
 use Rattle.est_ast.specs.Trees.{Handler, NoHandler, Handled, Stmts, NoStmts, MoreStmts, Cases, NoCases, MoreCases}
-use Rattle.est_ast.specs.Trees.{Relation, Implies, Excludes, Decl, Input, InputOutput, Output, Relations, Module}
-use Rattle.est_ast.specs.Trees.{Program}
+use Rattle.est_ast.specs.Trees.{NamedRelation, Implies, Excludes, Decl, Input, InputOutput, Output, Relations, Module}
+use Rattle.est_ast.specs.Trees.{SourceProgram}
 use Rattle.est_names.specs.Names.{texts}
-use Rattle.est_expand.specs.Faults.{Fault, UnknownTrap, EmitInput, TooDeep}
-use Rattle.est_expand.specs.Scopes.{Scope, meaning, binding, interface, main_interface, main_signals, main_scope}
-use Rattle.est_expand.specs.Walks.{Met, beginning, Walk, on_ok, give, stop, after, knowing, meet_statement}
+use Rattle.est_expand.specs.Faults.{FlattenFault, UnknownTrap, EmitInput, TooDeep}
+use Rattle.est_expand.specs.Scopes.{NameScope, meaning, binding, interface, main_interface, main_signals, main_scope}
+use Rattle.est_expand.specs.Walks.{WalkCounts, beginning, FlatWalk, on_ok, give, stop, after, knowing, meet_statement}
 use Rattle.est_expand.specs.Walks.{meet_signals, meet_added}
 use Rattle.est_expand.specs.Tests.{found_or, signal_of, test, awaited}
 use Rattle.est_expand.specs.Runs.{module_named, chain_with, renamed, opened}
@@ -29,7 +29,7 @@ use Rattle.est_expand.specs.Runs.{module_named, chain_with, renamed, opened}
 -- What stands around a statement: what names of signals mean there; the traps of its module, the nearest first; the
 -- modules from the main one to its own.
 pub record Around : Type 0 where
-  pub scope : Scope
+  pub scope : NameScope
   pub traps : List (List ℕ)
   pub chain : List (List ℕ)
 
@@ -41,16 +41,16 @@ in_trap name around = record around { traps = name ∷ around.traps }
 
 -- ---- lists and parts, where it is known what a statement in them is
 
-abbrev pub part : (Stmt → Walk flat.Stmt) → Part → Walk flat.Part
+abbrev pub part : (Stmt → FlatWalk flat.Stmt) → Part → FlatWalk flat.Part
 part inside Missing = give flat.Missing
 part inside (Written p) = after (inside p) (λ p. give (flat.Written p))
 
-abbrev pub each : (Stmt → Walk flat.Stmt) → Stmts → Walk flat.Stmts
+abbrev pub each : (Stmt → FlatWalk flat.Stmt) → Stmts → FlatWalk flat.Stmts
 each inside NoStmts = give flat.NoStmts
 each inside (MoreStmts p others) =
     after (inside p) (λ p. after (each inside others) (λ others. give (flat.MoreStmts p others)))
 
-abbrev pub each_case : Scope → (Stmt → Walk flat.Stmt) → Cases → Walk flat.Cases
+abbrev pub each_case : NameScope → (Stmt → FlatWalk flat.Stmt) → Cases → FlatWalk flat.Cases
 each_case scope inside NoCases = give flat.NoCases
 each_case scope inside (MoreCases event body others) =
     knowing (test scope event) (λ event. after (part inside body) (λ body.
@@ -59,7 +59,7 @@ each_case scope inside (MoreCases event body others) =
 -- ---- counts, traps and what is emitted
 
 -- an abortion by a count of 2 or more will need a signal
-abbrev pub meet_delay : Delay → Walk (Unit {0})
+abbrev pub meet_delay : Delay → FlatWalk (Unit {0})
 meet_delay (Plain event) = give tt
 meet_delay (Immediate event) = give tt
 meet_delay (Count count span event) = if nat_lt 1 count then meet_added else give tt
@@ -75,11 +75,11 @@ traps_between name [] = None
 traps_between name (trap ∷ traps) =
     if is_same_name name trap then Some 0 else option_map (λ k. k + 1) (traps_between name traps)
 
-abbrev pub exit_of : List (List ℕ) → Name → Result ℕ Fault
+abbrev pub exit_of : List (List ℕ) → Name → Result ℕ FlattenFault
 exit_of traps name = found_or (UnknownTrap name.span) (traps_between name.text traps)
 
 -- the body of a handler, which stands outside the trap of this name
-abbrev pub handler : (Stmt → Walk flat.Stmt) → Name → Handler → Walk flat.Part
+abbrev pub handler : (Stmt → FlatWalk flat.Stmt) → Name → Handler → FlatWalk flat.Part
 handler inside name NoHandler = give flat.Missing
 handler inside name (Handled handled p) =
     if is_same_name handled.text name.text then after (inside p) (λ p. give (flat.Written p))
@@ -87,16 +87,16 @@ handler inside name (Handled handled p) =
 
 -- A signal that is emitted: no input of the module in which that is written, nor of the main module, whose inputs have
 -- the numbers below this one.
-abbrev pub emitted : ℕ → Scope → Name → Result ℕ Fault
+abbrev pub emitted : ℕ → NameScope → Name → Result ℕ FlattenFault
 emitted inputs scope name =
     on_ok (signal_of scope name)
     (λ s. if s.input || nat_lt s.signal inputs then Err (EmitInput name.span) else Ok s.signal)
 
 -- ---- statements, in a program of these modules whose main module has so many inputs
 
-module _ (modules : Program) (inputs : ℕ) where
+module _ (modules : SourceProgram) (inputs : ℕ) where
   -- The body of a module. It sees its formals alone, and no trap around the `run`.
-  abbrev pub ran : (Around → Stmt → Walk flat.Stmt) → Around → Name → List Rename → Walk flat.Stmt
+  abbrev pub ran : (Around → Stmt → FlatWalk flat.Stmt) → Around → Name → List Rename → FlatWalk flat.Stmt
   ran inside around name renames =
       knowing (module_named modules name) (λ m.
       knowing (chain_with around.chain name) (λ chain.
@@ -106,7 +106,7 @@ module _ (modules : Program) (inputs : ℕ) where
 
   -- A statement that has been counted, where it is known what a statement in it is. Its own signals are counted first;
   -- then its names and its parts are taken as they are written.
-  abbrev pub row : (Around → Stmt → Walk flat.Stmt) → Around → Span → Form → Walk flat.Stmt
+  abbrev pub row : (Around → Stmt → FlatWalk flat.Stmt) → Around → Span → Form → FlatWalk flat.Stmt
   row inside around at Nothing = give (flat.At at flat.Nothing)
   row inside around at Pause = give (flat.At at flat.Pause)
   row inside around at Halt = give (flat.At at flat.Halt)
@@ -160,21 +160,21 @@ module _ (modules : Program) (inputs : ℕ) where
   row inside around at (Group p) = inside around p
 
   -- A statement, where so many more may stand one in another. It is counted, and then its depth is tested.
-  unfoldable pub flattening : ℕ → Around → Stmt → Walk flat.Stmt
+  unfoldable pub flattening : ℕ → Around → Stmt → FlatWalk flat.Stmt
   flattening zero around (At at form) = after meet_statement (λ _. stop TooDeep)
   flattening (suc room) around (At at form) = after meet_statement (λ _. row (flattening room) around at form)
 
 -- ---- programs
 
 -- the signal that a name of a relation means; the check of names has found that it is one
-abbrev pub related : Scope → Name → ℕ
+abbrev pub related : NameScope → Name → ℕ
 related scope name = option_map_or (λ s. s.signal) (meaning scope name.text) 0
 
-abbrev pub relation_in : Scope → Relation → flat_relations.Relation
+abbrev pub relation_in : NameScope → NamedRelation → flat_relations.Relation
 relation_in scope (Implies cause effect) = flat_relations.Implies (related scope cause) (related scope effect)
 relation_in scope (Excludes names) = flat_relations.Excludes (map (related scope) names)
 
-abbrev pub relations_in : Decl → List Relation
+abbrev pub relations_in : Decl → List NamedRelation
 relations_in (Input names) = []
 relations_in (InputOutput names) = []
 relations_in (Output names) = []
@@ -186,17 +186,17 @@ around_main main = record { scope = main_scope (main_interface main); traps = []
 
 -- Its body stands in no statement. A statement may stand in as many as the limit on depths says, so a chain of them may
 -- have one more.
-abbrev pub main_flattening : Program → Module → Walk flat.Stmt
+abbrev pub main_flattening : SourceProgram → Module → FlatWalk flat.Stmt
 main_flattening modules main =
     flattening modules (length (main_interface main).inputs) (DEPTH + 1) (around_main main) main.body
 
 -- its signals are counted before its body
-abbrev pub main_walk : Program → Module → Walk flat.Stmt
+abbrev pub main_walk : SourceProgram → Module → FlatWalk flat.Stmt
 main_walk modules main =
     after (meet_signals (main_signals (main_interface main))) (λ _. main_flattening modules main)
 
 -- the flat program of what the walk gives
-abbrev pub flat_program : Module → flat.Stmt → Met → flat.Flat
+abbrev pub flat_program : Module → flat.Stmt → WalkCounts → flat.Flat
 flat_program main body met = record {
   name = main.name.text;
   signals = met.signals;
@@ -208,5 +208,5 @@ flat_program main body met = record {
 }
 
 -- the flat form of a program with this main module
-abbrev pub flattened : Program → Module → Result flat.Flat Fault
+abbrev pub flattened : SourceProgram → Module → Result flat.Flat FlattenFault
 flattened modules main = on_ok (main_walk modules main beginning) (λ done. Ok (flat_program main done.0 done.1))

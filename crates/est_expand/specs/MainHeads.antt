@@ -1,6 +1,6 @@
 -- Inner: what a flat program has of its main module beside its signals and its body.
 use Rattle.std.specs.Prelude.{◌≡◌, map, flat_map, length}
-use Rattle.est_base.specs.Relations.{relation_of}
+use Rattle.base_types.specs.Relations.{relation_of}
 use Rattle.est_ast.specs.Trees.{Module}
 use Rattle.est_expand.specs.declared.expansion.MainHead.{MainHead}
 use Rattle.est_expand.specs.Scopes.{main_interface, main_scope}

@@ -1,6 +1,6 @@
 -- Contract: modules whose names can be written.
 use Rattle.std.specs.Prelude.{All, IsTrue}
-use Rattle.est_base.specs.Names.{is_name}
+use Rattle.base_types.specs.Names.{is_name}
 use Rattle.est_ast.specs.Trees.{Module}
 use Rattle.est_expand.specs.Scopes.{main_interface, main_signals}
 

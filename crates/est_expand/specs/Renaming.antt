@@ -6,8 +6,8 @@
 use Rattle.std.specs.Prelude.{◌≡◌, ℕ, Bool, ◌&&◌, ◌||◌, if◌then◌else◌, List, [], ◌∷◌, map, length, take, Result, Ok}
 use Rattle.std.specs.Prelude.{Err, IsTrue}
 use Rattle.std.specs.List.{list_all}
-use Rattle.est_base.specs.declared.place.Span.{Span}
-use Rattle.est_base.specs.Names.{is_same_name}
+use Rattle.base_types.specs.declared.place.Span.{Span}
+use Rattle.base_types.specs.Names.{is_same_name}
 use Rattle.est_ast.specs.declared.trees.Name.{Name}
 use Rattle.est_ast.specs.declared.trees.Rename.{Rename}
 use Rattle.est_ast.specs.FlatTrees as flat
@@ -16,9 +16,9 @@ use Rattle.est_ast.specs.Trees.{Immediate, Count, Stmt, At, Form, Nothing, Pause
 use Rattle.est_ast.specs.Trees.{Present, PresentCase, Loop, LoopEach, Every, Repeat, Abort, AbortCase, WeakAbort}
 use Rattle.est_ast.specs.Trees.{Suspend, Trap, Exit, Signal, Run, Seq, Par, Group, Part, Missing, Written, Handler}
 use Rattle.est_ast.specs.Trees.{NoHandler, Handled, Stmts, NoStmts, MoreStmts, Cases, NoCases, MoreCases, Module}
-use Rattle.est_ast.specs.Trees.{Program}
+use Rattle.est_ast.specs.Trees.{SourceProgram}
 use Rattle.est_names.specs.Names.{texts, is_among}
-use Rattle.est_expand.specs.Faults.{Fault, Unbound}
+use Rattle.est_expand.specs.Faults.{FlattenFault, Unbound}
 use Rattle.est_ast.specs.FlatPrograms.{seen_count}
 use Rattle.est_expand.specs.Runs.{module_named, formal_names}
 use Rattle.est_expand.specs.Scopes.{interface}
@@ -106,7 +106,7 @@ pub record SameRun (signals : Pairs) (m n : Module) (renames others : List Renam
 
 -- ---- statements of two programs
 
-module _ (modules others : Program) where
+module _ (modules others : SourceProgram) where
   mutual
     pub data SameStmt : Binders → Stmt → Stmt → Type 0 where
       BothAt : {b : Binders} {f g : Form} (span : Span) → SameForm b f g → SameStmt b (At span f) (At span g)
@@ -182,13 +182,13 @@ module _ (modules others : Program) where
     pub formals : IsTrue (list_all (λ pair. are_same (both_formals m n) pair.0 pair.1) (both_formals m n))
     pub body : SameStmt (record { signals = both_formals m n; traps = [] }) m.body n.body
 
-  pub data SameModules : Program → Program → Type 0 where
+  pub data SameModules : SourceProgram → SourceProgram → Type 0 where
     BothNoModules : SameModules [] []
-    BothMoreModules : {m n : Module} {ms ns : Program} → SameModule m n → SameModules ms ns
+    BothMoreModules : {m n : Module} {ms ns : SourceProgram} → SameModule m n → SameModules ms ns
         → SameModules (m ∷ ms) (n ∷ ns)
 
 -- two programs that are the same but for the names of what their modules bind
-abbrev pub SamePrograms : Program → Program → Type 0
+abbrev pub SamePrograms : SourceProgram → SourceProgram → Type 0
 SamePrograms modules others = SameModules modules others modules others
 
 -- nothing binds here
@@ -198,12 +198,12 @@ no_binders = record { signals = []; traps = [] }
 -- ---- what flattening gives
 
 -- a fault without the name of its formal
-abbrev pub without_formal : Fault → Fault
+abbrev pub without_formal : FlattenFault → FlattenFault
 without_formal (Unbound place formal) = Unbound place []
 without_formal fault = fault
 
 -- two values that are so related, or two faults that are one but for the name of a formal
-abbrev pub BothAre : {A B : Type 0} → (A → B → Type 0) → Result A Fault → Result B Fault → Type 0
+abbrev pub BothAre : {A B : Type 0} → (A → B → Type 0) → Result A FlattenFault → Result B FlattenFault → Type 0
 BothAre R (Ok a) (Ok b) = R a b
 BothAre R (Ok a) (Err g) = ⊥
 BothAre R (Err f) (Ok b) = ⊥

@@ -5,21 +5,21 @@ use Rattle.est_ast.specs.FlatTrees as flat
 use Rattle.est_ast.specs.Trees.{Expr, Tick, Sig, Not, And, Or, Round, Square, Exprs, NoExprs, MoreExprs, Delay, Plain}
 use Rattle.est_ast.specs.Trees.{Immediate, Count}
 use Rattle.est_expand.specs.declared.scope.Meaning.{Meaning}
-use Rattle.est_expand.specs.Faults.{Fault, UnknownSignal}
-use Rattle.est_expand.specs.Scopes.{Scope, meaning}
+use Rattle.est_expand.specs.Faults.{FlattenFault, UnknownSignal}
+use Rattle.est_expand.specs.Scopes.{NameScope, meaning}
 use Rattle.est_expand.specs.Walks.{on_ok}
 
 -- what is there, or else a fault
-abbrev pub found_or : {A : Type 0} → Fault → Option A → Result A Fault
+abbrev pub found_or : {A : Type 0} → FlattenFault → Option A → Result A FlattenFault
 found_or fault (Some value) = Ok value
 found_or fault None = Err fault
 
 -- what a name of a signal means
-abbrev pub signal_of : Scope → Name → Result Meaning Fault
+abbrev pub signal_of : NameScope → Name → Result Meaning FlattenFault
 signal_of scope name = found_or (UnknownSignal name.span) (meaning scope name.text)
 
 abbrev mutual
-  pub test : Scope → Expr → Result flat.Expr Fault
+  pub test : NameScope → Expr → Result flat.Expr FlattenFault
   test scope (Tick span) = Ok (flat.Tick span)
   test scope (Sig name) = on_ok (signal_of scope name) (λ s. Ok (flat.Sig s.signal))
   test scope (Not e) = on_ok (test scope e) (λ e. Ok (flat.Not e))
@@ -28,12 +28,12 @@ abbrev mutual
   test scope (Round e) = on_ok (test scope e) (λ e. Ok (flat.Round e))
   test scope (Square e) = on_ok (test scope e) (λ e. Ok (flat.Square e))
 
-  pub tests : Scope → Exprs → Result flat.Exprs Fault
+  pub tests : NameScope → Exprs → Result flat.Exprs FlattenFault
   tests scope NoExprs = Ok flat.NoExprs
   tests scope (MoreExprs e others) =
       on_ok (test scope e) (λ e. on_ok (tests scope others) (λ others. Ok (flat.MoreExprs e others)))
 
-abbrev pub awaited : Scope → Delay → Result flat.Delay Fault
+abbrev pub awaited : NameScope → Delay → Result flat.Delay FlattenFault
 awaited scope (Plain event) = on_ok (test scope event) (λ event. Ok (flat.Plain event))
 awaited scope (Immediate event) = on_ok (test scope event) (λ event. Ok (flat.Immediate event))
 awaited scope (Count count span event) = on_ok (test scope event) (λ event. Ok (flat.Count count span event))

@@ -1,13 +1,13 @@
 // The flat program of a program.
 
 ghost use Rattle.std.specs.Prelude.{◌≡◌, ◌≤◌, ◌++◌, map, flat_map, length, slice_get, Some, IfOk, OnOk};
-ghost use Rattle.est_base.specs.Relations.{relation_of as input_relation};
+ghost use Rattle.base_types.specs.Relations.{relation_of as input_relation};
 ghost use Rattle.est_ast.specs.FlatViews.{flat_of, flat_stmt_of};
 ghost use Rattle.est_ast.specs.Trees.{Module as PlainModule};
 ghost use Rattle.est_ast.specs.Views.{program_of, module_of, decl_of, relation_of};
 ghost use Rattle.est_names.specs.NameFaults.{module_names};
 ghost use Rattle.est_names.specs.Tables.{IsTableOf};
-ghost use Rattle.est_expand.specs.Answers.{Answers};
+ghost use Rattle.est_expand.specs.Answers.{AnswersAsDefined};
 ghost use Rattle.est_ast.specs.FlatPrograms.{IsFlat, IsNamed};
 ghost use Rattle.est_expand.specs.NamedModules.{IsNamedModule};
 ghost use Rattle.est_expand.specs.Flattening.{related, relation_in, relations_in, main_flattening, flat_program};
@@ -23,9 +23,9 @@ use crate::refusal::ExpandFault;
 use crate::scope::Scope;
 use crate::traps::Traps;
 use crate::walk::walk;
+use base_types::{InputRelation, Limits, NoMemory, SigId, Text};
 use est_ast::{Decl, Flat, FlatStmt, Module, Name, Program, Relation};
-use est_base::{InputRelation, Limits, NoMemory, SigId, Text};
-use est_names::{NameSet, Table};
+use est_names::{ModuleTable, NameSet};
 use std::alloc::Global;
 
 /// The flat program of a program: the body of its main module, in which the body of a module stands for each
@@ -42,11 +42,11 @@ use std::alloc::Global;
 pub fn expand<'a>(
     alloc: Global,
     program: &'a Program,
-    table: &'a Table<'a>,
+    table: &'a ModuleTable<'a>,
 ) -> Result<Flat, ExpandFault>
     requires { IsTableOf (program_of program.now) table.now }
     ensures flattens { (main : PlainModule) → slice_get (program_of program.now) table.now.main ≡ Some main
-        → Answers flat_of result (flattened (program_of program.now) main) }
+        → AnswersAsDefined flat_of result (flattened (program_of program.now) main) }
     ensures fits { IfOk result (λ flat. IsFlat (flat_of flat)) }
     ensures named { (main : PlainModule) → slice_get (program_of program.now) table.now.main ≡ Some main
         → IsNamedModule main → IfOk result (λ flat. IsNamed (flat_of flat)) }
@@ -59,11 +59,11 @@ pub fn expand<'a>(
 fn flat_main<'a>(
     alloc: Global,
     modules: &'a [Module],
-    table: &'a Table<'a>,
+    table: &'a ModuleTable<'a>,
     main: &'a Module,
 ) -> Result<Flat, ExpandFault>
     requires { table.now.names ≡ module_names (map module_of modules.now) }
-    ensures { Answers flat_of result (flattened (map module_of modules.now) (module_of main.now)) }
+    ensures { AnswersAsDefined flat_of result (flattened (map module_of modules.now) (module_of main.now)) }
 {
     let shown = main_interface(alloc, main)?;
     let mut met = Met::nothing(alloc);
@@ -77,7 +77,7 @@ fn flat_main<'a>(
 fn main_body<'a>(
     alloc: Global,
     modules: &'a [Module],
-    table: &'a Table<'a>,
+    table: &'a ModuleTable<'a>,
     main: &'a Module,
     shown: &Interface<'a>,
     met: &mut Met,

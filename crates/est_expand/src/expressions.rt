@@ -5,18 +5,18 @@ ghost use Rattle.est_ast.specs.FlatTrees.{exprs as flat_exprs};
 ghost use Rattle.est_ast.specs.FlatViews.{flat_expr_of, flat_delay_of};
 ghost use Rattle.est_ast.specs.Trees.{exprs};
 ghost use Rattle.est_ast.specs.Views.{expr_of, delay_of};
-ghost use Rattle.est_expand.specs.Answers.{Answers};
+ghost use Rattle.est_expand.specs.Answers.{AnswersAsDefined};
 ghost use Rattle.est_expand.specs.Tests.{signal_of, test, tests, awaited};
 
 use crate::refusal::{ExpandFault, ScopeFault};
 use crate::scope::{Meaning, Scope};
+use base_types::SigId;
 use est_ast::{Delay, FlatDelay, FlatExpr, Name, SigExpr};
-use est_base::SigId;
 use std::alloc::Global;
 
 /// What a name of a signal means.
 pub fn signal(scope: &Scope, name: &Name) -> Result<Meaning, ExpandFault>
-    ensures { Answers (λ meaning. meaning) result (signal_of scope.now name.now) }
+    ensures { AnswersAsDefined (λ meaning. meaning) result (signal_of scope.now name.now) }
 {
     match scope.find(name.text.bytes()) {
         Some(meaning) => Ok(meaning),
@@ -28,7 +28,7 @@ pub fn signal(scope: &Scope, name: &Name) -> Result<Meaning, ExpandFault>
 #[cycle(tests)]
 #[inline(never)]
 pub fn flat_test(alloc: Global, scope: &Scope, e: &SigExpr) -> Result<FlatExpr, ExpandFault>
-    ensures { Answers flat_expr_of result (test scope.now (expr_of e.now)) }
+    ensures { AnswersAsDefined flat_expr_of result (test scope.now (expr_of e.now)) }
 {
     match e {
         SigExpr::Tick(span) => Ok(FlatExpr::Tick(*span)),
@@ -53,7 +53,7 @@ pub fn flat_test(alloc: Global, scope: &Scope, e: &SigExpr) -> Result<FlatExpr, 
 // Tests in a list.
 #[cycle(tests)]
 fn flat_tests(alloc: Global, scope: &Scope, parts: &[SigExpr]) -> Result<Vec<FlatExpr>, ExpandFault>
-    ensures { Answers (λ found. flat_exprs (map flat_expr_of found.items)) result
+    ensures { AnswersAsDefined (λ found. flat_exprs (map flat_expr_of found.items)) result
         (tests scope.now (exprs (map expr_of parts.now))) }
 {
     let mut found = Vec::new(alloc);
@@ -66,7 +66,7 @@ fn flat_tests(alloc: Global, scope: &Scope, parts: &[SigExpr]) -> Result<Vec<Fla
 /// A delay.
 #[inline(never)]
 pub fn flat_delay(alloc: Global, scope: &Scope, delay: &Delay) -> Result<FlatDelay, ExpandFault>
-    ensures { Answers flat_delay_of result (awaited scope.now (delay_of delay.now)) }
+    ensures { AnswersAsDefined flat_delay_of result (awaited scope.now (delay_of delay.now)) }
 {
     match delay {
         Delay::Plain(event) => Ok(FlatDelay::Plain(flat_test(alloc, scope, event)?)),

@@ -7,7 +7,7 @@ ghost use Rattle.est_ast.specs.Trees.{stmts, cases as case_list, Emit, Sustain, 
 ghost use Rattle.est_ast.specs.Trees.{PresentCase, Loop, LoopEach, Every, Repeat, Abort, AbortCase, WeakAbort, Suspend};
 ghost use Rattle.est_ast.specs.Trees.{Seq, Par};
 ghost use Rattle.est_ast.specs.Views.{stmt_of, expr_of, delay_of, part_of, case_of};
-ghost use Rattle.est_expand.specs.Answers.{Answers};
+ghost use Rattle.est_expand.specs.Answers.{AnswersAsDefined};
 ghost use Rattle.est_expand.specs.Flattening.{exit_of, emitted};
 ghost use Rattle.est_expand.specs.Views.{around_of, site_walk, TrapsFit, Walks, Gives};
 
@@ -18,8 +18,8 @@ use crate::refusal::{ExpandFault, ScopeFault};
 use crate::scope::Scope;
 use crate::traps::Traps;
 use crate::walk::{boxed, each, each_case, part};
+use base_types::{SigId, Span};
 use est_ast::{Case, Delay, FlatForm, FlatStmt, Name, SigExpr, Stmt};
-use est_base::{SigId, Span};
 use std::alloc::Global;
 
 /// `emit S`.
@@ -54,7 +54,7 @@ pub fn flat_exit(site: &Site, around: &Around, name: &Name) -> Result<FlatStmt, 
 
 // The signal that a name which is emitted means.
 fn emitted(source: &Source, scope: &Scope, name: &Name) -> Result<SigId, ExpandFault>
-    ensures { Answers (λ s. s.0) result (emitted source.now.inputs scope.now name.now) }
+    ensures { AnswersAsDefined (λ s. s.0) result (emitted source.now.inputs scope.now name.now) }
 {
     let meaning = signal(scope, name)?;
     if meaning.input || meaning.signal < source.inputs {
@@ -65,7 +65,7 @@ fn emitted(source: &Source, scope: &Scope, name: &Name) -> Result<SigId, ExpandF
 
 // How many traps stand between an exit and its trap.
 fn exit(traps: &Traps, name: &Name) -> Result<u32, ExpandFault>
-    ensures { Answers (λ k. k) result (exit_of traps.now name.now) }
+    ensures { AnswersAsDefined (λ k. k) result (exit_of traps.now name.now) }
 {
     match traps.place(name.text.bytes()) {
         Some(place) => Ok(place),

@@ -7,8 +7,8 @@ ghost use Rattle.est_expand.specs.Scopes.{formals_of, interface, inputs_in, both
 ghost use Rattle.est_expand.specs.Scopes.{main_interface, main_signals};
 ghost use Rattle.est_expand.specs.Views.{formal_of, interface_of};
 
+use base_types::NoMemory;
 use est_ast::{Decl, Module, Name};
-use est_base::NoMemory;
 use std::alloc::Global;
 
 /// A signal of an interface.

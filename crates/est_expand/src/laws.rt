@@ -1,4 +1,6 @@
-// The laws of flattening. Each call does nothing: its contract is the law.
+// The laws of flattening.
+// A function here does nothing at run time: its contract is a theorem, which a caller gets by the call. Rattle proves a
+// statement only as the contract of a function, so a law is a function that computes nothing.
 
 ghost use Rattle.est_expand.specs.Laws.{FlatFormsFit, FlatFormsAreNamed, RenamingChangesNamesAlone};
 

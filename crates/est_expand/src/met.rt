@@ -6,8 +6,8 @@ ghost use Rattle.est_expand.specs.Walks.{beginning, meet_statement, meet_signals
 ghost use Rattle.est_expand.specs.Flattening.{meet_delay};
 
 use crate::refusal::ExpandFault;
+use base_types::{Limits, NoMemory, SignalInfo, Text};
 use est_ast::Delay;
-use est_base::{Limits, NoMemory, SignalInfo, Text};
 use std::alloc::Global;
 
 /// What a walk has met: statements, signals by their numbers, and signals that counts will add.

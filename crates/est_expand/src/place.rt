@@ -6,16 +6,16 @@ ghost use Rattle.est_names.specs.NameFaults.{module_names};
 
 use crate::scope::Scope;
 use crate::traps::Traps;
+use base_types::Span;
 use est_ast::Module;
-use est_base::Span;
-use est_names::{NameSet, Table};
+use est_names::{ModuleTable, NameSet};
 
 /// A program: its modules with their table, and the number of inputs of the main module, which have the
 /// first numbers. So many more statements may stand one in another.
 #[derive(Clone, Copy)]
 pub struct Source<'a> {
     pub modules: &'a [Module],
-    pub table: &'a Table<'a>,
+    pub table: &'a ModuleTable<'a>,
     pub inputs: u32,
     pub room: u32,
     ghost named: { table.now.names ≡ module_names (map module_of modules.now) },

@@ -3,7 +3,7 @@
 ghost use Rattle.std.specs.Prelude.{◌≡◌};
 ghost use Rattle.est_expand.specs.declared.refusal.ExpandFault.TheVariants.{NoMemory as lacks_memory};
 
-use est_base::{Span, Text};
+use base_types::{Span, Text};
 use std::alloc::{AllocError, AllocFailed};
 use thiserror::Error;
 
@@ -67,10 +67,10 @@ impl<T: Drop> From<AllocFailed<T>> for ExpandFault {
     }
 }
 
-impl From<est_base::NoMemory> for ExpandFault {
+impl From<base_types::NoMemory> for ExpandFault {
     ghost from_gives = { λ _ error. error ≡ lacks_memory };
 
-    fn from(_error: est_base::NoMemory) -> ExpandFault {
+    fn from(_error: base_types::NoMemory) -> ExpandFault {
         ExpandFault::NoMemory
     }
 }

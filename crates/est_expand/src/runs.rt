@@ -4,7 +4,7 @@ ghost use Rattle.std.specs.Prelude.{◌≡◌, ℕ, List, [], ◌∷◌, ◌++�
 ghost use Rattle.std.specs.Option.{option_or};
 ghost use Rattle.est_ast.specs.Views.{module_of};
 ghost use Rattle.est_names.specs.Names.{is_among};
-ghost use Rattle.est_expand.specs.Answers.{fault_of, Answers};
+ghost use Rattle.est_expand.specs.Answers.{fault_of, AnswersAsDefined};
 ghost use Rattle.est_expand.specs.Faults.{Recursive as recursion_fault, Unbound as unbound_fault};
 ghost use Rattle.est_expand.specs.Runs.{module_named, chain_with, formal_names, renamed, opened};
 ghost use Rattle.est_expand.specs.Scopes.{meaning, interface};
@@ -17,15 +17,15 @@ use crate::interface::{Formal, formals};
 use crate::place::Source;
 use crate::refusal::{ExpandFault, ScopeFault};
 use crate::scope::{Meaning, Scope};
+use base_types::{NoMemory, Span, Text};
 use est_ast::{Module, Name, Rename};
-use est_base::{NoMemory, Span, Text};
 use est_names::NameSet;
 use std::alloc::Global;
 
 /// The module of this name.
 #[inline(never)]
 pub fn module_named<'a>(source: &Source<'a>, name: &Name) -> Result<&'a Module, ExpandFault>
-    ensures { Answers (λ m. module_of m.now) result (module_named (program_in source.now) name.now) }
+    ensures { AnswersAsDefined (λ m. module_of m.now) result (module_named (program_in source.now) name.now) }
 {
     match source.table.find(name.text.bytes()) {
         Some(place) => Ok(&source.modules[place]),
@@ -36,7 +36,7 @@ pub fn module_named<'a>(source: &Source<'a>, name: &Name) -> Result<&'a Module, 
 /// Enters the module of this name, unless the place stands in it already.
 #[inline(never)]
 pub fn enter<'a>(alloc: Global, chain: &mut NameSet<'a>, name: &'a Name) -> Result<(), ExpandFault>
-    ensures { Answers (λ _. chain.new) result (chain_with chain.old name.now) }
+    ensures { AnswersAsDefined (λ _. chain.new) result (chain_with chain.old name.now) }
 {
     if chain.contains(name.text.bytes()) {
         return Err(recursion(alloc, chain, name)?);
@@ -64,7 +64,7 @@ pub fn module_scope<'a>(
     module: &'a Module,
     renames: &'a [Rename],
 ) -> Result<Scope<'a>, ExpandFault>
-    ensures { Answers (λ inner. inner) result
+    ensures { AnswersAsDefined (λ inner. inner) result
         (on_ok (renamed (interface (module_of module.now)) scope.now [] renames.now)
         (λ given. opened name.now.span scope.now given [] (interface (module_of module.now)))) }
 {
@@ -80,7 +80,7 @@ fn given_formals<'a>(
     formals: &[Formal<'a>],
     renames: &'a [Rename],
 ) -> Result<Scope<'a>, ExpandFault>
-    ensures { Answers (λ given. given) result (renamed (map formal_of formals.now) scope.now [] renames.now) }
+    ensures { AnswersAsDefined (λ given. given) result (renamed (map formal_of formals.now) scope.now [] renames.now) }
 {
     let shown = shown_names(alloc, formals)?;
     let mut given = Scope::new(alloc);
@@ -122,7 +122,8 @@ fn opened<'a>(
     given: &Scope<'a>,
     formals: &[Formal<'a>],
 ) -> Result<Scope<'a>, ExpandFault>
-    ensures { Answers (λ inner. inner) result (opened place scope.now given.now [] (map formal_of formals.now)) }
+    ensures { AnswersAsDefined (λ inner. inner) result
+        (opened place scope.now given.now [] (map formal_of formals.now)) }
 {
     let mut inner = Scope::new(alloc);
     for formal in formals {
@@ -142,7 +143,7 @@ fn actual(
     given: &Scope,
     formal: &[u8],
 ) -> Result<Meaning, ExpandFault>
-    ensures { Answers (λ actual. actual) result (found_or (unbound_fault place formal.now)
+    ensures { AnswersAsDefined (λ actual. actual) result (found_or (unbound_fault place formal.now)
         (option_or (meaning given.now formal.now) (meaning scope.now formal.now))) }
 {
     match given.find(formal).or(scope.find(formal)) {

@@ -3,7 +3,7 @@
 ghost use Rattle.std.specs.Prelude.{◌≡◌, ◌+◌, ◌<◌, ◌≤◌, ◌^◌, [], ◌∷◌, map, drop, length, OnOk, OnErr};
 ghost use Rattle.est_expand.specs.Scopes.{meaning, binding};
 
-use est_base::NoMemory;
+use base_types::NoMemory;
 use std::alloc::Global;
 use std::collections::HashMap;
 use std::marker::Model;
@@ -33,7 +33,7 @@ pub struct Scope<'a> {
 }
 
 impl<'a> Model for Scope<'a> {
-    ghost use Rattle.est_expand.specs.Scopes.{Scope as Names};
+    ghost use Rattle.est_expand.specs.Scopes.{NameScope as Names};
 
     ghost Value = { Names };
 

@@ -4,7 +4,7 @@ ghost use Rattle.std.specs.Prelude.{◌≡◌, ◌-◌, ◌<◌, ◌^◌, [], �
 ghost use Rattle.est_expand.specs.Flattening.{traps_between};
 
 use crate::scope::{Meaning, Scope};
-use est_base::NoMemory;
+use base_types::NoMemory;
 use std::alloc::Global;
 use std::marker::Model;
 

@@ -20,8 +20,8 @@ use crate::forms::{
 use crate::met::Met;
 use crate::place::{Around, Site, Source};
 use crate::refusal::ExpandFault;
+use base_types::Span;
 use est_ast::{Case, FlatCase, FlatForm, FlatStmt, Form, Stmt};
-use est_base::Span;
 use std::alloc::Global;
 
 /// The flat form of a statement.

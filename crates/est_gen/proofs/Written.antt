@@ -2,7 +2,7 @@
 use Rattle.std.proofs.Common.{◌≡◌, ℕ, ◌+◌, ◌-◌, ◌*◌, ◌<◌, ◌==◌, zero, suc, Bool, List, [], ◌∷◌, ◌++◌, length, take, set, ap, ◌∙◌, sym, arith, append_assoc}
 use Rattle.std.proofs.Common.{if◌then◌else◌, codes, decimal}
 use Rattle.std.proofs.lemmas.List.{take_more_set}
-use Rattle.est_base.specs.Draws.{next_state, state_after, drawn}
+use Rattle.base_types.specs.Draws.{next_state, state_after, drawn}
 use Rattle.est_gen.specs.Events.{event_from}
 use Rattle.est_gen.specs.Sources.{names_from, statement, branch_text, branches_text}
 

@@ -1,6 +1,6 @@
 -- To believe: the instants of a generated source's inputs, as they are drawn.
 use Rattle.std.specs.Prelude.{ℕ, zero, suc, Bool, ◌==◌, List, [], ◌∷◌}
-use Rattle.est_base.specs.Draws.{next_state, drawn}
+use Rattle.base_types.specs.Draws.{next_state, drawn}
 
 -- an instant of some inputs: each is present where a draw below 4 is 0
 abbrev pub event_from : ℕ → ℕ → List Bool

@@ -1,7 +1,7 @@
 -- To believe: the generated source, by its start number and its number of branches.
 use Rattle.std.specs.Prelude.{ℕ, zero, suc, ◌+◌, ◌-◌, ◌==◌, if◌then◌else◌, List, [], ◌∷◌, ◌++◌, codes, decimal}
 use Rattle.std.specs.List.{concat}
-use Rattle.est_base.specs.Draws.{first_state, drawn, state_after}
+use Rattle.base_types.specs.Draws.{first_state, drawn, state_after}
 
 -- the names of a mark and a number, as many as are asked for from a number on, with a comma and a space before each but
 -- the first

@@ -1,10 +1,10 @@
 // The events of a generated source.
 
 ghost use Rattle.std.specs.Prelude.{◌≡◌, length};
-ghost use Rattle.est_base.specs.Draws.{state_after};
+ghost use Rattle.base_types.specs.Draws.{state_after};
 ghost use Rattle.est_gen.specs.Events.{event_from};
 
-use est_base::Draw;
+use base_types::Draw;
 
 /// An instant of the eight inputs of a generated source: each is present where a draw below 4 is 0.
 /// It takes no memory.

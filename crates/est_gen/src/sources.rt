@@ -2,11 +2,11 @@
 
 ghost use Rattle.std.specs.Prelude.{◌≡◌, ◌+◌, ◌*◌, ◌<◌, ◌⊎◌, ◌↔◌, ◌==◌, if◌then◌else◌, [], ◌++◌, decimal, Err, IfOk};
 ghost use Rattle.std.specs.Prelude.{OnOk};
-ghost use Rattle.est_base.specs.Draws.{first_state, state_after};
+ghost use Rattle.base_types.specs.Draws.{first_state, state_after};
 ghost use Rattle.est_gen.specs.Sources.{source_text, names_from, head_text, branch_text, branches_text, statement};
 ghost use Rattle.est_gen.specs.Sources.{waited_name};
 
-use est_base::{Draw, Limits, NoMemory, put};
+use base_types::{Draw, Limits, NoMemory, put};
 use std::alloc::Global;
 
 /// A generated source, and the draws that go on after it.
@@ -171,5 +171,5 @@ fn put_between(text: &mut Vec<u8>, separator: &[u8], number: u32) -> Result<(), 
 fn put_number(text: &mut Vec<u8>, mark: &[u8], number: u32) -> Result<(), NoMemory>
     ensures { OnOk result (text.new.items ≡ text.old.items ++ (mark.now ++ decimal number)) }
 {
-    est_base::put_number(text, mark, number as usize)
+    base_types::put_number(text, mark, number as usize)
 }

@@ -3,8 +3,8 @@
 use Rattle.std.proofs.Common.{◌≡◌, ℕ, suc, ◌+◌, Bool, true, false, ◌==◌, cond, List, [], ◌∷◌, ◌++◌, length, Option, Some, None, refl, subst, ⊎_elim, arith}
 use Rattle.std.proofs.Common.{length-append}
 use Rattle.std.proofs.lemmas.Bool.{or_cases, or_left, or_right, eqb-true, eqb-false, eq-eqb, cond_both, both_ways}
-use Rattle.est_base.specs.declared.place.Span.{Span}
-use Rattle.est_base.specs.Codes.{only, either, except, maxima, lowered}
+use Rattle.base_types.specs.declared.place.Span.{Span}
+use Rattle.base_types.specs.Codes.{only, either, except, maxima, lowered}
 use Rattle.est_kernel.specs.Terms.{Term, Nothing, Pause, Emit, Exit, Present, Suspend, Seq, Loop, Par, Trap, Local, Awake}
 use Rattle.est_kernel.specs.Statuses.{Status, Plus, Minus, Unknown, Environment, with_status, value}
 use Rattle.est_kernel.specs.Potentials.{May, Potentials, completes, chosen, sequence, decided, local_status, potential}

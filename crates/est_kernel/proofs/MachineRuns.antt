@@ -1,11 +1,11 @@
 -- The run of a program, as a function, and the runs of its machine.
 use Rattle.std.proofs.Common.{◌≡◌, List, [], ◌∷◌, map, Option, Some, None, refl, sym, ap, ◌∙◌}
-use Rattle.est_base.specs.Items.{Item, Event, Reset}
+use Rattle.base_types.specs.Items.{Item, Event, Reset}
 use Rattle.est_kernel.specs.Plain.{Program, Interface, interface_of}
 use Rattle.est_kernel.specs.ProgramMachine.{program_machine}
 use Rattle.est_kernel.specs.Reactions.{Answer, Reaction, react, before, goes_on, run_from, run_of}
 use Rattle.est_kernel.specs.Terms.{Term}
-use Rattle.machines.specs.Machines.{IsRunFrom}
+use Rattle.base_machines.specs.Machines.{IsRunFrom}
 
 -- a run of the machine with these answers
 pub record Answers (p : Program) (r : Term) (items : List Item) (answers : List Answer) : Type 0 where

@@ -2,10 +2,11 @@
 -- per row of the tables, over any potentials, and then one induction.
 use Rattle.std.proofs.Common.{◌≡◌, ℕ, ◌⊎◌, Bool, true, false, ◌||◌, cond, max, refl, sym, ap, ◌∙◌, subst, inl, inr, ⊎_elim}
 use Rattle.std.proofs.lemmas.Bool.{or_cases, or_left, or_right, and_parts, and_from, eqb-true, false≢true, cond_both}
-use Rattle.est_base.specs.Codes.{either}
+use Rattle.base_types.specs.Codes.{either}
 use Rattle.est_kernel.specs.Terms.{Term, Nothing, Pause, Emit, Exit, Present, Suspend, Seq, Loop, Par, Trap, Local, Awake}
 use Rattle.est_kernel.specs.Statuses.{Status, Plus, Minus, Unknown, Environment, with_status, value}
-use Rattle.est_kernel.specs.Potentials.{Kind, Must, Can, May, Potential, Potentials, idle, completes, emits, union, chosen, second_kind, codes_kept, sequence}
+use Rattle.est_kernel.specs.Potentials.{PotentialKind, Must, Can, May, Potential, Potentials, idle, completes, emits, union, chosen, second_kind, codes_kept}
+use Rattle.est_kernel.specs.Potentials.{sequence}
 use Rattle.est_kernel.specs.Potentials.{in_turn, together, trapped, hidden, local_status, potential}
 use Rattle.est_kernel.specs.Steps.{trap_code}
 use Rattle.est_kernel.specs.Laws.{IsWithin, IsBelow, KnowsMore, MustGrows, CanShrinks, MayShrinks, MustLiesInCan, CanLiesInMay, MustHasOneCode}
@@ -66,7 +67,7 @@ record HasOneCode (a : Potential) : Type 0 where
   same : (j k : ℕ) → a.codes j ≡ true → a.codes k ≡ true → j ≡ k
 
 -- what a sequence of kind k keeps of its first part's codes has each of them but termination
-record KeepsOthers (k : Kind) (a : Potential) : Type 0 where
+record KeepsOthers (k : PotentialKind) (a : Potential) : Type 0 where
   keeps : (j : ℕ) → a.codes 0 ≡ true → a.codes j ≡ true → (j ≡ 0 → ⊥) → codes_kept k a.codes j ≡ true
 
 keeps_must : {a : Potential} → HasOneCode a → KeepsOthers Must a
@@ -78,18 +79,18 @@ keeps_can a = record { keeps = λ j z c n. except-in a.codes 0 j c n }
 keeps_may : (a : Potential) → KeepsOthers May a
 keeps_may a = record { keeps = λ j z c n. except-in a.codes 0 j c n }
 
-codes_kept-parts : (k : Kind) (A : ℕ → Bool) (j : ℕ) → codes_kept k A j ≡ true → (A j ≡ true) × (j ≡ 0 → ⊥)
+codes_kept-parts : (k : PotentialKind) (A : ℕ → Bool) (j : ℕ) → codes_kept k A j ≡ true → (A j ≡ true) × (j ≡ 0 → ⊥)
 codes_kept-parts Must A j h = absurd (false≢true h)
 codes_kept-parts Can A j h = except-parts A 0 j h
 codes_kept-parts May A j h = except-parts A 0 j h
 
 -- both parts of a sequence of kind k
-abbrev both_parts : Kind → Potential → Potential → Potential
+abbrev both_parts : PotentialKind → Potential → Potential → Potential
 both_parts k a b =
     record { signals = λ t. a.signals t || b.signals t; codes = either (codes_kept k a.codes) b.codes }
 
 -- the members of a sequence
-module _ (k : Kind) (a b : Potential) where
+module _ (k : PotentialKind) (a b : Potential) where
   sequence_signals-parts : (t : ℕ) → (sequence k a b).signals t ≡ true → (a.signals t ≡ true) ⊎ ((a.codes 0 ≡ true) × (b.signals t ≡ true))
   sequence_signals-parts t =
       cond_both (a.codes 0) (both_parts k a b) a
@@ -128,7 +129,7 @@ module _ (k : Kind) (a b : Potential) where
       (λ e. or_right (codes_kept k a.codes j) (b.codes j) h)
       (λ e. absurd (false≢true (sym e ∙ z)))
 
-sequence_within : (k l : Kind) (a b c d : Potential) → KeepsOthers l c → IsWithin a c → (a.codes 0 ≡ true → IsWithin b d) →
+sequence_within : (k l : PotentialKind) (a b c d : Potential) → KeepsOthers l c → IsWithin a c → (a.codes 0 ≡ true → IsWithin b d) →
     IsWithin (sequence k a b) (sequence l c d)
 sequence_within k l a b c d keep f g =
     record {

@@ -4,7 +4,7 @@ use Rattle.std.proofs.Common.{◌≡◌, ℕ, zero, suc, ◌+◌, ◌<◌, ◌�
 use Rattle.std.proofs.Common.{arith}
 use Rattle.std.specs.List.{range_with_len}
 use Rattle.std.proofs.lemmas.Bool.{ne_eqb, cond-false, cond_both}
-use Rattle.facts.proofs.Tests.{and-true}
+use Rattle.base_facts.proofs.Tests.{and-true}
 use Rattle.est_kernel.specs.Terms.{Term}
 use Rattle.est_kernel.specs.Statuses.{Status, Plus, Minus, Unknown, Environment, with_status, known, environment_of}
 use Rattle.est_kernel.specs.Potentials.{Must, Can, potential, decided}

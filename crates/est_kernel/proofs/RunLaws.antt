@@ -1,7 +1,7 @@
 -- Runs over items: where they have answers, how many, and what their answers are before the last items.
 use Rattle.std.proofs.Common.{◌≡◌, suc, ◌≤◌, Bool, List, [], ◌∷◌, ◌++◌, length, take, All, Option, Some, None, refl, sym, ap, ◌∙◌, subst, arith}
 use Rattle.std.proofs.lemmas.List.Elements.{All-cons, All-nil}
-use Rattle.est_base.specs.Items.{Item, Event, Reset}
+use Rattle.base_types.specs.Items.{Item, Event, Reset}
 use Rattle.est_kernel.specs.Terms.{Term}
 use Rattle.est_kernel.specs.Statuses.{Environment, environment_of}
 use Rattle.est_kernel.specs.Steps.{Step, step}

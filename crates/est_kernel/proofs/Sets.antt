@@ -1,7 +1,7 @@
 -- Sets of codes as tests: what is in the maxima of two sets, and in a set that a trap has lowered.
 use Rattle.std.proofs.Common.{◌≡◌, ℕ, zero, suc, ◌≤◌, Bool, true, ◌&&◌, max, refl, sym, ◌∙◌, subst, ⊎_elim, arith}
 use Rattle.std.proofs.lemmas.Bool.{or_cases, or_left, or_right, and_parts, and_from, eq-eqb, ne_eqb, not-true, not_from_false, cases_lt, false≢true}
-use Rattle.est_base.specs.Codes.{either, except, upto, maxima, lowered}
+use Rattle.base_types.specs.Codes.{either, except, upto, maxima, lowered}
 use Rattle.est_kernel.specs.Steps.{trap_code}
 use Rattle.est_kernel.specs.Laws.{IsSubset}
 

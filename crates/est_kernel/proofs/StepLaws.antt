@@ -2,11 +2,12 @@
 -- and steps, and then one induction each.
 use Rattle.std.proofs.Common.{◌≡◌, ℕ, Bool, true, false, not, ◌&&◌, ◌||◌, ◌==◌, cond, max, Option, Some, None, refl, sym, ap, ◌∙◌, subst}
 use Rattle.std.proofs.lemmas.Bool.{eqb-true, eqb-false, eq-eqb, ne_eqb, cond-true, cond-false, cond_both, false≢true}
-use Rattle.facts.proofs.Tests.{or-equal, same-tests}
-use Rattle.est_base.specs.Codes.{except, maxima, lowered}
+use Rattle.base_facts.proofs.Tests.{or-equal, same-tests}
+use Rattle.base_types.specs.Codes.{except, maxima, lowered}
 use Rattle.est_kernel.specs.Terms.{Term, Nothing, Pause, Emit, Exit, Present, Suspend, Seq, Loop, Par, Trap, Local, Awake}
 use Rattle.est_kernel.specs.Statuses.{Status, Plus, Minus, Unknown, Environment, with_status, value}
-use Rattle.est_kernel.specs.Potentials.{Kind, Must, Can, May, Potential, Potentials, completes, chosen, second_kind, codes_kept, sequence, in_turn, together}
+use Rattle.est_kernel.specs.Potentials.{PotentialKind, Must, Can, May, Potential, Potentials, completes, chosen, second_kind, codes_kept, sequence, in_turn}
+use Rattle.est_kernel.specs.Potentials.{together}
 use Rattle.est_kernel.specs.Potentials.{trapped, hidden, decided, potential}
 use Rattle.est_kernel.specs.Steps.{Step, step, ended, leaving, leaves, chosen_step, then_step, sequence_step, loop_step, parallel_step, trap_code, trap_step}
 use Rattle.est_kernel.specs.Steps.{local_step, where_known}
@@ -33,7 +34,7 @@ chosen_agree Minus a b o n h g = g
 chosen_agree Unknown a b o n h g = tt
 
 -- a sequence whose first part has a step that does not terminate
-sequence_first : (k : Kind) (a b : Potential) (x : Step) → IsJust a x → (x.code ≡ 0 → ⊥) → IsJust (sequence k a b) x
+sequence_first : (k : PotentialKind) (a b : Potential) (x : Step) → IsJust a x → (x.code ≡ 0 → ⊥) → IsJust (sequence k a b) x
 sequence_first k a b x j n =
     let e : a.codes 0 ≡ false = j.codes 0 ∙ ne_eqb 0 x.code (λ z. n (sym z)) in
     subst (λ c. IsJust c x) (sym (cond-false (a.codes 0) _ a e)) j
@@ -46,13 +47,14 @@ never_both false = refl
 except_none : (A : ℕ → Bool) → ((j : ℕ) → A j ≡ (j == 0)) → (j : ℕ) → except 0 A j ≡ false
 except_none A f j = ap (λ b. b && not (j == 0)) (f j) ∙ never_both (j == 0)
 
-kept_none : (k : Kind) (A : ℕ → Bool) → ((j : ℕ) → A j ≡ (j == 0)) → (j : ℕ) → codes_kept k A j ≡ false
+kept_none : (k : PotentialKind) (A : ℕ → Bool) → ((j : ℕ) → A j ≡ (j == 0)) → (j : ℕ) → codes_kept k A j ≡ false
 kept_none Must A f j = refl
 kept_none Can A f j = except_none A f j
 kept_none May A f j = except_none A f j
 
 -- a sequence whose first part terminates
-sequence_both : (k : Kind) (a b : Potential) (x y z : Step) → IsJust a x → x.code ≡ 0 → IsJust b y → ((t : ℕ) → z.emitted t ≡ (x.emitted t || y.emitted t)) →
+sequence_both : (k : PotentialKind) (a b : Potential) (x y z : Step) → IsJust a x → x.code ≡ 0 → IsJust b y
+    → ((t : ℕ) → z.emitted t ≡ (x.emitted t || y.emitted t)) →
     z.code ≡ y.code → IsJust (sequence k a b) z
 sequence_both k a b x y z f zero_code g signals code =
     let e : a.codes 0 ≡ true = f.codes 0 ∙ eq-eqb 0 x.code (sym zero_code) in

@@ -1,6 +1,6 @@
 -- Contract: what the lists of static codes have for a body.
 use Rattle.std.specs.Prelude.{◌≡◌, map}
-use Rattle.est_base.specs.CodeSet.{members}
+use Rattle.base_types.specs.CodeSet.{members}
 use Rattle.est_kernel.specs.declared.code_lists.Codes.{Codes}
 use Rattle.est_kernel.specs.Terms.{Term}
 use Rattle.est_kernel.specs.Preorder.{preorder}

@@ -1,7 +1,7 @@
 -- To believe: the laws that tie the tables to one another: what Must and Can, steps, runs and codes are to be.
 use Rattle.std.specs.Prelude.{◌≡◌, ℕ, suc, ◌+◌, ◌<◌, ◌≤◌, ◌↔◌, Bool, ◌==◌, List, [], ◌∷◌, ◌++◌, length, take, slice_get}
 use Rattle.std.specs.Prelude.{All, IsTrue, Option, Some, None, option_and_then, if◌then◌else◌, ⊤}
-use Rattle.est_base.specs.Items.{Item, Event, Reset}
+use Rattle.base_types.specs.Items.{Item, Event, Reset}
 use Rattle.est_kernel.specs.Terms.{Term}
 use Rattle.est_kernel.specs.Statuses.{Status, Plus, Minus, Unknown, Environment}
 use Rattle.est_kernel.specs.Potentials.{Potential, must, can, may}

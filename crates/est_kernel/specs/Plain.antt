@@ -9,7 +9,7 @@ use Rattle.est_kernel.specs.declared.statements.Kernel.TheVariants as kernels
 use Rattle.est_kernel.specs.declared.programs.KernelProgram.{KernelProgram}
 use Rattle.est_kernel.specs.Terms.{Expression, Tick, Sig, Not, And, Or, Term, Nothing, Pause, Emit, Exit, Present}
 use Rattle.est_kernel.specs.Terms.{Suspend, Seq, Loop, Par, Trap, Local}
-use Rattle.est_base.specs.Relations.{Relation, relation_of}
+use Rattle.base_types.specs.Relations.{Relation, relation_of}
 
 -- a test as a tree
 abbrev pub expression_of : Test → Expression

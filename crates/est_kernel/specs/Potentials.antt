@@ -2,17 +2,17 @@
 -- of Pure Esterel". Must is his Must, Can his Can with the sign +, May his Can with the sign ⊥. The tables are written
 -- out anew, one row per form, for the three kinds at once; where they should differ from his, these count.
 use Rattle.std.specs.Prelude.{ℕ, Bool, false, not, ◌==◌, ◌&&◌, ◌||◌, if◌then◌else◌}
-use Rattle.est_base.specs.Codes.{no_code, only, either, except, maxima, lowered}
+use Rattle.base_types.specs.Codes.{no_code, only, either, except, maxima, lowered}
 use Rattle.est_kernel.specs.Terms.{Term, Nothing, Pause, Emit, Exit, Present, Suspend, Seq, Loop, Par, Trap, Local}
 use Rattle.est_kernel.specs.Terms.{Awake}
 use Rattle.est_kernel.specs.Statuses.{Status, Plus, Minus, Unknown, Environment, with_status, value}
 
 -- Must is what is known to be done without trying the values of an unknown test, a lower bound. Can and May are what
 -- cannot be excluded without trying them: Can where the term is known to run, May where it is not.
-pub data Kind : Type 0 where
-  Must : Kind
-  Can : Kind
-  May : Kind
+pub data PotentialKind : Type 0 where
+  Must : PotentialKind
+  Can : PotentialKind
+  May : PotentialKind
 
 -- a potential: signals that are emitted, and completion codes; both are sets, as tests
 pub record Potential : Type 0 where
@@ -21,7 +21,7 @@ pub record Potential : Type 0 where
 
 -- the potentials of a term in an environment, one of each kind
 abbrev pub Potentials : Type 0
-Potentials = Kind → Potential
+Potentials = PotentialKind → Potential
 
 -- no signal and no code: nothing is known to be done
 abbrev pub idle : Potential
@@ -50,21 +50,21 @@ chosen Unknown a b May = union (a May) (b May)
 
 -- how the second part of a sequence is taken whose first part can terminate: it must be run only
 -- where the whole must be run and the first part must terminate
-abbrev pub second_kind : Kind → Potentials → Kind
+abbrev pub second_kind : PotentialKind → Potentials → PotentialKind
 second_kind Must a = Must
 second_kind Can a = if (a Must).codes 0 then Can else May
 second_kind May a = May
 
 -- What a sequence keeps of its first part's codes once its second part is reached: Must none, Can and
 -- May those other than termination.
-abbrev pub codes_kept : Kind → (ℕ → Bool) → ℕ → Bool
+abbrev pub codes_kept : PotentialKind → (ℕ → Bool) → ℕ → Bool
 codes_kept Must A = no_code
 codes_kept Can A = except 0 A
 codes_kept May A = except 0 A
 
 -- A sequence of two potentials. Without termination of the first it is the first alone. Else it has the
 -- signals of both, what is kept of the first part's codes, and the second part's codes.
-abbrev pub sequence : Kind → Potential → Potential → Potential
+abbrev pub sequence : PotentialKind → Potential → Potential → Potential
 sequence k a b =
     if a.codes 0
     then record { signals = λ t. a.signals t || b.signals t; codes = either (codes_kept k a.codes) b.codes }
@@ -89,14 +89,14 @@ hidden s a = record { signals = λ t. a.signals t && not (t == s); codes = a.cod
 -- The status of a local signal, from the potentials of its body with the signal unknown.
 -- Must and Can: present where the body must emit it, absent where the body cannot emit it.
 -- May: absent where the body may not emit it. Else it stays unknown.
-abbrev pub local_status : ℕ → Potentials → Kind → Status
+abbrev pub local_status : ℕ → Potentials → PotentialKind → Status
 local_status s a Must = if (a Must).signals s then Plus else if (a Can).signals s then Unknown else Minus
 local_status s a Can = if (a Must).signals s then Plus else if (a Can).signals s then Unknown else Minus
 local_status s a May = if (a May).signals s then Unknown else Minus
 
 -- The potentials of a term, one row per form. A suspension that goes on is a choice: where its test is
 -- true it pauses with nothing run, where it is false it is its body.
-abbrev pub potential : Term → Environment → Kind → Potential
+abbrev pub potential : Term → Environment → PotentialKind → Potential
 potential Nothing E k = completes 0
 potential Pause E k = completes 1
 potential (Emit s) E k = emits s

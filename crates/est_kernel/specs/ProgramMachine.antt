@@ -3,7 +3,7 @@ use Rattle.std.specs.Prelude.{◌≡◌, Some}
 use Rattle.est_kernel.specs.Plain.{Program, interface_of}
 use Rattle.est_kernel.specs.Reactions.{Reaction, react}
 use Rattle.est_kernel.specs.Terms.{Term}
-use Rattle.machines.specs.Machines.{Machine}
+use Rattle.base_machines.specs.Machines.{Machine}
 
 -- its states are terms, what is so in an instant is the reaction, and behind it is what that leaves
 abbrev pub program_machine : Program → Machine Reaction

@@ -1,7 +1,7 @@
 -- To believe: one reaction of a term to an event, and its run over a list of items. A reaction is constructive in the
 -- sense of Berry, "The Constructive Semantics of Pure Esterel".
 use Rattle.std.specs.Prelude.{ℕ, Bool, false, not, ◌||◌, List, [], ◌∷◌, map, filter, Option, Some, None, slice_index_or}
-use Rattle.est_base.specs.Items.{Item, Event, Reset}
+use Rattle.base_types.specs.Items.{Item, Event, Reset}
 use Rattle.est_kernel.specs.Terms.{Term, Local}
 use Rattle.est_kernel.specs.Statuses.{Environment, with_status, environment_of}
 use Rattle.est_kernel.specs.Potentials.{decided}

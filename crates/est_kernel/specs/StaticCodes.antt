@@ -3,8 +3,8 @@
 -- most 60 traps one in another. After Berry, "The Constructive Semantics of Pure Esterel", and Tardieu and de Simone,
 -- "Instantaneous Termination in Pure Esterel" (2003).
 use Rattle.std.specs.Prelude.{◌≡◌, ℕ, Bool, ◌&&◌, ◌||◌, if◌then◌else◌, List, [], ◌∷◌, ◌++◌}
-use Rattle.est_base.specs.declared.place.Span.{Span}
-use Rattle.est_base.specs.Codes.{no_code, only, either, except, upto, maxima, lowered}
+use Rattle.base_types.specs.declared.place.Span.{Span}
+use Rattle.base_types.specs.Codes.{no_code, only, either, except, upto, maxima, lowered}
 use Rattle.est_kernel.specs.Terms.{Term, Nothing, Pause, Emit, Exit, Present, Suspend, Seq, Loop, Par, Trap, Local}
 use Rattle.est_kernel.specs.Terms.{Awake}
 

@@ -1,6 +1,6 @@
 -- To believe: kernel terms as plain trees.
 use Rattle.std.specs.Prelude.{ℕ}
-use Rattle.est_base.specs.declared.place.Span.{Span}
+use Rattle.base_types.specs.declared.place.Span.{Span}
 
 -- a test of signals; a signal is its number
 pub data Expression : Type 0 where

@@ -1,11 +1,11 @@
 -- To believe: what a kernel statement and a kernel program keep.
 use Rattle.std.specs.Prelude.{ℕ, Bool, ◌+◌, ◌<◌, ◌≤◌, ◌==◌, ◌||◌, nat_lt, All, IsTrue, ⊤, length, take}
-use Rattle.est_base.specs.declared.bounds.TheConstants.Limits.{KERNEL_NODES, KERNEL_HEIGHT, TRAPS, SIGNALS}
-use Rattle.est_base.specs.Names.{is_name, is_same_name}
-use Rattle.est_base.specs.Distinct.{all_differ}
+use Rattle.base_types.specs.declared.bounds.TheConstants.Limits.{KERNEL_NODES, KERNEL_HEIGHT, TRAPS, SIGNALS}
+use Rattle.base_types.specs.Names.{is_name, is_same_name}
+use Rattle.base_types.specs.Distinct.{all_differ}
 use Rattle.est_kernel.specs.Terms.{Expression, Tick, Sig, Not, And, Or, Term, Nothing, Pause, Emit, Exit, Present}
 use Rattle.est_kernel.specs.Terms.{Suspend, Seq, Loop, Par, Trap, Local, Awake}
-use Rattle.est_base.specs.Relations.{Relation, Implies, Excludes}
+use Rattle.base_types.specs.Relations.{Relation, Implies, Excludes}
 use Rattle.est_kernel.specs.Sizes.{size_of, height_of, trap_depth}
 use Rattle.est_kernel.specs.Plain.{Program, given_count, interface_count}
 

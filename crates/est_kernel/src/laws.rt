@@ -1,5 +1,6 @@
-// The laws that tie the tables of potentials, steps and static codes to one another. Each call does
-// nothing: its contract is the law.
+// The laws that tie the tables of potentials, steps and static codes to one another.
+// A function here does nothing at run time: its contract is a theorem, which a caller gets by the call. Rattle proves a
+// statement only as the contract of a function, so a law is a function that computes nothing.
 
 ghost use Rattle.est_kernel.specs.Laws.{MustGrows, CanShrinks, MayShrinks, MustLiesInCan, CanLiesInMay, MustHasOneCode};
 ghost use Rattle.est_kernel.specs.Laws.{MayKeepsStaticCodes, StepIsWhatMustBeDone, StepKeepsStaticCodes};

@@ -1,11 +1,11 @@
 // Kernel programs.
 
 ghost use Rattle.std.specs.Prelude.{◌≡◌, IfOk, map};
-ghost use Rattle.est_base.specs.Relations.{relation_of};
+ghost use Rattle.base_types.specs.Relations.{relation_of};
 ghost use Rattle.est_kernel.specs.Plain.{program_of};
 
 use crate::statements::Kernel;
-use est_base::{InputRelation, NoMemory, SignalInfo, Text};
+use base_types::{InputRelation, NoMemory, SignalInfo, Text};
 use std::alloc::Global;
 
 /// A kernel program. Signals below `inputs` are the inputs, the next `both` are those that are input

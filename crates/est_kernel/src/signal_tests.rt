@@ -3,7 +3,7 @@
 ghost use Rattle.std.specs.Prelude.{◌≡◌, IfOk};
 ghost use Rattle.est_kernel.specs.Plain.{expression_of};
 
-use est_base::{NoMemory, SigId};
+use base_types::{NoMemory, SigId};
 use std::alloc::Global;
 
 /// A test of signals, read by Kleene's three-valued tables where statuses are unknown.

@@ -4,7 +4,7 @@ ghost use Rattle.std.specs.Prelude.{◌≡◌, IfOk};
 ghost use Rattle.est_kernel.specs.Plain.{term_of};
 
 use crate::signal_tests::Test;
-use est_base::{NoMemory, SigId, Span};
+use base_types::{NoMemory, SigId, Span};
 use std::alloc::Global;
 
 /// A kernel statement of Pure Esterel (Berry, "The Constructive Semantics of Pure Esterel").

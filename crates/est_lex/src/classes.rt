@@ -14,19 +14,19 @@ pub fn is_space(byte: u8) -> bool
 pub fn is_letter(byte: u8) -> bool
     ensures { IsTrue result ↔ IsLetter byte }
 {
-    est_base::is_letter(byte)
+    base_types::is_letter(byte)
 }
 
 /// A decimal digit.
 pub fn is_digit(byte: u8) -> bool
     ensures { IsTrue result ↔ IsDigit byte }
 {
-    est_base::is_digit(byte)
+    base_types::is_digit(byte)
 }
 
 /// A letter, a digit or `_`.
 pub fn is_name_byte(byte: u8) -> bool
     ensures { IsTrue result ↔ IsNameByte byte }
 {
-    est_base::is_name_byte(byte)
+    base_types::is_name_byte(byte)
 }

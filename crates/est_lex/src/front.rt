@@ -2,7 +2,7 @@
 
 ghost use Rattle.std.specs.Prelude.{◌<◌, length, slice_index, IfOk, IfErr};
 ghost use Rattle.est_ast.specs.Lexemes.{HasByte, IsLetter, IsDigit};
-ghost use Rattle.est_ast.specs.Lexing.{IsFront};
+ghost use Rattle.est_ast.specs.Lexing.{IsFrontToken};
 ghost use Rattle.est_lex.specs.Faults.{BeginsWithFault};
 
 use crate::classes::{is_digit, is_letter, is_space};
@@ -11,8 +11,8 @@ use crate::numerals::{digits_len, number};
 use crate::refusal::LexError;
 use crate::signs::{mark, mark_len};
 use crate::words::{name_len, reserved};
+use base_types::{NoMemory, Text};
 use est_ast::Kind;
-use est_base::{NoMemory, Text};
 use std::alloc::Global;
 
 /// A space, a comment or a token at the front of a text: how long it is, and what token it is.
@@ -26,7 +26,7 @@ pub struct Piece {
 /// stands.
 pub fn front(alloc: Global, text: &[u8], at: u32) -> Result<Piece, LexError>
     requires { 0 < length text.now }
-    ensures ok { IfOk result (λ piece. IsFront text.now piece.width piece.token) }
+    ensures ok { IfOk result (λ piece. IsFrontToken text.now piece.width piece.token) }
     ensures err { IfErr result (BeginsWithFault text.now at) }
 {
     let first = text[0];
@@ -55,7 +55,7 @@ pub fn front(alloc: Global, text: &[u8], at: u32) -> Result<Piece, LexError>
 /// The comment that begins a text.
 fn comment(text: &[u8], at: u32) -> Result<Piece, LexError>
     requires { HasByte text.now 0 37 }
-    ensures ok { IfOk result (λ piece. IsFront text.now piece.width piece.token) }
+    ensures ok { IfOk result (λ piece. IsFrontToken text.now piece.width piece.token) }
     ensures err { IfErr result (BeginsWithFault text.now at) }
 {
     if text.get(1).copied() == Some(b'{') {
@@ -75,7 +75,7 @@ fn comment(text: &[u8], at: u32) -> Result<Piece, LexError>
 fn word(alloc: Global, text: &[u8]) -> Result<Piece, NoMemory>
     requires some { 0 < length text.now }
     requires letter { IsLetter (slice_index text.now 0) }
-    ensures { IfOk result (λ piece. IsFront text.now piece.width piece.token) }
+    ensures { IfOk result (λ piece. IsFrontToken text.now piece.width piece.token) }
 {
     let width = name_len(text);
     let name = &text[..width];
@@ -93,7 +93,7 @@ fn word(alloc: Global, text: &[u8]) -> Result<Piece, NoMemory>
 fn numeral(text: &[u8], at: u32) -> Result<Piece, LexError>
     requires some { 0 < length text.now }
     requires digit { IsDigit (slice_index text.now 0) }
-    ensures ok { IfOk result (λ piece. IsFront text.now piece.width piece.token) }
+    ensures ok { IfOk result (λ piece. IsFrontToken text.now piece.width piece.token) }
     ensures err { IfErr result (BeginsWithFault text.now at) }
 {
     let width = digits_len(text);

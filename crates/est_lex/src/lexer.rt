@@ -6,8 +6,8 @@ ghost use Rattle.est_lex.specs.Faults.{LexesAsFault};
 
 use crate::front::{Piece, front};
 use crate::refusal::LexError;
+use base_types::{Limits, Span};
 use est_ast::Token;
-use est_base::{Limits, Span};
 use std::alloc::Global;
 
 /// The tokens of a program text, each with its place, or the text's first fault. Reserved words

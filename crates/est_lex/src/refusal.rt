@@ -39,10 +39,10 @@ impl<T: Drop> From<AllocFailed<T>> for LexError {
     }
 }
 
-impl From<est_base::NoMemory> for LexError {
+impl From<base_types::NoMemory> for LexError {
     ghost from_gives = { λ _ error. error ≡ lacks_memory };
 
-    fn from(_error: est_base::NoMemory) -> LexError {
+    fn from(_error: base_types::NoMemory) -> LexError {
         LexError::NoMemory
     }
 }

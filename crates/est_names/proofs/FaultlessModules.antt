@@ -1,7 +1,7 @@
 -- Where a program's names have no fault, those of each of its modules have none.
 use Rattle.std.proofs.Common.{◌≡◌, ℕ, zero, suc, ◌<◌, List, [], ◌∷◌, ◌++◌, map, length, get_or, refl, Option, arith}
 use Rattle.std.specs.Prelude.{flat_map}
-use Rattle.est_ast.specs.Trees.{Module, Program}
+use Rattle.est_ast.specs.Trees.{Module, SourceProgram}
 use Rattle.est_names.specs.declared.refusal.NameFault.{NameFault}
 use Rattle.est_names.specs.declared.refusal.NameFault.TheVariants.{DuplicateModule}
 use Rattle.est_names.specs.NameFaults.{again, interface_faults, body_faults, module_faults, module_names, main_place, main_faults, name_faults}
@@ -10,13 +10,14 @@ pub nothing_before : (xs ys : List NameFault) → xs ++ ys ≡ [] → (xs ≡ []
 nothing_before [] ys none = (refl, none)
 nothing_before (x ∷ xs) ys none = absurd (cc)
 
-faultless-at : (program : Program) (k : ℕ) (d : Module) → flat_map module_faults program ≡ [] → k < length program → module_faults (get_or program k d) ≡ []
+faultless-at : (program : SourceProgram) (k : ℕ) (d : Module) → flat_map module_faults program ≡ [] → k < length program
+    → module_faults (get_or program k d) ≡ []
 faultless-at [] k d none low = absurd (omega arith)
 faultless-at (m ∷ program) zero d none low = (nothing_before (module_faults m) (flat_map module_faults program) none).0
 faultless-at (m ∷ program) (suc k) d none low =
     faultless-at program k d (nothing_before (module_faults m) (flat_map module_faults program) none).1 (omega (arith, low))
 
-pub faultless-interface : (main : Option (List ℕ)) (program : Program) (k : ℕ) (d : Module) → name_faults main program ≡ [] → k < length program
+pub faultless-interface : (main : Option (List ℕ)) (program : SourceProgram) (k : ℕ) (d : Module) → name_faults main program ≡ [] → k < length program
     → interface_faults (get_or program k d).decls ≡ []
 faultless-interface main program k d none low =
     let m = get_or program k d in

@@ -1,8 +1,8 @@
 -- The first of several lists of faults.
 use Rattle.std.proofs.Common.{◌≡◌, List, [], ◌∷◌, ◌++◌, sym, subst}
-use Rattle.est_base.specs.declared.stop.Stop.{Stop}
-use Rattle.est_base.specs.declared.stop.Stop.TheVariants.{Fault, NoMemory}
-use Rattle.est_base.specs.Stops.{FaultIs}
+use Rattle.base_types.specs.declared.stop.Stop.{Stop}
+use Rattle.base_types.specs.declared.stop.Stop.TheVariants.{Fault, NoMemory}
+use Rattle.base_types.specs.Stops.{FaultIs}
 use Rattle.est_names.specs.declared.refusal.NameFault.{NameFault}
 use Rattle.est_names.specs.NameFaults.{first, IsFirst}
 use Rattle.std.specs.Prelude.{Some}

@@ -1,12 +1,13 @@
 -- To believe: what is wrong with the names of a program, in the order of the text.
 use Rattle.std.specs.Prelude.{◌≡◌, ℕ, List, [], ◌∷◌, ◌++◌, map, flat_map, Option, Some, None, if◌then◌else◌}
-use Rattle.est_base.specs.declared.place.Span.{Span}
+use Rattle.base_types.specs.declared.place.Span.{Span}
 use Rattle.est_ast.specs.declared.trees.Name.{Name}
 use Rattle.est_ast.specs.Trees.{Stmt, At, Form, Nothing, Pause, Halt, Emit, Sustain, Await, AwaitCase, Present}
 use Rattle.est_ast.specs.Trees.{PresentCase, Loop, LoopEach, Every, Repeat, Abort, AbortCase, WeakAbort, Suspend, Trap}
 use Rattle.est_ast.specs.Trees.{Exit, Signal, Run, Seq, Par, Group, Part, Missing, Written, Handler, NoHandler, Handled}
-use Rattle.est_ast.specs.Trees.{Stmts, NoStmts, MoreStmts, Cases, NoCases, MoreCases, Relation, Implies, Excludes, Decl}
-use Rattle.est_ast.specs.Trees.{Input, InputOutput, Output, Relations, Module, Program}
+use Rattle.est_ast.specs.Trees.{Stmts, NoStmts, MoreStmts, Cases, NoCases, MoreCases, NamedRelation, Implies, Excludes}
+use Rattle.est_ast.specs.Trees.{Decl}
+use Rattle.est_ast.specs.Trees.{Input, InputOutput, Output, Relations, Module, SourceProgram}
 use Rattle.est_names.specs.declared.refusal.NameFault.{NameFault}
 use Rattle.est_names.specs.declared.refusal.NameFault.TheVariants.{DuplicateModule, NoMain, DuplicateSignal}
 use Rattle.est_names.specs.declared.refusal.NameFault.TheVariants.{RelationName}
@@ -34,7 +35,7 @@ given_in (InputOutput names) = names
 given_in (Output names) = []
 given_in (Relations relations) = []
 
-abbrev pub names_of_relation : Relation → List Name
+abbrev pub names_of_relation : NamedRelation → List Name
 names_of_relation (Implies cause effect) = cause ∷ effect ∷ []
 names_of_relation (Excludes names) = names
 
@@ -115,7 +116,7 @@ body_faults body = flat_map (again DuplicateSignal []) (signal_lists body)
 
 -- ---- programs
 
-abbrev pub module_names : Program → List (List ℕ)
+abbrev pub module_names : SourceProgram → List (List ℕ)
 module_names program = map (λ m. m.name.text) program
 
 abbrev pub module_faults : Module → List NameFault
@@ -134,7 +135,7 @@ main_faults (Some place) = []
 
 -- Of a program: each module with the name of an earlier one, then the main module where there is none, then those of
 -- the modules.
-abbrev pub name_faults : Option (List ℕ) → Program → List NameFault
+abbrev pub name_faults : Option (List ℕ) → SourceProgram → List NameFault
 name_faults main program =
     again DuplicateModule [] (map (λ m. m.name) program)
     ++ (main_faults (main_place main (module_names program)) ++ flat_map module_faults program)

@@ -1,7 +1,7 @@
 -- To believe: names in a list of names.
 use Rattle.std.specs.Prelude.{ℕ, Bool, List, map, Option, position}
 use Rattle.std.specs.List.{list_any}
-use Rattle.est_base.specs.Names.{is_same_name}
+use Rattle.base_types.specs.Names.{is_same_name}
 use Rattle.est_ast.specs.declared.trees.Name.{Name}
 
 -- names without their places

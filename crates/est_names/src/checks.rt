@@ -3,7 +3,7 @@
 ghost use Rattle.std.specs.Prelude.{◌≡◌, ℕ, ◌<◌, ◌≤◌, List, [], ◌∷◌, ◌++◌, map, flat_map, length, IfOk, OnOk};
 ghost use Rattle.std.specs.Prelude.{IfSome};
 ghost use Rattle.std.specs.Option.{option_map};
-ghost use Rattle.est_base.specs.Stops.{IfFault};
+ghost use Rattle.base_types.specs.Stops.{IfFault};
 ghost use Rattle.est_ast.specs.Views.{program_of, module_of, decl_of, relation_of, stmt_of};
 ghost use Rattle.est_names.specs.declared.refusal.NameFault.TheVariants as faults;
 ghost use Rattle.est_names.specs.Names.{texts, is_among};
@@ -15,9 +15,9 @@ ghost use Rattle.est_names.specs.Tables.{IsTable};
 use crate::name_set::NameSet;
 use crate::refusal::NameFault;
 use crate::signal_lists::push_lists;
-use crate::table::Table;
+use crate::table::ModuleTable;
+use base_types::{NoMemory, Stop};
 use est_ast::{Decl, Module, Name, Program, Relation, Stmt};
-use est_base::{NoMemory, Stop};
 use std::alloc::Global;
 
 /// The table of a program's modules, where the names have no fault. The main module is the one of the given
@@ -33,7 +33,7 @@ pub fn check_modules<'a>(
     alloc: Global,
     program: &'a Program,
     main: Option<&[u8]>,
-) -> Result<Table<'a>, Stop<NameFault>>
+) -> Result<ModuleTable<'a>, Stop<NameFault>>
     ensures table { IfOk result (IsTable (option_map (λ m. m.now) main.entry) (program_of program.now)) }
     ensures fault { IfFault result
         (IsFirst (name_faults (option_map (λ m. m.now) main.entry) (program_of program.now))) }
@@ -41,7 +41,7 @@ pub fn check_modules<'a>(
     let modules = module_name_set(alloc, &program.modules)?;
     let main = main_module(&modules, main)?;
     check_all(alloc, &program.modules)?;
-    Ok(Table { main, modules })
+    Ok(ModuleTable { main, modules })
 }
 
 // The names of the modules, none of which has the name of another.

@@ -14,4 +14,4 @@ mod table;
 pub use checks::check_modules;
 pub use name_set::NameSet;
 pub use refusal::NameFault;
-pub use table::Table;
+pub use table::ModuleTable;

@@ -4,7 +4,7 @@ ghost use Rattle.std.specs.Prelude.{◌≡◌, ◌-◌, ◌<◌, ◌↔◌, [], 
 ghost use Rattle.std.specs.Prelude.{if◌then◌else◌};
 ghost use Rattle.est_names.specs.Names.{is_among, place_of};
 
-use est_base::{NoMemory, Text};
+use base_types::{NoMemory, Text};
 use indexmap::IndexSet;
 use std::alloc::Global;
 use std::marker::Model;

@@ -1,6 +1,6 @@
 // Why names are refused.
 
-use est_base::Span;
+use base_types::Span;
 use thiserror::Error;
 
 /// Why `check_modules` gives no table, where it does not lack memory.

@@ -6,8 +6,8 @@ ghost use Rattle.est_ast.specs.Views.{stmt_of, part_of, handle_of, case_of};
 ghost use Rattle.est_names.specs.NameFaults.{signal_lists, signal_lists_part, signal_lists_handler};
 ghost use Rattle.est_names.specs.NameFaults.{signal_lists_all, signal_lists_cases};
 
+use base_types::NoMemory;
 use est_ast::{Case, Form, Handle, Name, Stmt};
-use est_base::NoMemory;
 
 /// Puts those of a statement behind the others, in the order of the text.
 #[cycle(signal_lists)]

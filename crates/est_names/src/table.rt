@@ -9,12 +9,12 @@ use std::marker::Model;
 /// The modules of a program by their names, and the main one among them. A contract sees the place of the
 /// main module and the names in their order.
 #[derive(Drop)]
-pub struct Table<'a> {
+pub struct ModuleTable<'a> {
     pub(crate) main: usize,
     pub(crate) modules: NameSet<'a>,
 }
 
-impl<'a> Model for Table<'a> {
+impl<'a> Model for ModuleTable<'a> {
     ghost use Rattle.est_names.specs.Tables.{Modules};
 
     ghost Value = { Modules };
@@ -22,7 +22,7 @@ impl<'a> Model for Table<'a> {
     ghost view = { λ t. record { main = t.main; names = t.modules } };
 }
 
-impl<'a> Table<'a> {
+impl<'a> ModuleTable<'a> {
     /// The place of the main module among the modules. It takes no memory.
     pub fn main(&self) -> usize
         ensures { result ≡ self.now.main }

@@ -1,7 +1,7 @@
 -- Inner: judgements on tests, events and delays.
 use Rattle.std.proofs.Common.{◌≡◌, ◌⊎◌, inl, inr, ℕ, suc, IsTrue, List, [], ◌∷◌, Option, Some, None, refl, sym, ◌∙◌, ap, subst, arith}
 use Rattle.std.specs.Option.{option_map}
-use Rattle.est_base.specs.declared.place.Span.{Span}
+use Rattle.base_types.specs.declared.place.Span.{Span}
 use Rattle.est_ast.specs.declared.tokens.Token.{Token}
 use Rattle.est_ast.specs.declared.tokens.Kind.{Kind}
 use Rattle.est_ast.specs.declared.tokens.Kind.TheVariants as kinds
@@ -10,18 +10,18 @@ use Rattle.est_ast.specs.declared.tokens.Reserved.TheVariants as words
 use Rattle.est_ast.specs.declared.tokens.Mark.TheVariants as marks
 use Rattle.est_ast.specs.declared.trees.Name.{Name}
 use Rattle.est_ast.specs.Trees.{Expr, Tick, Sig, Not, And, Or, Round, Square, Exprs, NoExprs, MoreExprs, Delay, Plain, Immediate, Count, exprs}
-use Rattle.est_ast.specs.Grammar.{is_word, word, mark, name_at, name, number, tick_at, tick, Tier, Disjunction, Conjunction, Negation, SpellsExpr}
+use Rattle.est_ast.specs.Grammar.{is_word, word, mark, name_at, name, number, tick_at, tick, TestTier, Disjunction, Conjunction, Negation, SpellsExpr}
 use Rattle.est_ast.specs.Grammar.{SpellsExprs, SpellsNextExprs, SpellsOtherExprs, SpellsEvent, SpellsDelay, SpellsCount, SpellsTest}
 use Rattle.est_ast.specs.Nesting.{expr_nesting, exprs_nesting, delay_nesting}
-use Rattle.expr_tiers.specs.Reading.{Opening, Negates, Opens, IsLeaf}
-use Rattle.expr_tiers.proofs.Exports.{Behind, IsGrammar, Kinds, KnownExprs, TellsOpenings, part-to, negation-from, bracket-from, leaf-from, IsRow, AtTier}
-use Rattle.expr_tiers.proofs.Exports.{IsBelow, IsNode, tier-of}
-use Rattle.expr_tiers.proofs.Judgements as tiers
-use Rattle.read_rules.specs.Languages.{One, Then, Led, Both}
-use Rattle.read_rules.specs.Choice.{Made}
-use Rattle.read_rules.specs.Readings.{Rule}
-use Rattle.read_rules.proofs.Exports.{apart, Test, Shape, one_shape, Reads, the-reads, both-reads, led-reads, ahead-reads, mapped-reads, told-reads}
-use Rattle.read_rules.proofs.Exports.{shape-reads}
+use Rattle.base_expressions.specs.Reading.{Opening, Negates, Opens, IsLeaf}
+use Rattle.base_expressions.proofs.Exports.{Behind, IsGrammar, Kinds, KnownExprs, TellsOpenings, part-to, negation-from, bracket-from, leaf-from, IsRow, AtTier}
+use Rattle.base_expressions.proofs.Exports.{IsBelow, IsNode, tier-of}
+use Rattle.base_expressions.proofs.Judgements as tiers
+use Rattle.base_reader.specs.Languages.{One, Then, Led, Both}
+use Rattle.base_reader.specs.Choice.{Made}
+use Rattle.base_reader.specs.Readings.{Rule}
+use Rattle.base_reader.proofs.Exports.{apart, Test, Shape, one_shape, Reads, the-reads, both-reads, led-reads, ahead-reads, mapped-reads, told-reads}
+use Rattle.base_reader.proofs.Exports.{shape-reads}
 use Rattle.est_parse.specs.declared.openings.Bracket.{Bracket}
 use Rattle.est_parse.specs.declared.openings.Bracket.TheVariants as brackets
 use Rattle.est_parse.specs.Openings.{Leaf, TickLeaf, NameLeaf, part_at, part_start, event_in, event_start}
@@ -115,7 +115,7 @@ exprs-of : (others : Exprs) → (es : List Expr) × (exprs es ≡ others)
 exprs-of NoExprs = ([], refl)
 exprs-of (MoreExprs e others) = let es = exprs-of others in (e ∷ es.0, ap (MoreExprs e) es.1)
 
-row : (w : Reserved) (tier : Tier) →
+row : (w : Reserved) (tier : TestTier) →
     IsRow (word w) (SpellsExpr tier) expr_nesting exprs exprs_nesting (SpellsExprs w tier) (SpellsNextExprs w tier) (SpellsOtherExprs w tier)
 row w tier = record { listed = exprs-of; none = (refl, refl, refl, refl); more = λ e es. (refl, refl, refl, refl) }
 

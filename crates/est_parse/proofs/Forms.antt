@@ -5,8 +5,8 @@ use Rattle.est_ast.specs.declared.tokens.Token.{Token}
 use Rattle.est_parse.specs.declared.openings.Opening.{Opening}
 use Rattle.est_parse.specs.Openings.{opening, is_deep}
 use Rattle.est_parse.specs.Reading.{item_behind, form, rules, inside}
-use Rattle.read_rules.specs.Choice.{fits, entered}
-use Rattle.read_rules.specs.Readings.{picked, refuse}
+use Rattle.base_reader.specs.Choice.{fits, entered}
+use Rattle.base_reader.specs.Readings.{picked, refuse}
 
 pub form-opened : (o : Opening) (tokens rest : List Token) (room less : ℕ) → picked opening tokens ≡ Some (o, rest) → is_deep o ≡ true → room ≡ suc less →
     form room (inside room) tokens ≡ item_behind o (rules less) rest

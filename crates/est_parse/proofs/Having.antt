@@ -9,8 +9,8 @@ use Rattle.est_ast.specs.declared.tokens.Reserved.{Reserved}
 use Rattle.est_ast.specs.declared.tokens.Reserved.TheVariants as words
 use Rattle.est_ast.specs.declared.tokens.Mark.{Mark}
 use Rattle.est_ast.specs.Grammar.{is_word, word, is_mark, mark, Listed, Ends}
-use Rattle.read_rules.specs.Languages.{Empty, One, Then, Led, Both, Parted, Many}
-use Rattle.read_rules.specs.Languages.{Loop as Steps}
+use Rattle.base_reader.specs.Languages.{Empty, One, Then, Led, Both, Parted, Many}
+use Rattle.base_reader.specs.Languages.{Loop as Steps}
 use Rattle.est_parse.specs.Laws.{kinds_of}
 use Rattle.est_parse.specs.OneSpelling.{listed}
 use Rattle.est_parse.specs.Spellable.{IsListed}
@@ -74,7 +74,7 @@ taken-word w token is = ap (is_word w) is ∙ word-self w
 taken-mark : (m : Mark) (token : Token) → token.kind ≡ kinds.Mark m → mark m token ≡ Some tt
 taken-mark m token is = ap (is_mark m) is ∙ mark-self m
 
--- Languages put together, as Languages in read_rules has them.
+-- Languages put together, as Languages in base_reader has them.
 
 -- one token, whose value depends on its place alone
 pub one-has : {X : Type 0} {test : Token → Option X} {P : X → Type 0} {kind : Kind} →

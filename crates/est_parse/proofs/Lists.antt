@@ -5,24 +5,24 @@ use Rattle.est_ast.specs.declared.tokens.Token.{Token}
 use Rattle.est_ast.specs.declared.tokens.Reserved.{Reserved}
 use Rattle.est_ast.specs.declared.tokens.Reserved.TheVariants as words
 use Rattle.est_ast.specs.declared.tokens.Mark.{Mark}
-use Rattle.est_base.specs.declared.place.Span.{Span}
+use Rattle.base_types.specs.declared.place.Span.{Span}
 use Rattle.est_ast.specs.Trees.{Stmt, At, Form, Stmts, stmts}
 use Rattle.est_parse.specs.Parts.{stmt_list}
 use Rattle.est_ast.specs.Grammar.{mark, name, Listed, Ends}
-use Rattle.read_rules.specs.Languages.{Empty, One, Both, Loop, Parted}
-use Rattle.read_rules.specs.Choice.{Made, entered, fits}
+use Rattle.base_reader.specs.Languages.{Empty, One, Both, Loop, Parted}
+use Rattle.base_reader.specs.Choice.{Made, entered, fits}
 use Rattle.std.specs.Option.{option_map_or}
 use Rattle.std.proofs.lemmas.List.{append_assoc, map-id}
-use Rattle.expr_tiers.specs.Reading.{Opening}
-use Rattle.expr_tiers.specs.Reading as tiers
-use Rattle.expr_tiers.specs.Views.{FindsBy}
-use Rattle.read_rules.specs.Found.{Finds}
-use Rattle.read_rules.specs.declared.faults.ReadError.{ReadError}
-use Rattle.read_rules.specs.declared.faults.ReadError.TheVariants as errors
+use Rattle.base_expressions.specs.Reading.{Opening}
+use Rattle.base_expressions.specs.Reading as tiers
+use Rattle.base_expressions.specs.Views.{FindsBy}
+use Rattle.base_reader.specs.Found.{Finds}
+use Rattle.base_reader.specs.declared.faults.ReadError.{ReadError}
+use Rattle.base_reader.specs.declared.faults.ReadError.TheVariants as errors
 use Rattle.est_ast.specs.Grammar.{span_of}
-use Rattle.read_rules.specs.Readings.{Read, Rule, refuse, give, follow, mapped, on, the, picked, turn, loop, taken_of}
-use Rattle.read_rules.proofs.Exports.{Advances, loop-unfolds, apart, Shape, one_shape, no_shape, then_shape, Reads, the-reads, give-reads, both-reads}
-use Rattle.read_rules.proofs.Exports.{led-reads, may-reads, made-reads, or_turn, step_shape, list_depth, or-steps, loop-reads, Advances-step}
+use Rattle.base_reader.specs.Readings.{Read, Rule, refuse, give, follow, mapped, on, the, picked, turn, loop, taken_of}
+use Rattle.base_reader.proofs.Exports.{Advances, loop-unfolds, apart, Shape, one_shape, no_shape, then_shape, Reads, the-reads, give-reads, both-reads}
+use Rattle.base_reader.proofs.Exports.{led-reads, may-reads, made-reads, or_turn, step_shape, list_depth, or-steps, loop-reads, Advances-step}
 use Rattle.est_parse.specs.declared.openings.Bracket.{Bracket}
 use Rattle.est_parse.specs.Openings.{Leaf, part_start, event_start}
 use Rattle.est_parse.specs.Reading.{list_step, listed, ends, tests, event, finished, stmt_parts}

@@ -7,16 +7,16 @@ use Rattle.est_ast.specs.declared.tokens.Reserved.{Reserved}
 use Rattle.est_ast.specs.declared.tokens.Reserved.TheVariants as words
 use Rattle.est_ast.specs.declared.tokens.Mark.TheVariants as marks
 use Rattle.est_ast.specs.declared.trees.Name.{Name}
-use Rattle.est_ast.specs.Trees.{Relation, Implies, Excludes, Decl, Input, InputOutput, Output, Relations, Module, Program}
+use Rattle.est_ast.specs.Trees.{NamedRelation, Implies, Excludes, Decl, Input, InputOutput, Output, Relations, Module, SourceProgram}
 use Rattle.est_ast.specs.Grammar.{is_word, mark, name, Listed, Whole, Spells, SpellsRelation, SpellsDecl, EndsModule, SpellsModule, SpellsProgram}
 use Rattle.est_ast.specs.Nesting.{nesting, program_nesting, IsProgram}
-use Rattle.read_rules.specs.Exact.{Exactly}
-use Rattle.read_rules.specs.Languages.{One, Then, Led, Both, Optional, Many}
-use Rattle.read_rules.specs.Choice.{Made}
-use Rattle.read_rules.specs.Readings.{Rule, the, whole}
-use Rattle.read_rules.proofs.Exports.{Advances, Shape, one_shape, Lang, Reads, the-reads, both-reads, led-reads, trail-reads, ahead-reads, mapped-reads}
-use Rattle.read_rules.proofs.Exports.{told-reads, made-reads, shape-reads, Turn, list_depth, Steps, look-steps, loop-reads, Advances-step, Arm, arm}
-use Rattle.read_rules.proofs.Exports.{choose-lang, choose-reads, whole-reads as exact-reads, list_depth-flat}
+use Rattle.base_reader.specs.Exact.{Exactly}
+use Rattle.base_reader.specs.Languages.{One, Then, Led, Both, Optional, Many}
+use Rattle.base_reader.specs.Choice.{Made}
+use Rattle.base_reader.specs.Readings.{Rule, the, whole}
+use Rattle.base_reader.proofs.Exports.{Advances, Shape, one_shape, Lang, Reads, the-reads, both-reads, led-reads, trail-reads, ahead-reads, mapped-reads}
+use Rattle.base_reader.proofs.Exports.{told-reads, made-reads, shape-reads, Turn, list_depth, Steps, look-steps, loop-reads, Advances-step, Arm, arm}
+use Rattle.base_reader.proofs.Exports.{choose-lang, choose-reads, whole-reads as exact-reads, list_depth-flat}
 use Rattle.est_parse.specs.declared.openings.Declaration.{Declaration}
 use Rattle.est_parse.specs.declared.openings.Declaration.TheVariants as declarations
 use Rattle.est_parse.specs.Openings.{declaration_of, declaration}
@@ -48,7 +48,7 @@ relation_to : (found : Name × Related) (tokens : List Token) → Both (One name
 relation_to (first, Effect effect) tokens member = member
 relation_to (first, Others others) tokens member = member
 
-relation_from : (v : Relation) (tokens : List Token) → SpellsRelation v tokens → Made relation_of (Both (One name) Relates) v tokens
+relation_from : (v : NamedRelation) (tokens : List Token) → SpellsRelation v tokens → Made relation_of (Both (One name) Relates) v tokens
 relation_from (Implies cause effect) tokens member = ((cause, Effect effect), refl, member)
 relation_from (Excludes []) tokens member = absurd member
 relation_from (Excludes (first ∷ others)) tokens member = ((first, Others others), refl, member)
@@ -244,7 +244,7 @@ program-reads room =
     made-reads (λ found. found.0 ∷ found.1) SpellsProgram program_nesting (both-reads (module-reads room) (loop-reads (module-steps room) refl) refl)
     (λ found. ap (max (nesting found.0.body)) (modules_depth found.1)) (λ found tokens member. member) from
   where
-    from : (v : Program) (tokens : List Token) → SpellsProgram v tokens →
+    from : (v : SourceProgram) (tokens : List Token) → SpellsProgram v tokens →
         Made {A = Module × List Module} (λ found. found.0 ∷ found.1) (Both SpellsModule (Many SpellsModule)) v tokens
     from [] tokens member = absurd member
     from (m ∷ others) tokens member = ((m, others), refl, member)

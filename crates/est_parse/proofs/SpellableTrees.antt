@@ -10,19 +10,20 @@ use Rattle.est_ast.specs.declared.tokens.Mark.TheVariants as marks
 use Rattle.est_ast.specs.Trees.{Expr, Tick, Sig, Not, And, Or, Round, Square, Exprs, NoExprs, MoreExprs, Delay, Plain, Immediate, Count, Stmt, At, Form}
 use Rattle.est_ast.specs.Trees.{Nothing, Pause, Halt, Emit, Sustain, Await, AwaitCase, Present, PresentCase, Loop, LoopEach, Every, Repeat, Abort, AbortCase}
 use Rattle.est_ast.specs.Trees.{WeakAbort, Suspend, Trap, Exit, Signal, Run, Seq, Par, Group, Part, Missing, Written, Handler, NoHandler, Handled, Stmts}
-use Rattle.est_ast.specs.Trees.{NoStmts, MoreStmts, Cases, NoCases, MoreCases, Relation, Implies, Excludes, Decl, Input, InputOutput, Output, Relations, Module}
-use Rattle.est_ast.specs.Grammar.{mark, name, Listed, Tier, Disjunction, Conjunction, Negation, SpellsExpr, SpellsExprs, SpellsOtherExprs, SpellsEvent}
+use Rattle.est_ast.specs.Trees.{NoStmts, MoreStmts, Cases, NoCases, MoreCases, NamedRelation, Implies, Excludes, Decl, Input, InputOutput, Output, Relations}
+use Rattle.est_ast.specs.Trees.{Module}
+use Rattle.est_ast.specs.Grammar.{mark, name, Listed, TestTier, Disjunction, Conjunction, Negation, SpellsExpr, SpellsExprs, SpellsOtherExprs, SpellsEvent}
 use Rattle.est_ast.specs.Grammar.{SpellsDelay, SpellsCount, SpellsTest, Level, Whole, Line, Item, Spells, SpellsSeq, SpellsPar, SpellsStmts}
 use Rattle.est_ast.specs.Grammar.{SpellsOtherStmts, SpellsItem, SpellsPart, SpellsDo, SpellsHandler, SpellsCases, SpellsOtherCases, SpellsRelation, SpellsDecl}
 use Rattle.est_ast.specs.Grammar.{SpellsModule}
-use Rattle.read_rules.specs.Languages.{Empty, One, Maybe, Parted, Many}
-use Rattle.read_rules.specs.Languages.{Loop as Steps}
+use Rattle.base_reader.specs.Languages.{Empty, One, Maybe, Parted, Many}
+use Rattle.base_reader.specs.Languages.{Loop as Steps}
 use Rattle.est_parse.specs.Laws.{TreesAreSpellable}
 use Rattle.est_parse.specs.Spellable.{AreExprs, AreStmts, IsListed, IsExpr, EachExpr, IsEvent, IsDelay, IsCount, IsTest, IsStmt, IsForm, IsPart, IsHandler}
 use Rattle.est_parse.specs.Spellable.{EachStmt, AreCases, EachCase, IsRelation, IsDecl, IsModule}
 
 mutual
-  expr-is : (tier : Tier) (e : Expr) (tokens : List Token) → SpellsExpr tier e tokens → IsExpr tier e
+  expr-is : (tier : TestTier) (e : Expr) (tokens : List Token) → SpellsExpr tier e tokens → IsExpr tier e
   expr-is tier (Tick span) tokens m = tt
   expr-is tier (Sig n) tokens m = tt
   expr-is tier (Not e) tokens m = expr-is Negation e m.rest m.behind
@@ -35,7 +36,7 @@ mutual
   expr-is Conjunction (Or parts) tokens m = absurd m
   expr-is Negation (Or parts) tokens m = absurd m
 
-  exprs-are : (w : Reserved) (tier : Tier) (parts : Exprs) (tokens : List Token) → SpellsExprs w tier parts tokens → AreExprs parts × EachExpr tier parts
+  exprs-are : (w : Reserved) (tier : TestTier) (parts : Exprs) (tokens : List Token) → SpellsExprs w tier parts tokens → AreExprs parts × EachExpr tier parts
   exprs-are w tier NoExprs tokens m = absurd m
   exprs-are w tier (MoreExprs e NoExprs) tokens m = absurd m.second
   exprs-are w tier (MoreExprs e (MoreExprs next others)) tokens m = (
@@ -49,7 +50,7 @@ mutual
     ),
   )
 
-  each-expr : (w : Reserved) (tier : Tier) (others : Exprs) (tokens : List Token) → SpellsOtherExprs w tier others tokens → EachExpr tier others
+  each-expr : (w : Reserved) (tier : TestTier) (others : Exprs) (tokens : List Token) → SpellsOtherExprs w tier others tokens → EachExpr tier others
   each-expr w tier NoExprs tokens m = tt
   each-expr w tier (MoreExprs e others) tokens m = (expr-is tier e m.first.rest m.first.behind, each-expr w tier others m.back m.second)
 
@@ -178,7 +179,7 @@ mutual
   each-case (MoreCases event body others) tokens m =
       let b = m.first.behind in (expr-is Disjunction event b.front b.first, part-is words.Do body b.back b.second, each-case others m.back m.second)
 
-relation-is : (relation : Relation) (tokens : List Token) → SpellsRelation relation tokens → IsRelation relation
+relation-is : (relation : NamedRelation) (tokens : List Token) → SpellsRelation relation tokens → IsRelation relation
 relation-is (Implies cause effect) tokens m = tt
 relation-is (Excludes []) tokens m = absurd m
 relation-is (Excludes (first ∷ [])) tokens m = absurd m.second.behind

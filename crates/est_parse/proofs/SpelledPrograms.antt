@@ -1,13 +1,13 @@
 -- Inner: what the parser's contract says of the one spelling of a tree. The nesting of a tree is that of the tree
 -- without its places.
 use Rattle.std.proofs.Common.{◌≡◌, suc, max, ◌≤◌, List, [], ◌∷◌, refl, sym, ◌∙◌, ap, ap₂, subst}
-use Rattle.est_base.specs.declared.bounds.TheConstants.Limits.{NESTING}
+use Rattle.base_types.specs.declared.bounds.TheConstants.Limits.{NESTING}
 use Rattle.est_ast.specs.declared.tokens.Token.{Token}
 use Rattle.est_ast.specs.Trees.{Expr, Tick, Sig, Not, And, Or, Round, Square, Exprs, NoExprs, MoreExprs, Delay, Plain, Immediate, Count, Stmt, At, Form}
 use Rattle.est_ast.specs.Trees.{Nothing, Pause, Halt, Emit, Sustain, Await, AwaitCase, Present, PresentCase, Loop, LoopEach, Every, Repeat, Abort, AbortCase}
 use Rattle.est_ast.specs.Trees.{WeakAbort, Suspend, Trap, Exit, Signal, Run, Seq, Par, Group, Part, Missing, Written, Handler, NoHandler, Handled, Stmts}
 use Rattle.est_ast.specs.Trees.{NoStmts, MoreStmts, Cases, NoCases, MoreCases}
-use Rattle.est_ast.specs.Trees.{Program}
+use Rattle.est_ast.specs.Trees.{SourceProgram}
 use Rattle.est_ast.specs.Grammar.{SpellsProgram}
 use Rattle.est_ast.specs.Nesting.{expr_nesting, exprs_nesting, delay_nesting, nesting, form_nesting, part_nesting, handler_nesting, stmts_nesting}
 use Rattle.est_ast.specs.Nesting.{cases_nesting, program_nesting, IsProgram}
@@ -84,15 +84,16 @@ mutual
   cases-nesting NoCases = refl
   cases-nesting (MoreCases event body others) = ap₂ max (ap₂ max (expr-nesting event) (part-nesting body)) (cases-nesting others)
 
-program-nesting : (p : Program) → program_nesting (unplaced p) ≡ program_nesting p
+program-nesting : (p : SourceProgram) → program_nesting (unplaced p) ≡ program_nesting p
 program-nesting [] = refl
 program-nesting (m ∷ others) = ap₂ max (stmt-nesting m.body) (program-nesting others)
 
-same-nesting : (p q : Program) → unplaced q ≡ unplaced p → program_nesting q ≡ program_nesting p
+same-nesting : (p q : SourceProgram) → unplaced q ≡ unplaced p → program_nesting q ≡ program_nesting p
 same-nesting p q same = sym (program-nesting q) ∙ ap program_nesting same ∙ program-nesting p
 
 -- tokens that spell a program have no place of a fault
-unrefused : (q : Program) (tokens : List Token) → IsProgram NESTING q tokens → (refusal : ParseError) → IsFirstFault NESTING tokens refusal → refusal ≡ NoMemory
+unrefused : (q : SourceProgram) (tokens : List Token) → IsProgram NESTING q tokens → (refusal : ParseError) → IsFirstFault NESTING tokens refusal
+    → refusal ≡ NoMemory
 unrefused q tokens member NoMemory first = refl
 unrefused q tokens member (Syntax place) first =
     let least = first.2 in absurd (least.stuck q least.rest refl (subst (λ ts. IsProgram NESTING q ts) least.cut member))
@@ -102,7 +103,7 @@ unrefused q tokens member (TooNested place) first =
 pub spellings-are-read : SpellingsAreRead
 spellings-are-read p is shallow tokens spelled = (λ found only. ap unplaced (sym (only.only q.0 member)) ∙ q.1, unrefused q.0 tokens member)
   where
-    q : (found : Program) × (unplaced found ≡ unplaced p) × SpellsProgram found tokens
+    q : (found : SourceProgram) × (unplaced found ≡ unplaced p) × SpellsProgram found tokens
     q = spellings-are-grammatical p is tokens spelled
 
     member : IsProgram NESTING q.0 tokens

@@ -3,7 +3,7 @@ use Rattle.std.proofs.Common.{◌≡◌, inl, inr, ℕ, List, [], ◌∷◌, map
 use Rattle.std.specs.Prelude.{⊤}
 use Rattle.std.proofs.lemmas.List.{append-nil}
 use Rattle.std.proofs.lemmas.List.Elements.{All-head, All-tail}
-use Rattle.est_base.specs.declared.place.Span.{Span}
+use Rattle.base_types.specs.declared.place.Span.{Span}
 use Rattle.est_ast.specs.declared.tokens.Token.{Token}
 use Rattle.est_ast.specs.declared.tokens.Kind.{Kind}
 use Rattle.est_ast.specs.declared.tokens.Kind.TheVariants as kinds
@@ -16,13 +16,14 @@ use Rattle.est_ast.specs.declared.trees.Rename.{Rename}
 use Rattle.est_ast.specs.Trees.{Expr, Tick, Sig, Not, And, Or, Round, Square, Exprs, NoExprs, MoreExprs, Delay, Plain, Immediate, Count, Stmt, At, Form}
 use Rattle.est_ast.specs.Trees.{Nothing, Pause, Halt, Emit, Sustain, Await, AwaitCase, Present, PresentCase, Loop, LoopEach, Every, Repeat, Abort, AbortCase}
 use Rattle.est_ast.specs.Trees.{WeakAbort, Suspend, Trap, Exit, Signal, Run, Seq, Par, Group, Part, Missing, Written, Handler, NoHandler, Handled, Stmts}
-use Rattle.est_ast.specs.Trees.{NoStmts, MoreStmts, Cases, NoCases, MoreCases, Relation, Implies, Excludes, Decl, Input, InputOutput, Output, Relations, Module}
-use Rattle.est_ast.specs.Trees.{Program}
-use Rattle.est_ast.specs.Grammar.{word, mark, name_at, name, number_at, number, tick_at, tick, span_of, Listed, Tier, Disjunction, Conjunction, Negation}
+use Rattle.est_ast.specs.Trees.{NoStmts, MoreStmts, Cases, NoCases, MoreCases, NamedRelation, Implies, Excludes, Decl, Input, InputOutput, Output, Relations}
+use Rattle.est_ast.specs.Trees.{Module}
+use Rattle.est_ast.specs.Trees.{SourceProgram}
+use Rattle.est_ast.specs.Grammar.{word, mark, name_at, name, number_at, number, tick_at, tick, span_of, Listed, TestTier, Disjunction, Conjunction, Negation}
 use Rattle.est_ast.specs.Grammar.{SpellsExpr, SpellsExprs, SpellsOtherExprs, SpellsEvent, SpellsDelay, SpellsCount, SpellsTest, SpellsRename, SpellsRenames}
 use Rattle.est_ast.specs.Grammar.{Level, Whole, Line, Item, Spells, SpellsSeq, SpellsPar, SpellsStmts, SpellsOtherStmts, SpellsItem, SpellsPart}
 use Rattle.est_ast.specs.Grammar.{SpellsDo, SpellsHandler, SpellsCases, SpellsOtherCases, SpellsRelation, SpellsDecl, EndsModule, SpellsModule, SpellsProgram}
-use Rattle.read_rules.specs.Languages.{One, Then, Maybe}
+use Rattle.base_reader.specs.Languages.{One, Then, Maybe}
 use Rattle.est_parse.specs.Laws.{kinds_of, SpellingsAreGrammatical}
 use Rattle.est_parse.specs.OneSpelling.{listed, expr_tokens, exprs_tokens, other_exprs_tokens, delay_tokens, rename_tokens, renames_tokens, stmt_tokens}
 use Rattle.est_parse.specs.OneSpelling.{form_tokens, part_tokens, do_tokens, handler_tokens, stmts_tokens, other_stmts_tokens, cases_tokens, relation_tokens}
@@ -79,7 +80,7 @@ renames-has (rename ∷ others) =
 -- Tests.
 
 mutual
-  expr-has : (tier : Tier) (e : Expr) → IsExpr tier e → HasExpr (SpellsExpr tier) e
+  expr-has : (tier : TestTier) (e : Expr) → IsExpr tier e → HasExpr (SpellsExpr tier) e
   expr-has tier (Tick span) is = made-has tick-has Tick (λ found same. refl) (λ found tokens member. member)
   expr-has tier (Sig n) is = made-has (name-has n) Sig (λ found same. ap Sig same) (λ found tokens member. member)
   expr-has tier (Not e) is = made-has (word-has words.Not (expr-has Negation e is)) Not (λ found same. ap Not same) (λ found tokens member. member)
@@ -96,7 +97,7 @@ mutual
   expr-has Conjunction (Or parts) is = absurd is
   expr-has Negation (Or parts) is = absurd is
 
-  exprs-has : (w : Reserved) (tier : Tier) (parts : Exprs) → AreExprs parts → EachExpr tier parts →
+  exprs-has : (w : Reserved) (tier : TestTier) (parts : Exprs) → AreExprs parts → EachExpr tier parts →
       Has (λ found. unplaced_exprs found ≡ unplaced_exprs parts) (SpellsExprs w tier) (exprs_tokens w parts)
   exprs-has w tier NoExprs many each = absurd many
   exprs-has w tier (MoreExprs e NoExprs) many each = absurd many
@@ -105,7 +106,7 @@ mutual
       (λ found. MoreExprs found.0 (MoreExprs found.1.0 found.1.1)) (λ found same. ap₂ MoreExprs same.0 (ap₂ MoreExprs same.1.0 same.1.1))
       (λ found tokens member. member)
 
-  other-exprs-has : (w : Reserved) (tier : Tier) (others : Exprs) → EachExpr tier others →
+  other-exprs-has : (w : Reserved) (tier : TestTier) (others : Exprs) → EachExpr tier others →
       Has (λ found. unplaced_exprs found ≡ unplaced_exprs others) (SpellsOtherExprs w tier) (other_exprs_tokens w others)
   other-exprs-has w tier NoExprs each = none-has NoExprs refl refl
   other-exprs-has w tier (MoreExprs e others) each =
@@ -310,7 +311,7 @@ mutual
 
 -- Modules.
 
-relation-has : (relation : Relation) → IsRelation relation → Has (λ found. unplaced_relation found ≡ unplaced_relation relation) SpellsRelation
+relation-has : (relation : NamedRelation) → IsRelation relation → Has (λ found. unplaced_relation found ≡ unplaced_relation relation) SpellsRelation
     (relation_tokens relation)
 relation-has (Implies cause effect) is =
     made-has (both-has (name-has cause) (mark-has marks.Arrow (name-has effect))) (λ found. Implies found.0 found.1) (λ found same. ap₂ Implies same.0 same.1)
@@ -343,7 +344,7 @@ module-has m is =
     (λ found. record { name = found.0; decls = found.1.0; body = found.1.1 })
     (λ found same. ap-three (λ n ds b. record { name = n; decls = ds; body = b }) same.0 same.1.0 same.1.1) (λ found tokens member. member)
 
-program-has : (p : Program) → IsSpellable p → Has (λ found. unplaced found ≡ unplaced p) SpellsProgram (tokens_of p)
+program-has : (p : SourceProgram) → IsSpellable p → Has (λ found. unplaced found ≡ unplaced p) SpellsProgram (tokens_of p)
 program-has [] is = absurd is.modules
 program-has (m ∷ others) is =
     made-has (both-has (module-has m (All-head IsModule m others is.each))

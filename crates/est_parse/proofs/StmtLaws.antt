@@ -2,7 +2,7 @@
 use Rattle.std.proofs.Common.{◌≡◌, ◌⊎◌, inl, inr, ℕ, zero, suc, max, true, false, List, [], ◌∷◌, ◌++◌, Bool, Option, Some, None, Ok, Err, refl, sym, ◌∙◌, ap}
 use Rattle.std.proofs.Common.{subst, arith}
 use Rattle.std.proofs.lemmas.List.{append-nil}
-use Rattle.est_base.specs.declared.place.Span.{Span}
+use Rattle.base_types.specs.declared.place.Span.{Span}
 use Rattle.est_ast.specs.declared.tokens.Token.{Token}
 use Rattle.est_ast.specs.declared.tokens.Kind.TheVariants as kinds
 use Rattle.est_ast.specs.declared.tokens.Reserved.{Reserved}
@@ -19,14 +19,14 @@ use Rattle.est_ast.specs.Grammar.{word, mark, name, number, span_of, Over, Liste
 use Rattle.est_ast.specs.Grammar.{SpellsTest, SpellsRename, SpellsRenames, Level, Whole, Line, Item, Spells, SpellsSeq, SpellsPar, SpellsStmts}
 use Rattle.est_ast.specs.Grammar.{SpellsOtherStmts, SpellsItem, SpellsPart, SpellsDo, SpellsHandler, SpellsCases, SpellsOtherCases}
 use Rattle.est_ast.specs.Nesting.{expr_nesting, delay_nesting, nesting, form_nesting, part_nesting, handler_nesting, stmts_nesting, cases_nesting}
-use Rattle.read_rules.specs.Languages.{Empty, One, Then, Led, Both, Loop, Maybe, Parted, Placed}
-use Rattle.read_rules.specs.Choice.{Made, Only, adds, fits}
+use Rattle.base_reader.specs.Languages.{Empty, One, Then, Led, Both, Loop, Maybe, Parted, Placed}
+use Rattle.base_reader.specs.Choice.{Made, Only, adds, fits}
 use Rattle.std.specs.Option.{option_map_or}
-use Rattle.read_rules.specs.Readings.{Read, Rule, picked, refuse, give, follow, mapped, both, on, the, trail}
-use Rattle.read_rules.proofs.Exports.{Below, by_room, Advances, Shape, one_shape, no_shape, then_shape, either_shape, Lang, Reads, the-reads, give-reads}
-use Rattle.read_rules.proofs.Exports.{both-reads, led-reads, trail-reads, ahead-reads, mapped-reads, told-reads, made-reads, placed-reads, same-reads}
-use Rattle.read_rules.proofs.Exports.{shape-reads, Turn, or_turn, step_shape, step_depth, list_depth, Steps, or-steps, trailing-steps, step-reads, loop-reads}
-use Rattle.read_rules.proofs.Exports.{Advances-step, Arm, arm, choose-lang, choose-reads, list_depth-flat}
+use Rattle.base_reader.specs.Readings.{Read, Rule, picked, refuse, give, follow, mapped, both, on, the, trail}
+use Rattle.base_reader.proofs.Exports.{Below, by_room, Advances, Shape, one_shape, no_shape, then_shape, either_shape, Lang, Reads, the-reads, give-reads}
+use Rattle.base_reader.proofs.Exports.{both-reads, led-reads, trail-reads, ahead-reads, mapped-reads, told-reads, made-reads, placed-reads, same-reads}
+use Rattle.base_reader.proofs.Exports.{shape-reads, Turn, or_turn, step_shape, step_depth, list_depth, Steps, or-steps, trailing-steps, step-reads, loop-reads}
+use Rattle.base_reader.proofs.Exports.{Advances-step, Arm, arm, choose-lang, choose-reads, list_depth-flat}
 use Rattle.est_parse.specs.declared.openings.Opening.{Opening}
 use Rattle.est_parse.specs.declared.openings.Opening.TheVariants as openings
 use Rattle.est_parse.specs.declared.openings.Flat.TheVariants as flats

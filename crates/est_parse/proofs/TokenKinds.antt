@@ -4,7 +4,7 @@ use Rattle.std.proofs.Common.{subst}
 use Rattle.std.specs.Str.{bytes_eq}
 use Rattle.std.proofs.lemmas.Bool.{eqb-true}
 use Rattle.std.proofs.lemmas.Slice.Eq.{bytes_eq-Decides}
-use Rattle.est_base.specs.declared.place.Span.{Span}
+use Rattle.base_types.specs.declared.place.Span.{Span}
 use Rattle.est_ast.specs.declared.tokens.Token.{Token}
 use Rattle.est_ast.specs.declared.tokens.Kind.{Kind}
 use Rattle.est_ast.specs.declared.tokens.Kind.TheVariants as kinds
@@ -15,8 +15,8 @@ use Rattle.est_ast.specs.declared.tokens.Mark.TheVariants as marks
 use Rattle.est_ast.specs.Spelling.{spelling, sign}
 use Rattle.est_ast.specs.Grammar.{is_word, word, is_mark, mark, name_at, name, number_at, number}
 use Rattle.est_ast.proofs.Exports.{read_word, read-spelling, mark_of, mark_of-head}
-use Rattle.expr_tiers.specs.Reading.{Negates, Opens}
-use Rattle.read_rules.proofs.Exports.{has, Test, test-of}
+use Rattle.base_expressions.specs.Reading.{Negates, Opens}
+use Rattle.base_reader.proofs.Exports.{has, Test, test-of}
 use Rattle.est_parse.specs.declared.openings.Opening.{Opening}
 use Rattle.est_parse.specs.declared.openings.Opening.TheVariants as openings
 use Rattle.est_parse.specs.declared.openings.Flat.TheVariants as flats

@@ -4,8 +4,8 @@ use Rattle.est_ast.specs.declared.tokens.Token.{Token}
 use Rattle.est_ast.specs.Nesting.{IsProgram}
 use Rattle.est_parse.specs.declared.refusal.ParseError.{ParseError}
 use Rattle.est_parse.specs.declared.refusal.ParseError.TheVariants.{Syntax, TooNested, NoMemory}
-use Rattle.read_rules.specs.declared.faults.Fault.{Fault}
-use Rattle.read_rules.specs.Exact.{IsLeastPlace}
+use Rattle.base_reader.specs.declared.faults.Fault.{Fault}
+use Rattle.base_reader.specs.Exact.{IsLeastPlace}
 
 -- The place of the fault is counted from the front of the tokens; `left` of them stand from there on.
 abbrev pub IsFaultAt : List Token → Fault → ParseError → Type 0

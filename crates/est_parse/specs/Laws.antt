@@ -1,12 +1,12 @@
 -- Contract: laws of the one spelling of a tree.
 use Rattle.std.specs.Prelude.{◌≡◌, ◌≤◌, List, map}
-use Rattle.est_base.specs.declared.bounds.TheConstants.Limits.{NESTING}
+use Rattle.base_types.specs.declared.bounds.TheConstants.Limits.{NESTING}
 use Rattle.est_ast.specs.declared.tokens.Token.{Token}
 use Rattle.est_ast.specs.declared.tokens.Kind.{Kind}
-use Rattle.est_ast.specs.Trees.{Program}
+use Rattle.est_ast.specs.Trees.{SourceProgram}
 use Rattle.est_ast.specs.Grammar.{SpellsProgram}
 use Rattle.est_ast.specs.Nesting.{program_nesting, IsProgram}
-use Rattle.read_rules.specs.Exact.{IsOnly}
+use Rattle.base_reader.specs.Exact.{IsOnly}
 use Rattle.est_parse.specs.declared.refusal.ParseError.{ParseError}
 use Rattle.est_parse.specs.declared.refusal.ParseError.TheVariants.{NoMemory}
 use Rattle.est_parse.specs.Faults.{IsFirstFault}
@@ -21,17 +21,19 @@ kinds_of tokens = map (λ token. token.kind) tokens
 -- To tokens that spell a tree, wherever they stand, the grammar gives this tree, but for its places.
 abbrev pub SpellingsAreGrammatical : Type 0
 SpellingsAreGrammatical =
-    (p : Program) → IsSpellable p → (tokens : List Token) → kinds_of tokens ≡ tokens_of p
-    → (found : Program) × (unplaced found ≡ unplaced p) × SpellsProgram found tokens
+    (p : SourceProgram) → IsSpellable p → (tokens : List Token)
+    → kinds_of tokens ≡ tokens_of p
+    → (found : SourceProgram) × (unplaced found ≡ unplaced p) × SpellsProgram found tokens
 
 -- Each tree that the grammar gives to tokens has a spelling.
 abbrev pub TreesAreSpellable : Type 0
-TreesAreSpellable = (p : Program) (tokens : List Token) → SpellsProgram p tokens → IsSpellable p
+TreesAreSpellable = (p : SourceProgram) (tokens : List Token) → SpellsProgram p tokens → IsSpellable p
 
 -- What `parse` may answer, by its contract, to tokens that spell a tree nested at most 200 deep: this tree, but for its
 -- places, and no fault; want of memory is its own.
 abbrev pub SpellingsAreRead : Type 0
 SpellingsAreRead =
-    (p : Program) → IsSpellable p → program_nesting p ≤ NESTING → (tokens : List Token) → kinds_of tokens ≡ tokens_of p
-    → ((found : Program) → IsOnly IsProgram NESTING tokens found → unplaced found ≡ unplaced p)
+    (p : SourceProgram) → IsSpellable p → program_nesting p ≤ NESTING → (tokens : List Token)
+    → kinds_of tokens ≡ tokens_of p
+    → ((found : SourceProgram) → IsOnly IsProgram NESTING tokens found → unplaced found ≡ unplaced p)
     × ((refusal : ParseError) → IsFirstFault NESTING tokens refusal → refusal ≡ NoMemory)

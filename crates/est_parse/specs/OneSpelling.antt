@@ -15,8 +15,8 @@ use Rattle.est_ast.specs.Trees.{Expr, Tick, Sig, Not, And, Or, Round, Square, Ex
 use Rattle.est_ast.specs.Trees.{Immediate, Count, Stmt, At, Form, Nothing, Pause, Halt, Emit, Sustain, Await, AwaitCase}
 use Rattle.est_ast.specs.Trees.{Present, PresentCase, Loop, LoopEach, Every, Repeat, Abort, AbortCase, WeakAbort}
 use Rattle.est_ast.specs.Trees.{Suspend, Trap, Exit, Signal, Run, Seq, Par, Group, Part, Missing, Written, Handler}
-use Rattle.est_ast.specs.Trees.{NoHandler, Handled, Stmts, NoStmts, MoreStmts, Cases, NoCases, MoreCases, Relation}
-use Rattle.est_ast.specs.Trees.{Implies, Excludes, Decl, Input, InputOutput, Output, Relations, Module, Program}
+use Rattle.est_ast.specs.Trees.{NoHandler, Handled, Stmts, NoStmts, MoreStmts, Cases, NoCases, MoreCases, NamedRelation}
+use Rattle.est_ast.specs.Trees.{Implies, Excludes, Decl, Input, InputOutput, Output, Relations, Module, SourceProgram}
 
 -- one token
 abbrev pub word : Reserved → List Kind
@@ -137,7 +137,7 @@ abbrev mutual
   cases_tokens (MoreCases event body others) =
       (word words.Case ++ expr_tokens event ++ part_tokens words.Do body) ++ cases_tokens others
 
-abbrev pub relation_tokens : Relation → List Kind
+abbrev pub relation_tokens : NamedRelation → List Kind
 relation_tokens (Implies cause effect) = name cause ++ (mark marks.Arrow ++ name effect)
 relation_tokens (Excludes names) = listed marks.Hash name names
 
@@ -154,5 +154,5 @@ module_tokens m =
     ++ (flat_map decl_tokens m.decls ++ (stmt_tokens m.body ++ (word words.End ++ word words.Module)))))
 
 -- the kinds of the tokens of a program's one spelling
-abbrev pub tokens_of : Program → List Kind
+abbrev pub tokens_of : SourceProgram → List Kind
 tokens_of p = flat_map module_tokens p

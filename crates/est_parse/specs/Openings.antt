@@ -1,6 +1,6 @@
 -- Inner: what the next token begins.
 use Rattle.std.specs.Prelude.{Bool, true, false, Option, Some, None}
-use Rattle.est_base.specs.declared.place.Span.{Span}
+use Rattle.base_types.specs.declared.place.Span.{Span}
 use Rattle.est_ast.specs.declared.tokens.Token.{Token}
 use Rattle.est_ast.specs.declared.tokens.Kind.{Kind}
 use Rattle.est_ast.specs.declared.tokens.Kind.TheVariants as kinds
@@ -15,7 +15,7 @@ use Rattle.est_parse.specs.declared.openings.Bracket.{Bracket}
 use Rattle.est_parse.specs.declared.openings.Bracket.TheVariants as brackets
 use Rattle.est_parse.specs.declared.openings.Declaration.{Declaration}
 use Rattle.est_parse.specs.declared.openings.Declaration.TheVariants as declarations
-use Rattle.expr_tiers.specs.Reading.{Opening as PartOpening, Negates, Opens, IsLeaf}
+use Rattle.base_expressions.specs.Reading.{Opening as PartOpening, Negates, Opens, IsLeaf}
 
 -- the token that begins an item
 abbrev pub kind_of : Opening → Kind

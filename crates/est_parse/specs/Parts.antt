@@ -1,6 +1,6 @@
 -- Inner: how the nodes of a tree are made of what stands in a text.
 use Rattle.std.specs.Prelude.{ℕ, List, [], ◌∷◌, Option, Some, None}
-use Rattle.est_base.specs.declared.place.Span.{Span}
+use Rattle.base_types.specs.declared.place.Span.{Span}
 use Rattle.est_ast.specs.declared.trees.Name.{Name}
 use Rattle.est_ast.specs.declared.trees.Rename.{Rename}
 use Rattle.est_ast.specs.Trees.{Expr, Delay, Count, Stmt, At, Form, Await, AwaitCase}

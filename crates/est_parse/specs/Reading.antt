@@ -1,6 +1,6 @@
 -- Inner: the reading function of the grammar, from the left with one token ahead.
 use Rattle.std.specs.Prelude.{ℕ, zero, suc, Bool, false, List, ◌∷◌, Option, Ok}
-use Rattle.est_base.specs.declared.place.Span.{Span}
+use Rattle.base_types.specs.declared.place.Span.{Span}
 use Rattle.est_ast.specs.declared.tokens.Token.{Token}
 use Rattle.est_ast.specs.declared.tokens.Reserved.{Reserved}
 use Rattle.est_ast.specs.declared.tokens.Reserved.TheVariants as words
@@ -10,8 +10,8 @@ use Rattle.est_ast.specs.declared.trees.Name.{Name}
 use Rattle.est_ast.specs.declared.trees.Rename.{Rename}
 use Rattle.est_ast.specs.Trees.{Expr, Tick, Sig, Not, And, Or, Round, Square, exprs, Delay, Plain, Immediate, Stmt, At}
 use Rattle.est_ast.specs.Trees.{Form, Nothing, Pause, Halt, Emit, Sustain, Every, Repeat, WeakAbort, Suspend, Trap}
-use Rattle.est_ast.specs.Trees.{Exit, Signal, Run, Seq, Par, Group, Part, Handler, Stmts, Cases, cases, Relation}
-use Rattle.est_ast.specs.Trees.{Implies, Excludes, Decl, Input, InputOutput, Output, Relations, Module, Program}
+use Rattle.est_ast.specs.Trees.{Exit, Signal, Run, Seq, Par, Group, Part, Handler, Stmts, Cases, cases, NamedRelation}
+use Rattle.est_ast.specs.Trees.{Implies, Excludes, Decl, Input, InputOutput, Output, Relations, Module, SourceProgram}
 use Rattle.est_ast.specs.Grammar.{word, mark, name, number, span_of}
 use Rattle.est_parse.specs.declared.openings.Opening.{Opening}
 use Rattle.est_parse.specs.declared.openings.Opening.TheVariants as openings
@@ -28,12 +28,12 @@ use Rattle.est_parse.specs.Parts.{stmt_list, part_of, handler_of, renames_of, co
 use Rattle.est_parse.specs.Parts.{DelayTail, await_of, abort_of, Choice, CaseChoice, TestChoice, present_of, loop_of}
 use Rattle.est_parse.specs.Parts.{Head, GroupHead, LoopHead, EveryHead, RepeatHead, AbortHead, WeakHead}
 use Rattle.est_parse.specs.Parts.{SuspendHead, TrapHead, SignalHead}
-use Rattle.expr_tiers.specs.declared.language.Joint.{Joint}
-use Rattle.expr_tiers.specs.declared.language.Joint.TheVariants as joints
-use Rattle.expr_tiers.specs.Reading as tiers
-use Rattle.read_rules.specs.Readings.{Read, Rule, follow, taken_of, refuse, give, mapped, both, trail, ahead, on, the}
-use Rattle.read_rules.specs.Readings.{maybe, loop, placed}
-use Rattle.read_rules.specs.Choice.{optional_or, may, trailing, choose}
+use Rattle.base_expressions.specs.declared.language.Joint.{Joint}
+use Rattle.base_expressions.specs.declared.language.Joint.TheVariants as joints
+use Rattle.base_expressions.specs.Reading as tiers
+use Rattle.base_reader.specs.Readings.{Read, Rule, follow, taken_of, refuse, give, mapped, both, trail, ahead, on, the}
+use Rattle.base_reader.specs.Readings.{maybe, loop, placed}
+use Rattle.base_reader.specs.Choice.{optional_or, may, trailing, choose}
 
 -- one or more with separators between them
 abbrev pub list_step : {A : Type 0} → Mark → Rule Token A → Rule Token (Option A)
@@ -255,11 +255,11 @@ pub data Related : Type 0 where
   Effect : Name → Related
   Others : List Name → Related
 
-abbrev pub relation_of : Name × Related → Relation
+abbrev pub relation_of : Name × Related → NamedRelation
 relation_of (first, Effect effect) = Implies first effect
 relation_of (first, Others others) = Excludes (first ∷ others)
 
-abbrev pub relation : Rule Token Relation
+abbrev pub relation : Rule Token NamedRelation
 relation =
     mapped relation_of (both (the name)
     (ahead (mark marks.Arrow) (mapped Effect (on (mark marks.Arrow) (λ _. the name)))
@@ -294,5 +294,5 @@ module_rule room =
 abbrev pub module_step : ℕ → Rule Token (Option Module)
 module_step room = maybe (word words.Module) (module_rule room)
 
-abbrev pub program : ℕ → Rule Token Program
+abbrev pub program : ℕ → Rule Token SourceProgram
 program room = mapped (λ found. found.0 ∷ found.1) (both (module_rule room) (loop (module_step room)))

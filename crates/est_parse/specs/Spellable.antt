@@ -8,9 +8,9 @@ use Rattle.est_ast.specs.Trees.{Expr, Tick, Sig, Not, And, Or, Round, Square, Ex
 use Rattle.est_ast.specs.Trees.{Immediate, Count, Stmt, At, Form, Nothing, Pause, Halt, Emit, Sustain, Await, AwaitCase}
 use Rattle.est_ast.specs.Trees.{Present, PresentCase, Loop, LoopEach, Every, Repeat, Abort, AbortCase, WeakAbort}
 use Rattle.est_ast.specs.Trees.{Suspend, Trap, Exit, Signal, Run, Seq, Par, Group, Part, Missing, Written, Handler}
-use Rattle.est_ast.specs.Trees.{NoHandler, Handled, Stmts, NoStmts, MoreStmts, Cases, NoCases, MoreCases, Relation}
-use Rattle.est_ast.specs.Trees.{Implies, Excludes, Decl, Input, InputOutput, Output, Relations, Module, Program}
-use Rattle.est_ast.specs.Grammar.{Tier, Disjunction, Conjunction, Negation, Level, Whole, Line, Item}
+use Rattle.est_ast.specs.Trees.{NoHandler, Handled, Stmts, NoStmts, MoreStmts, Cases, NoCases, MoreCases, NamedRelation}
+use Rattle.est_ast.specs.Trees.{Implies, Excludes, Decl, Input, InputOutput, Output, Relations, Module, SourceProgram}
+use Rattle.est_ast.specs.Grammar.{TestTier, Disjunction, Conjunction, Negation, Level, Whole, Line, Item}
 
 -- two parts or more
 abbrev pub AreExprs : Exprs → Type 0
@@ -28,7 +28,7 @@ IsListed (first ∷ others) = ⊤
 
 -- a test in a place for an expr, a conj or a neg
 abbrev mutual
-  pub IsExpr : Tier → Expr → Type 0
+  pub IsExpr : TestTier → Expr → Type 0
   IsExpr tier (Tick span) = ⊤
   IsExpr tier (Sig n) = ⊤
   IsExpr tier (Not e) = IsExpr Negation e
@@ -41,7 +41,7 @@ abbrev mutual
   IsExpr Conjunction (Or parts) = ⊥
   IsExpr Negation (Or parts) = ⊥
 
-  pub EachExpr : Tier → Exprs → Type 0
+  pub EachExpr : TestTier → Exprs → Type 0
   EachExpr tier NoExprs = ⊤
   EachExpr tier (MoreExprs e others) = IsExpr tier e × EachExpr tier others
 
@@ -124,7 +124,7 @@ abbrev mutual
   EachCase (MoreCases event body others) = IsExpr Disjunction event × IsPart body × EachCase others
 
 -- `#` stands between two names at least
-abbrev pub IsRelation : Relation → Type 0
+abbrev pub IsRelation : NamedRelation → Type 0
 IsRelation (Implies cause effect) = ⊤
 IsRelation (Excludes names) = 1 < length names
 
@@ -139,6 +139,6 @@ pub record IsModule (m : Module) : Type 0 where
   pub body : IsStmt Whole m.body
 
 -- a program of the grammar
-pub record IsSpellable (p : Program) : Type 0 where
+pub record IsSpellable (p : SourceProgram) : Type 0 where
   pub modules : IsListed p
   pub each : All IsModule p

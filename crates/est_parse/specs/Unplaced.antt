@@ -1,14 +1,14 @@
 -- Contract: a tree without its places. Two trees that are equal without them are the same but for where they stand.
 use Rattle.std.specs.Prelude.{map}
-use Rattle.est_base.specs.declared.place.Span.{Span}
+use Rattle.base_types.specs.declared.place.Span.{Span}
 use Rattle.est_ast.specs.declared.trees.Name.{Name}
 use Rattle.est_ast.specs.declared.trees.Rename.{Rename}
 use Rattle.est_ast.specs.Trees.{Expr, Tick, Sig, Not, And, Or, Round, Square, Exprs, NoExprs, MoreExprs, Delay, Plain}
 use Rattle.est_ast.specs.Trees.{Immediate, Count, Stmt, At, Form, Nothing, Pause, Halt, Emit, Sustain, Await, AwaitCase}
 use Rattle.est_ast.specs.Trees.{Present, PresentCase, Loop, LoopEach, Every, Repeat, Abort, AbortCase, WeakAbort}
 use Rattle.est_ast.specs.Trees.{Suspend, Trap, Exit, Signal, Run, Seq, Par, Group, Part, Missing, Written, Handler}
-use Rattle.est_ast.specs.Trees.{NoHandler, Handled, Stmts, NoStmts, MoreStmts, Cases, NoCases, MoreCases, Relation}
-use Rattle.est_ast.specs.Trees.{Implies, Excludes, Decl, Input, InputOutput, Output, Relations, Module, Program}
+use Rattle.est_ast.specs.Trees.{NoHandler, Handled, Stmts, NoStmts, MoreStmts, Cases, NoCases, MoreCases, NamedRelation}
+use Rattle.est_ast.specs.Trees.{Implies, Excludes, Decl, Input, InputOutput, Output, Relations, Module, SourceProgram}
 
 -- what stands for each place
 abbrev pub nowhere : Span
@@ -86,7 +86,7 @@ abbrev mutual
   unplaced_cases (MoreCases event body others) =
       MoreCases (unplaced_expr event) (unplaced_part body) (unplaced_cases others)
 
-abbrev pub unplaced_relation : Relation → Relation
+abbrev pub unplaced_relation : NamedRelation → NamedRelation
 unplaced_relation (Implies cause effect) = Implies (unplaced_name cause) (unplaced_name effect)
 unplaced_relation (Excludes names) = Excludes (map unplaced_name names)
 
@@ -104,5 +104,5 @@ unplaced_module m = record {
 }
 
 -- a program without its places
-abbrev pub unplaced : Program → Program
+abbrev pub unplaced : SourceProgram → SourceProgram
 unplaced p = map unplaced_module p

@@ -3,13 +3,13 @@
 ghost use Rattle.std.specs.Prelude.{◌≡◌, ◌<◌, map, vec_len};
 ghost use Rattle.est_ast.specs.Views.{expr_of, delay_of};
 ghost use Rattle.est_parse.specs.Reading.{expr, event, immediate, count, delay, test, joined};
-ghost use Rattle.read_rules.specs.Found.{Finds};
+ghost use Rattle.base_reader.specs.Found.{Finds};
 
 use crate::openings::{Bracket, check_event};
 use crate::signs::{after_word, copy_of, is_mark, is_number_next, is_word, past_word, read_number};
+use base_expressions::{ExprLanguage, Joint, Opening};
+use base_reader::ReadError;
 use est_ast::{Delay, Kind, Mark, Name, Reserved, SigExpr, Token};
-use expr_tiers::{ExprLanguage, Joint, Opening};
-use read_rules::ReadError;
 use std::alloc::Global;
 
 // A test: parts with `or` between them.
@@ -20,7 +20,7 @@ pub fn read_expr(
 ) -> Result<(SigExpr, &[Token]), ReadError>
     ensures { Finds expr_of result (expr room tokens.now) }
 {
-    expr_tiers::read_expr::<Tests>(alloc, tokens, room)
+    base_expressions::read_expr::<Tests>(alloc, tokens, room)
 }
 
 // Tests as expressions by tiers.
@@ -117,7 +117,7 @@ fn read_event(alloc: Global, tokens: &[Token], room: u32) -> Result<(SigExpr, &[
     ensures { Finds expr_of result (event room tokens.now) }
 {
     check_event(tokens)?;
-    expr_tiers::read_part::<Tests>(alloc, tokens, room)
+    base_expressions::read_part::<Tests>(alloc, tokens, room)
 }
 
 // `immediate` and an event.

@@ -5,16 +5,16 @@ ghost use Rattle.est_ast.specs.Grammar.{word, number};
 ghost use Rattle.est_parse.specs.Reading.{event};
 ghost use Rattle.est_parse.specs.Reading.{head as head_rule};
 ghost use Rattle.est_parse.specs.Heads.{head_of};
-ghost use Rattle.read_rules.specs.Found.{Finds};
-ghost use Rattle.read_rules.specs.Readings.{the, trail};
+ghost use Rattle.base_reader.specs.Found.{Finds};
+ghost use Rattle.base_reader.specs.Readings.{the, trail};
 
 use crate::expressions::read_delay;
 use crate::names::read_names;
 use crate::openings::Block;
 use crate::signs::{after_word, read_name, read_number};
+use base_reader::ReadError;
+use base_types::Span;
 use est_ast::{Delay, Mark, Name, Reserved, Token};
-use est_base::Span;
-use read_rules::ReadError;
 use std::alloc::Global;
 
 // The head of an item.

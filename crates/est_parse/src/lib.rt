@@ -3,7 +3,7 @@
 //! `parse` reads the grammar of est_ast, the concrete syntax that docs/language.md states for the
 //! language of Berry, "The Constructive Semantics of Pure Esterel". It answers the one program that
 //! has exactly these tokens, or the least place that no program passes. The code is put together
-//! from the rules of read_rules, and is proved equal to the reading function in `specs/Reading.antt`;
+//! from the rules of base_reader, and is proved equal to the reading function in `specs/Reading.antt`;
 //! `proofs/ModuleLaws.antt` leads from there to the grammar.
 #![tactic(auto)]
 

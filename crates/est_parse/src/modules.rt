@@ -7,17 +7,17 @@ ghost use Rattle.est_ast.specs.Views.{relation_of, decl_of, stmt_of, module_of, 
 ghost use Rattle.est_parse.specs.Reading.{listed, declared, relation, decl, decl_step, ends_module, module_rule};
 ghost use Rattle.est_parse.specs.Reading.{program, statement};
 ghost use Rattle.est_ast.specs.Nesting.{IsProgram};
-ghost use Rattle.read_rules.specs.Exact.{GivesExactly};
-ghost use Rattle.read_rules.specs.Found.{Finds, Gives};
-ghost use Rattle.read_rules.specs.Readings.{the, both, trail, loop, whole};
-ghost use Rattle.read_rules.specs.declared.faults.ReadError.TheVariants as errors;
+ghost use Rattle.base_reader.specs.Exact.{GivesExactly};
+ghost use Rattle.base_reader.specs.Found.{Finds, Gives};
+ghost use Rattle.base_reader.specs.Readings.{the, both, trail, loop, whole};
+ghost use Rattle.base_reader.specs.declared.faults.ReadError.TheVariants as errors;
 
 use crate::names::read_names;
 use crate::openings::{Declaration, past_declaration};
 use crate::signs::{after_mark, after_word, past_mark, past_word, read_name};
 use crate::statements::read_boxed;
+use base_reader::{ReadError, ended, refused};
 use est_ast::{Decl, Mark, Module, Name, Program, Relation, Reserved, Stmt, Token};
-use read_rules::{ReadError, ended, refused};
 use std::alloc::Global;
 
 // The one program that the tokens spell, nested at most as deep as there is room, or the least place

@@ -3,13 +3,13 @@
 ghost use Rattle.std.specs.Prelude.{◌≡◌};
 ghost use Rattle.est_ast.specs.declared.tokens.Mark.TheVariants as marks;
 ghost use Rattle.est_parse.specs.Reading.{listed, rename, renames};
-ghost use Rattle.read_rules.specs.Found.{Finds};
-ghost use Rattle.read_rules.specs.Readings.{the};
+ghost use Rattle.base_reader.specs.Found.{Finds};
+ghost use Rattle.base_reader.specs.Readings.{the};
 ghost use Rattle.est_ast.specs.Grammar.{name};
 
 use crate::signs::{after_mark, after_word, past_mark, read_name};
+use base_reader::ReadError;
 use est_ast::{Mark, Name, Rename, Reserved, Token};
-use read_rules::ReadError;
 use std::alloc::Global;
 
 // One name or more, with the mark between them.

@@ -2,11 +2,11 @@
 
 ghost use Rattle.std.specs.Prelude.{◌≡◌, Some, None, false, is_some, MatchOption, MatchResult};
 ghost use Rattle.est_parse.specs.Openings.{opening, part_start, event_start, declaration};
-ghost use Rattle.read_rules.specs.Readings.{picked, fault_at};
-ghost use Rattle.read_rules.specs.declared.faults.ReadError.TheVariants as errors;
+ghost use Rattle.base_reader.specs.Readings.{picked, fault_at};
+ghost use Rattle.base_reader.specs.declared.faults.ReadError.TheVariants as errors;
 
+use base_reader::{ReadError, first, refused};
 use est_ast::{Kind, Mark, Reserved, Token};
-use read_rules::{ReadError, first, refused};
 
 // What begins an item. All but the flat ones have room for a statement or a case, or stand before a
 // word that has.

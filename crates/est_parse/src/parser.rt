@@ -4,13 +4,13 @@ ghost use Rattle.std.specs.Prelude.{◌<◌, ◌^◌, length, IfOk, IfErr};
 ghost use Rattle.est_ast.specs.Nesting.{IsProgram};
 ghost use Rattle.est_ast.specs.Views.{program_of};
 ghost use Rattle.est_parse.specs.Faults.{IsFirstFault};
-ghost use Rattle.read_rules.specs.Exact.{IsOnly};
+ghost use Rattle.base_reader.specs.Exact.{IsOnly};
 
 use crate::modules::read_exactly;
 use crate::refusal::{ParseError, refusal_at};
+use base_reader::ReadError;
+use base_types::Limits;
 use est_ast::{Program, Token};
-use est_base::Limits;
-use read_rules::ReadError;
 use std::alloc::Global;
 
 /// The program that the tokens spell, if it is nested at most 200 deep: the one such program for

@@ -3,8 +3,8 @@
 ghost use Rattle.std.specs.Prelude.{◌≡◌, ◌+◌, ◌<◌, ◌≤◌, ◌^◌, length};
 ghost use Rattle.est_parse.specs.Faults.{IsFaultAt};
 
+use base_reader::Fault;
 use est_ast::Token;
-use read_rules::Fault;
 use thiserror::Error;
 
 /// Why `parse` gives no program. Places are numbers of tokens, from 0.

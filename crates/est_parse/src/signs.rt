@@ -4,13 +4,13 @@ ghost use Rattle.std.specs.Prelude.{◌≡◌, Some, None, false, is_some, Match
 ghost use Rattle.est_ast.specs.Grammar.{word, mark, name, number, end_of, span_of};
 ghost use Rattle.est_ast.specs.Grammar as spec;
 ghost use Rattle.est_parse.specs.Reading.{ends};
-ghost use Rattle.read_rules.specs.Found.{Finds};
-ghost use Rattle.read_rules.specs.Readings.{picked, the, fault_at, taken_of};
-ghost use Rattle.read_rules.specs.declared.faults.ReadError.TheVariants as errors;
+ghost use Rattle.base_reader.specs.Found.{Finds};
+ghost use Rattle.base_reader.specs.Readings.{picked, the, fault_at, taken_of};
+ghost use Rattle.base_reader.specs.declared.faults.ReadError.TheVariants as errors;
 
+use base_reader::{ReadError, first, refused};
+use base_types::{Span, Text};
 use est_ast::{Kind, Mark, Name, Reserved, Token};
-use est_base::{Span, Text};
-use read_rules::{ReadError, first, refused};
 use std::alloc::Global;
 
 // The tokens behind this reserved word, where it stands next.

@@ -13,8 +13,8 @@ ghost use Rattle.est_parse.specs.Reading.{flat_behind, head, closing, blocked, e
 ghost use Rattle.est_parse.specs.Reading.{statement};
 ghost use Rattle.est_parse.specs.Reading.{tail as tail_rule, inside as inner};
 ghost use Rattle.est_parse.specs.Tails.{tail_of};
-ghost use Rattle.read_rules.specs.Found.{Finds};
-ghost use Rattle.read_rules.specs.Readings.{both, mapped, on, trail};
+ghost use Rattle.base_reader.specs.Found.{Finds};
+ghost use Rattle.base_reader.specs.Readings.{both, mapped, on, trail};
 
 use crate::expressions::{read_count, read_delay, read_expr, read_test};
 use crate::heads::{Head, read_head};
@@ -22,9 +22,9 @@ use crate::names::read_renames;
 use crate::openings::{Block, Flat, Opening, is_item_next, past_opening};
 use crate::signs::{after_end, after_mark, after_word, past_mark, past_word, place_of, read_name};
 use crate::tails::{Tail, abort_on, await_from, present_of_cases};
+use base_reader::{ReadError, inside, refused};
+use base_types::Span;
 use est_ast::{Case, Delay, Form, Handle, Mark, Reserved, Stmt, Token};
-use est_base::Span;
-use read_rules::{ReadError, inside, refused};
 use std::alloc::Global;
 
 // A statement: lines with `||` between them.

@@ -7,11 +7,11 @@ ghost use Rattle.est_ast.specs.Views.{form_of, boxed, part_of, case_of};
 ghost use Rattle.est_parse.specs.Parts.{await_of, abort_of};
 ghost use Rattle.est_parse.specs.Parts as spec;
 ghost use Rattle.est_parse.specs.Tails.{tail_of};
-ghost use Rattle.read_rules.specs.Found.{Finds};
-ghost use Rattle.read_rules.specs.Readings.{Read, follow, give};
+ghost use Rattle.base_reader.specs.Found.{Finds};
+ghost use Rattle.base_reader.specs.Readings.{Read, follow, give};
 
+use base_reader::ReadError;
 use est_ast::{Case, Delay, Form, Stmt, Token};
-use read_rules::ReadError;
 
 // Cases, or a delay and maybe a statement behind `do`.
 #[derive(Drop)]

@@ -6,7 +6,7 @@ use Rattle.std.specs.List.{sum_by, flat_map, range_with_len}
 use Rattle.std.proofs.lemmas.Bool.{cases_eq, cases_Bool, and_parts, eqb-true, eq-eqb, ne_eqb}
 use Rattle.std.proofs.lemmas.List.Elements.{All-head, All-tail}
 use Rattle.std.proofs.lemmas.List.Sums.{sum_by-cons, sum_by-append, sum_by-le-sum_by}
-use Rattle.facts.proofs.Lists.{sum-flat_map}
+use Rattle.base_facts.proofs.Lists.{sum-flat_map}
 use Rattle.est_kernel.specs.Plain.{Program, interface_of, outgoing_count}
 use Rattle.est_kernel.specs.Terms.{Term, Emit, Local}
 use Rattle.est_kernel.specs.WellFormed.{IsKernel}

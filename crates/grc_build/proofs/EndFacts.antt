@@ -21,7 +21,7 @@ use Rattle.grc_build.specs.declared.tables.Tables.{Tables}
 use Rattle.grc_build.specs.Ending.{IsEnding, IsParallel, Tells, TellsLive, end_if, held_upto, held_end, suspension_ends, sequence_ends, loop_ends}
 use Rattle.grc_build.specs.Ending.{parallel_formula}
 use Rattle.grc_build.specs.Meanings.{formula_if}
-use Rattle.est_base.specs.declared.place.Span.{Span}
+use Rattle.base_types.specs.declared.place.Span.{Span}
 use Rattle.grc_build.specs.Tabled.{program_in, row_in, AreTables}
 use Rattle.grc_build.proofs.PartLiveness.{part_live, part_resumed, second_started, second_own, second_resumed, loop_own, loop_part_live, and_true}
 use Rattle.grc_build.proofs.TableFacts.{Here, here, is_live, go_there, end_there, only_there, within_rows, statement_row, kernel_of}

@@ -7,7 +7,7 @@ use Rattle.std.proofs.lemmas.List.FromFn.{length-map-range_with_len}
 use Rattle.std.proofs.lemmas.List.Concat.{length-flat_map}
 use Rattle.std.proofs.lemmas.List.Sums.{get_or-le-sum_by, sum_by-cons, sum_by-le-sum_by}
 use Rattle.std.proofs.lemmas.Slice.Zip.{seconds-zip}
-use Rattle.est_base.specs.declared.bounds.TheConstants.Limits.{WIRES}
+use Rattle.base_types.specs.declared.bounds.TheConstants.Limits.{WIRES}
 use Rattle.est_kernel.specs.declared.programs.KernelProgram.{KernelProgram}
 use Rattle.est_kernel.specs.Plain.{Program, program_of, interface_count, outgoing_count}
 use Rattle.est_kernel.specs.WellFormed.{IsKernel}

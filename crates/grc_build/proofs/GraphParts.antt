@@ -2,7 +2,7 @@
 use Rattle.std.proofs.Common.{◌≡◌, ◌≤◌, length, map, refl, sym, ap, ◌∙◌, subst}
 use Rattle.std.specs.Prelude.{All, IsTrue, None}
 use Rattle.std.proofs.lemmas.List.{length-map}
-use Rattle.est_base.specs.declared.bounds.TheConstants.Limits.{WIRES}
+use Rattle.base_types.specs.declared.bounds.TheConstants.Limits.{WIRES}
 use Rattle.est_kernel.specs.declared.programs.KernelProgram.{KernelProgram}
 use Rattle.est_kernel.specs.Plain.{program_of, interface_of, interface_count}
 use Rattle.est_kernel.specs.WellFormed.{IsWellFormed}
@@ -19,7 +19,7 @@ use Rattle.grc_graph.specs.Instances.{body_instances}
 use Rattle.grc_graph.specs.Layouts.{IsLaidOut}
 use Rattle.grc_graph.specs.Neighbouring.{instances_in, names_in, program_wires}
 use Rattle.grc_graph.specs.Nodes as plain
-use Rattle.grc_graph.specs.PlainGraphs.{instances_of, names_of, wire_of, node_of, formula_of, equations_of, lasting_in}
+use Rattle.grc_graph.specs.PlainGraphs.{instances_of, names_of, wire_of, node_form, formula_of, equations_of, lasting_in}
 use Rattle.grc_graph.specs.PlainInstances.{instance_of}
 use Rattle.grc_graph.specs.Rows.{program_rows, spot_at}
 use Rattle.grc_graph.specs.Scopes.{program_scope}
@@ -37,7 +37,7 @@ use Rattle.grc_build.proofs.WireEquations.{equation_of, equations_by_wire, equat
 
 -- the indices of the formulas
 indices_of : (t : Tables) (x : Formulas) → AreTables t
-    → map (node_of (instances_in t.wires) (names_in t.wires)) x.nodes.items ≡ map plain.node_of (program_spots (program_in t))
+    → map (node_form (instances_in t.wires) (names_in t.wires)) x.nodes.items ≡ map plain.spot_node (program_spots (program_in t))
     → All (λ v. IsTrue (node_fits (length (instances_in t.wires)) (length (names_in t.wires)) v)) x.nodes.items
     → map (formula_of (instances_in t.wires) (names_in t.wires)) x.equations.items ≡ map (wire_formula (program_in t)) (names_in t.wires)
     → All (λ f. IsTrue (formula_fits (length (instances_in t.wires)) (length (names_in t.wires)) f)) x.equations.items
@@ -49,7 +49,7 @@ indices_of t x h n nf e ef kf =
     let p = program_in t in
     let all : length names ≡ length t.wires.wires.now = length-map t.wires.wires.now (wire_of insts) in
     record {
-      nodes_all = sym (length-map x.nodes.items (node_of insts names)) ∙ ap length n ∙ length-map (program_spots p) plain.node_of
+      nodes_all = sym (length-map x.nodes.items (node_form insts names)) ∙ ap length n ∙ length-map (program_spots p) plain.spot_node
           ∙ ap length (program_spots_by_row p (kernel_of t)) ∙ length-map (body_instances p.body) (spot_at (program_rows p)) ∙ ap length (sym h.instances);
       equations_all = sym (length-map x.equations.items (formula_of insts names)) ∙ ap length e ∙ length-map names (wire_formula p) ∙ all;
       wires_fit = λ k d l. wires_fit t.wires.list.now t.wires.wires.now t.wires.first.now t.wires.inputs t.wires.outgoing t.wires.tables k d l;
@@ -60,7 +60,7 @@ indices_of t x h n nf e ef kf =
 
 -- the formulas that are made of the tables
 pub formulas_of : (t : Tables) (x : Formulas) → AreTables t
-    → map (node_of (instances_in t.wires) (names_in t.wires)) x.nodes.items ≡ map plain.node_of (program_spots (program_in t))
+    → map (node_form (instances_in t.wires) (names_in t.wires)) x.nodes.items ≡ map plain.spot_node (program_spots (program_in t))
     → All (λ v. IsTrue (node_fits (length (instances_in t.wires)) (length (names_in t.wires)) v)) x.nodes.items
     → map (formula_of (instances_in t.wires) (names_in t.wires)) x.equations.items ≡ map (wire_formula (program_in t)) (names_in t.wires)
     → All (λ f. IsTrue (formula_fits (length (instances_in t.wires)) (length (names_in t.wires)) f)) x.equations.items
@@ -96,7 +96,7 @@ parts_of p live near x h l w f = record {
 -- what they are laid out over
 pub laid_by : (p : KernelProgram) (live : Instances) (tree : SelTree) (x : Parts) → IsWellFormed (program_of p)
     → map instance_of live.list.items ≡ body_instances (program_of p).body
-    → map forms.node_of tree.nodes.items ≡ body_tree (program_of p).body
+    → map forms.tree_node tree.nodes.items ≡ body_tree (program_of p).body
     → AreParts p live x
     → IsLaidOut (program_of p) (map instance_of live.list.items) x.layout.wires.items tree.nodes.items (length x.formulas.next.items)
 laid_by p live tree x w l t h =
@@ -128,7 +128,7 @@ graph_by g x live h few n w e k own_loops =
       program = refl;
       instances = live;
       wires = names;
-      nodes = ap (map (node_of insts (names_of g))) n ∙ own.nodes;
+      nodes = ap (map (node_form insts (names_of g))) n ∙ own.nodes;
       graph = λ i. record {
         interface = interface_of p;
         scope = program_scope p.inputs (interface_count p);

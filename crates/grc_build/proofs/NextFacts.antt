@@ -4,8 +4,8 @@ use Rattle.std.specs.Prelude.{filter, flat_map}
 use Rattle.std.proofs.lemmas.Bool.{lt-ltb}
 use Rattle.std.proofs.lemmas.List.{take_all}
 use Rattle.std.proofs.lemmas.Simd.{map-map}
-use Rattle.est_base.specs.declared.indices.InstId.{InstId}
-use Rattle.est_base.specs.declared.indices.PathId.{PathId}
+use Rattle.base_types.specs.declared.indices.InstId.{InstId}
+use Rattle.base_types.specs.declared.indices.PathId.{PathId}
 use Rattle.est_kernel.specs.Plain.{term_of, interface_count}
 use Rattle.est_kernel.specs.Preorder.{preorder}
 use Rattle.est_kernel.specs.Terms.{Nothing}

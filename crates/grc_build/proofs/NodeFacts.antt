@@ -1,8 +1,8 @@
 -- Nodes by numbers are nodes by names.
 use Rattle.std.proofs.Common.{◌≡◌, ℕ, ◌+◌, ◌<◌, true, length, get_or, refl, sym, ap, ◌∙◌, subst, Some, None, ⊎_elim}
 use Rattle.std.proofs.lemmas.Bool.{lt-ltb, and_from}
-use Rattle.est_base.specs.declared.indices.InstId.{InstId}
-use Rattle.est_base.specs.declared.indices.WireId.{WireId}
+use Rattle.base_types.specs.declared.indices.InstId.{InstId}
+use Rattle.base_types.specs.declared.indices.WireId.{WireId}
 use Rattle.est_kernel.specs.Plain.{term_of}
 use Rattle.est_kernel.specs.Preorder.{statement_count}
 use Rattle.est_kernel.specs.Terms.{Expression, Term, Pause, Present, Suspend, Seq, Par}

@@ -29,7 +29,7 @@ use Rattle.grc_graph.specs.Wires.{Wire, Out, Go, End, listed, instance_codes, ow
 use Rattle.grc_graph.proofs.Exports.{program_kernel, codes_below-kernel, wires_fit, program_spots_by_row, IsEnd, out_only}
 use Rattle.std.specs.Prelude.{Vec}
 use Rattle.std.specs.declared.alloc.Global.{Global}
-use Rattle.est_base.specs.declared.indices.WireId.{WireId}
+use Rattle.base_types.specs.declared.indices.WireId.{WireId}
 use Rattle.grc_build.specs.declared.tables.Tables.{Tables}
 use Rattle.grc_build.specs.Emitting.{IsOfTables, IsWireIn, list_at}
 use Rattle.grc_build.specs.Ending.{IsEnding}

@@ -2,7 +2,7 @@
 use Rattle.std.specs.Prelude.{◌≡◌, ℕ, ◌+◌, ◌<◌, List, [], ◌∷◌, ◌++◌, length, map, slice_index_or, slice_set, All, Vec}
 use Rattle.std.specs.Prelude.{Contains, ⊤}
 use Rattle.std.specs.declared.alloc.Global.{Global}
-use Rattle.est_base.specs.declared.indices.WireId.{WireId}
+use Rattle.base_types.specs.declared.indices.WireId.{WireId}
 use Rattle.est_kernel.specs.Plain.{outgoing_count}
 use Rattle.est_kernel.specs.Terms.{Term, Emit}
 use Rattle.grc_graph.specs.declared.wires.Wire as stored

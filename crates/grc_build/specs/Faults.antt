@@ -1,6 +1,6 @@
 -- Contract: when a program has no graph.
 use Rattle.std.specs.Prelude.{◌<◌, ⊤}
-use Rattle.est_base.specs.declared.bounds.TheConstants.Limits.{WIRES}
+use Rattle.base_types.specs.declared.bounds.TheConstants.Limits.{WIRES}
 use Rattle.est_kernel.specs.Plain.{Program}
 use Rattle.grc_graph.specs.GraphSizes.{graph_size}
 use Rattle.grc_build.specs.declared.refusal.BuildFault.{BuildFault}

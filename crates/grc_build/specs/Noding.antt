@@ -5,7 +5,7 @@ use Rattle.grc_graph.specs.GraphShapes.{node_fits}
 use Rattle.grc_graph.specs.Layers.{Layer, Resumed, Started}
 use Rattle.grc_graph.specs.Neighbouring.{instances_in, names_in}
 use Rattle.grc_graph.specs.Nodes as plain
-use Rattle.grc_graph.specs.PlainGraphs.{instance_at, node_of}
+use Rattle.grc_graph.specs.PlainGraphs.{instance_at, node_form}
 use Rattle.grc_graph.specs.Rows.{program_rows, spot_at}
 use Rattle.grc_build.specs.declared.tables.Tables.{Tables}
 use Rattle.grc_build.specs.Tabled.{IsLive, program_in}
@@ -13,11 +13,11 @@ use Rattle.grc_build.specs.Tabled.{IsLive, program_in}
 -- its numbers are those of the tables, and by names it is this node
 pub record IsNodeOf (t : Tables) (x : Node) (y : plain.Node) : Type 0 where
   pub fits : IsTrue (node_fits (length (instances_in t.wires)) (length (names_in t.wires)) x)
-  pub same : node_of (instances_in t.wires) (names_in t.wires) x ≡ y
+  pub same : node_form (instances_in t.wires) (names_in t.wires) x ≡ y
 
 -- the node of the instance with this number
 abbrev pub IsNode : Tables → Node → ℕ → Type 0
-IsNode t x i = IsNodeOf t x (plain.node_of (spot_at (program_rows (program_in t))
+IsNode t x i = IsNodeOf t x (plain.spot_node (spot_at (program_rows (program_in t))
     (instance_at (instances_in t.wires) i)))
 
 abbrev pub by_layer : Layer → Node → Node → Node

@@ -10,7 +10,7 @@ use Rattle.grc_graph.specs.GraphShapes.{IndicesFit}
 use Rattle.grc_graph.specs.Instances.{Instance}
 use Rattle.grc_graph.specs.Neighbouring.{instances_in, names_in, program_wires}
 use Rattle.grc_graph.specs.Nodes as plain
-use Rattle.grc_graph.specs.PlainGraphs.{wire_of, node_of, formula_of, equations_of}
+use Rattle.grc_graph.specs.PlainGraphs.{wire_of, node_form, formula_of, equations_of}
 use Rattle.grc_graph.specs.PlainInstances.{instance_of}
 use Rattle.grc_graph.specs.WireTables.{AreFirsts, AreNeighbours}
 use Rattle.grc_graph.specs.Wires.{Wire}
@@ -28,7 +28,7 @@ pub record IsLayoutOf (p : KernelProgram) (live : Instances) (x : WireLayout) : 
 -- nodes and formulas are those of the program, where its instances and wires are these, by number and by name
 pub record AreFormulasBy (p : Program) (insts : List Instance) (raw : List stored_wire) (names : List Wire)
     (x : Formulas) : Type 0 where
-  pub nodes : map (node_of insts names) x.nodes.items ≡ map plain.node_of (program_spots p)
+  pub nodes : map (node_form insts names) x.nodes.items ≡ map plain.spot_node (program_spots p)
   pub equations : equations_of insts names x.equations.items ≡ (graph_of p).equations
   pub next : map (formula_of insts names) x.next.items ≡ (graph_of p).next
   pub indices : IndicesFit (length insts) raw x.nodes.items x.equations.items x.next.items

@@ -13,7 +13,7 @@ ghost use Rattle.grc_build.specs.Entering.{IsTestOf, FirstEnd, LoopStart, suspen
 use crate::formulas::{both, negated, wire};
 use crate::statuses::test_formula;
 use crate::tables::Tables;
-use est_base::{NoMemory, PathId};
+use base_types::{NoMemory, PathId};
 use est_kernel::Test;
 use grc_graph::{Entry, Formula, Layer};
 use std::alloc::Global;

@@ -7,7 +7,7 @@ ghost use Rattle.grc_graph.specs.Formulas.{Formula as plain_formula, Value, Nega
 ghost use Rattle.grc_graph.specs.WireTables.{HasName};
 ghost use Rattle.grc_build.specs.Meanings.{Means, MeansIf, MeansAny, formula_if};
 
-use est_base::{NoMemory, WireId};
+use base_types::{NoMemory, WireId};
 use grc_graph::Formula;
 use std::alloc::Global;
 

@@ -1,7 +1,7 @@
 // The graph of a program.
 
 ghost use Rattle.std.specs.Prelude.{◌≡◌, ◌+◌, ◌≤◌, map, IfOk, IfErr};
-ghost use Rattle.est_base.specs.declared.bounds.TheConstants.Limits.{WIRES};
+ghost use Rattle.base_types.specs.declared.bounds.TheConstants.Limits.{WIRES};
 ghost use Rattle.est_kernel.specs.CodeLists.{AreCodesOf};
 ghost use Rattle.est_kernel.specs.Plain.{program_of, term_of};
 ghost use Rattle.est_kernel.specs.WellFormed.{IsWellFormed};
@@ -14,7 +14,7 @@ ghost use Rattle.grc_graph.specs.PlainInstances.{instance_of};
 ghost use Rattle.grc_graph.specs.SelectionTrees.{body_tree};
 ghost use Rattle.grc_graph.specs.Statements.{program_listed};
 ghost use Rattle.grc_graph.specs.StatementViews.{view_of};
-ghost use Rattle.grc_graph.specs.TreeForms.{node_of};
+ghost use Rattle.grc_graph.specs.TreeForms.{tree_node};
 ghost use Rattle.grc_graph.specs.WireTables.{AreFirsts, AreNeighbours};
 ghost use Rattle.grc_build.specs.Faults.{FaultHasCause};
 ghost use Rattle.grc_build.specs.Parts.{AreParts, AreFormulas, IsLayoutOf};
@@ -27,7 +27,7 @@ use crate::nodes::nodes;
 use crate::refusal::BuildFault;
 use crate::rooms::room_left;
 use crate::tables::Tables;
-use est_base::NoMemory;
+use base_types::NoMemory;
 use est_kernel::{Codes, KernelProgram};
 use grc_graph::{
     Formula, Graph, Instances, Neighbours, Node, SelTree, Statement, WireLayout, list_statements,
@@ -46,7 +46,7 @@ pub fn build(
 ) -> Result<Graph, BuildFault>
     requires formed { IsWellFormed (program_of program) }
     requires codes { AreCodesOf codes (term_of program.body) }
-    requires tree { map node_of tree.nodes.items ≡ body_tree (term_of program.body) }
+    requires tree { map tree_node tree.nodes.items ≡ body_tree (term_of program.body) }
     requires live { map instance_of live.list.items ≡ body_instances (term_of program.body) }
     ensures graph { IfOk result (λ graph. IsGraphOf graph (program_of program)) }
     ensures refuses { IfErr result (λ fault. FaultHasCause (program_of program) fault) }

@@ -13,7 +13,7 @@ ghost use Rattle.grc_build.specs.Tabled.{IsLive, IsThere, MeansIn};
 use crate::ends::{Ending, part_end};
 use crate::formulas::{any_more, both, negated, or_false, wire};
 use crate::tables::Tables;
-use est_base::{NoMemory, PathId};
+use base_types::{NoMemory, PathId};
 use grc_graph::{Formula, Layer};
 use std::alloc::Global;
 

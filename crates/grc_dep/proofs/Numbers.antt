@@ -3,8 +3,8 @@ use Rattle.std.proofs.Common.{ℕ, ◌<◌, List, subst, arith}
 use Rattle.std.specs.Prelude.{slice_index}
 use Rattle.std.proofs.lemmas.List.{length-map, get_or-map}
 use Rattle.std.proofs.lemmas.List.Elements.{All-map}
-use Rattle.digraph.specs.Walks.{JoinsNodes}
-use Rattle.digraph.specs.Walks as nodes
+use Rattle.base_digraph.specs.Walks.{JoinsNodes}
+use Rattle.base_digraph.specs.Walks as nodes
 use Rattle.grc_graph.specs.WireOrders.{WireEdge, AreEdges, AreRanks}
 use Rattle.grc_dep.specs.Cycles.{numbered}
 

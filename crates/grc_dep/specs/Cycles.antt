@@ -1,7 +1,7 @@
 -- Contract: what the search for a cycle of dependency edges answers.
 use Rattle.std.specs.Prelude.{ℕ, Bool, true, false, List, map}
-use Rattle.est_base.specs.declared.indices.WireId.{WireId}
-use Rattle.digraph.specs.Walks.{IsClosedWalk}
+use Rattle.base_types.specs.declared.indices.WireId.{WireId}
+use Rattle.base_digraph.specs.Walks.{IsClosedWalk}
 use Rattle.grc_graph.specs.WireOrders.{WireEdge, AreRanks}
 use Rattle.grc_dep.specs.declared.ranking.Ranked.{Ranked}
 use Rattle.grc_dep.specs.declared.ranking.Ranked.TheVariants.{Acyclic, Cycle}

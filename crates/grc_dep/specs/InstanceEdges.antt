@@ -1,4 +1,5 @@
 -- Inner: the edges at an instance, by the row of its statement.
+-- (It is in specs/, short as it is, because a contract can cite definitions of specs/ alone.)
 use Rattle.std.specs.Prelude.{List}
 use Rattle.grc_graph.specs.Instances.{Instance}
 use Rattle.grc_graph.specs.Rows.{Row, row_at}

@@ -1,7 +1,7 @@
 -- Inner: the codes of a statement and of its parts, and what is known of a listed statement.
 use Rattle.std.specs.Prelude.{◌≡◌, ℕ, ◌+◌, ◌<◌, ◌^◌, length}
-use Rattle.est_base.specs.declared.code_set.CodeSet.{CodeSet}
-use Rattle.est_base.specs.CodeSet.{members}
+use Rattle.base_types.specs.declared.code_set.CodeSet.{CodeSet}
+use Rattle.base_types.specs.CodeSet.{members}
 use Rattle.est_kernel.specs.declared.code_lists.Codes.{Codes}
 use Rattle.est_kernel.specs.Plain.{term_of}
 use Rattle.est_kernel.specs.Preorder.{statement_count}

@@ -1,7 +1,7 @@
 // The edges at statements with parts, but for those that test signals.
 
 ghost use Rattle.std.specs.Prelude.{◌≡◌, ℕ, ◌+◌, ◌++◌, OnOk};
-ghost use Rattle.est_base.specs.declared.place.Span.{Span};
+ghost use Rattle.base_types.specs.declared.place.Span.{Span};
 ghost use Rattle.est_kernel.specs.Plain.{term_of};
 ghost use Rattle.est_kernel.specs.Preorder.{statement_count};
 ghost use Rattle.est_kernel.specs.Terms.{Seq, Loop, Par, Trap, Local};
@@ -19,7 +19,7 @@ use crate::part_edges::{
     push_trapped_ends,
 };
 use crate::parts::Part;
-use est_base::{NoMemory, PathId, WireId};
+use base_types::{NoMemory, PathId, WireId};
 use grc_graph::{Instance, Layer};
 
 // The edges at a trap.

@@ -14,7 +14,7 @@ ghost use Rattle.grc_dep.specs.Found.{found_by};
 use crate::instance_edges::push_edges_at;
 use crate::lookups::Lookups;
 use crate::sorting::sort_pairs;
-use est_base::{NoMemory, WireId};
+use base_types::{NoMemory, WireId};
 use grc_graph::{Edges, Graph, Statement, list_statements};
 use std::alloc::Global;
 

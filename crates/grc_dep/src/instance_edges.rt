@@ -18,7 +18,7 @@ use crate::part_edges::push_own_ends;
 use crate::parts::{Part, part_at};
 use crate::statuses::{BoundTest, push_emission, status_name};
 use crate::tested::{Branches, push_present, push_suspend};
-use est_base::{NoMemory, SigId, WireId};
+use base_types::{NoMemory, SigId, WireId};
 use est_kernel::{Codes, Kernel};
 use grc_graph::{Binding, Instance, Layer, Statement};
 use std::alloc::Global;

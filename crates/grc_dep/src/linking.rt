@@ -1,7 +1,7 @@
 // Edges that are appended by the numbers of their wires.
 
 ghost use Rattle.std.specs.Prelude.{◌≡◌, ◌&&◌, ◌∷◌, ◌++◌, [], nat_le, OnOk};
-ghost use Rattle.est_base.specs.CodeSet.{members};
+ghost use Rattle.base_types.specs.CodeSet.{members};
 ghost use Rattle.est_kernel.specs.Steps.{trap_code};
 ghost use Rattle.grc_graph.specs.PlainInstances.{instance_of};
 ghost use Rattle.grc_graph.specs.Wires.{Wire, End};
@@ -12,7 +12,7 @@ ghost use Rattle.grc_dep.specs.Found.{found_by};
 
 use crate::lookups::Lookups;
 use crate::names::NamedWire;
-use est_base::{CodeSet, NoMemory, WireId};
+use base_types::{CodeSet, NoMemory, WireId};
 use grc_graph::{Instance, codes_end};
 
 // The edge between two wires, where the graph has both.

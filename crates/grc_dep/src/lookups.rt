@@ -5,7 +5,7 @@ ghost use Rattle.grc_graph.specs.Neighbouring.{names_in};
 ghost use Rattle.grc_dep.specs.Names.{wire_named, number_of, Apart};
 
 use crate::names::NamedWire;
-use est_base::WireId;
+use base_types::WireId;
 use grc_graph::Neighbours;
 
 // The tables of a graph, in which each wire has one number.

@@ -1,6 +1,6 @@
 // Wires by name.
 
-use est_base::SigId;
+use base_types::SigId;
 use grc_graph::Instance;
 
 /// A wire by what it says, whether or not the graph has it.

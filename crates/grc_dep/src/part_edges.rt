@@ -1,8 +1,8 @@
 // Edges between a statement and a part of it.
 
 ghost use Rattle.std.specs.Prelude.{◌≡◌, ◌++◌, OnOk};
-ghost use Rattle.est_base.specs.CodeSet.{members};
-ghost use Rattle.est_base.specs.Codes.{except};
+ghost use Rattle.base_types.specs.CodeSet.{members};
+ghost use Rattle.base_types.specs.Codes.{except};
 ghost use Rattle.est_kernel.specs.Plain.{term_of};
 ghost use Rattle.est_kernel.specs.StaticCodes.{codes_if};
 ghost use Rattle.grc_graph.specs.PlainInstances.{layer_of};
@@ -16,7 +16,7 @@ use crate::linking::{
 use crate::lookups::Lookups;
 use crate::names::NamedWire;
 use crate::parts::Part;
-use est_base::{CodeSet, NoMemory, WireId};
+use base_types::{CodeSet, NoMemory, WireId};
 use grc_graph::Layer;
 
 // From `go` to each end of the same instance.

@@ -1,12 +1,12 @@
 // Statements with their codes, as edges need them.
 
 ghost use Rattle.std.specs.Prelude.{◌≡◌};
-ghost use Rattle.est_base.specs.CodeSet.{members};
+ghost use Rattle.base_types.specs.CodeSet.{members};
 ghost use Rattle.est_kernel.specs.Plain.{term_of};
 ghost use Rattle.grc_graph.specs.CodeTables.{HasCodesAt};
 ghost use Rattle.grc_dep.specs.PartCodes.{HaveCodes};
 
-use est_base::{CodeSet, PathId};
+use base_types::{CodeSet, PathId};
 use est_kernel::{Codes, Kernel};
 use grc_graph::{Instance, Layer, has_some_code, resumed_codes, started_codes};
 

@@ -1,11 +1,11 @@
 // Ranks of wires, or a cycle.
 
 ghost use Rattle.std.specs.Prelude.{◌≡◌, ◌↔◌, ℕ, List, IfOk, IsTrue};
-ghost use Rattle.digraph.specs.Walks.{IsClosedWalk};
+ghost use Rattle.base_digraph.specs.Walks.{IsClosedWalk};
 ghost use Rattle.grc_dep.specs.Cycles.{numbers_of, numbered, IsAnswer, is_cycle};
 
-use digraph::{RanksOrCycle, ranks_or_cycle};
-use est_base::{NoMemory, WireId};
+use base_digraph::{RanksOrCycle, ranks_or_cycle};
+use base_types::{NoMemory, WireId};
 use grc_graph::{Edges, Ranks};
 use std::alloc::{AllocError, Global};
 

@@ -14,7 +14,7 @@ ghost use Rattle.grc_dep.specs.Found.{found_by};
 use crate::linking::push_edge;
 use crate::lookups::Lookups;
 use crate::names::NamedWire;
-use est_base::{NoMemory, PathId, SigId, WireId};
+use base_types::{NoMemory, PathId, SigId, WireId};
 use est_kernel::Test;
 use grc_graph::{Binding, Instance, Layer, layer_above};
 use std::alloc::Global;

@@ -18,7 +18,7 @@ use crate::names::NamedWire;
 use crate::part_edges::{push_ends_if, push_go_to_part};
 use crate::parts::Part;
 use crate::statuses::{BoundTest, push_test_if};
-use est_base::{NoMemory, PathId, WireId};
+use base_types::{NoMemory, PathId, WireId};
 use grc_graph::{Instance, Layer};
 use std::alloc::Global;
 

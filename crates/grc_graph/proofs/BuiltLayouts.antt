@@ -19,7 +19,7 @@ use Rattle.grc_graph.specs.PlainInstances.{instance_at, wire_of}
 use Rattle.grc_graph.specs.Rows.{program_rows, row_at}
 use Rattle.grc_graph.specs.SelectionTrees.{body_leaves, body_tree}
 use Rattle.grc_graph.specs.Statements.{around}
-use Rattle.grc_graph.specs.TreeForms.{node_of}
+use Rattle.grc_graph.specs.TreeForms.{tree_node}
 use Rattle.grc_graph.specs.Wires.{Wire, Go, StatusOf, End, instance_codes, listed, own_status, same_wire}
 use Rattle.grc_graph.specs.WireTables.{is_local}
 use Rattle.grc_graph.proofs.Beside.{row-around}
@@ -76,7 +76,7 @@ module _ (p : Program) (kernel : IsKernel p.body) where
       (λ x c. instance-wires x (live_instance p x.path x.layer c)))
 
   pub laid-out : (insts : List Instance) (wires : List stored.Wire) (nodes : List SelNode) (count : ℕ) → IsWellFormed p → insts ≡ body_instances p.body
-      → map (wire_of insts) wires ≡ program_wires p → map node_of nodes ≡ body_tree p.body → count ≡ length (body_leaves p.body)
+      → map (wire_of insts) wires ≡ program_wires p → map tree_node nodes ≡ body_tree p.body → count ≡ length (body_leaves p.body)
       → IsLaidOut p insts wires nodes count
   laid-out insts wires nodes count formed e names tree leaves = record {
     formed = formed;

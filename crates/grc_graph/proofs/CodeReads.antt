@@ -1,8 +1,8 @@
 -- The static codes of each statement stand at its number in the lists of a body's codes.
 use Rattle.std.proofs.Common.{◌≡◌, ℕ, ◌+◌, ◌<◌, ◌≤◌, Bool, List, [], ◌∷◌, ◌++◌, length, map, get_or, refl, sym, ap, ◌∙◌, subst, arith, length-append}
 use Rattle.std.proofs.lemmas.List.{length-map, map-append, get_or_append_left, get_or-append-add}
-use Rattle.est_base.specs.CodeSet.{members}
-use Rattle.est_base.specs.Codes.{no_code}
+use Rattle.base_types.specs.CodeSet.{members}
+use Rattle.base_types.specs.Codes.{no_code}
 use Rattle.est_kernel.specs.declared.code_lists.Codes.{Codes}
 use Rattle.est_kernel.specs.CodeLists.{AreCodesOf}
 use Rattle.est_kernel.specs.Sizes.{size_of}

@@ -1,7 +1,7 @@
 -- Sets with no code.
 use Rattle.std.proofs.Common.{◌≡◌, ℕ, ap}
-use Rattle.est_base.specs.declared.code_set.CodeSet.{CodeSet}
-use Rattle.est_base.specs.CodeSet.{bit, members}
+use Rattle.base_types.specs.declared.code_set.CodeSet.{CodeSet}
+use Rattle.base_types.specs.CodeSet.{bit, members}
 
 pub members-same : (x y : CodeSet) → x.bits ≡ y.bits → (k : ℕ) → members x k ≡ members y k
 unfolding members

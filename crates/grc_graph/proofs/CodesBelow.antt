@@ -5,7 +5,7 @@ use Rattle.std.proofs.Math.Bool.{and-true}
 use Rattle.std.proofs.lemmas.Bool.{ne_eqb}
 use Rattle.std.proofs.lemmas.List.{map-append, append-nil}
 use Rattle.std.specs.Prelude.{if◌then◌else◌, not, ◌&&◌, ◌==◌}
-use Rattle.est_base.specs.Codes.{except}
+use Rattle.base_types.specs.Codes.{except}
 use Rattle.grc_graph.specs.Wires.{codes_below, listed}
 
 below_suc : (n : ℕ) (A : ℕ → Bool) (b : Bool) → A n ≡ b → codes_below (suc n) A ≡ codes_below n A ++ (if b then n ∷ [] else [])

@@ -1,7 +1,7 @@
 -- Where a set of pauses has none of a statement, the statement holds none.
 use Rattle.std.proofs.Common.{Bool, false, refl, ℕ, ◌+◌, ◌==◌, ◌||◌, ◌≡◌}
 use Rattle.std.proofs.lemmas.Bool.{cond-true, eq-eqb}
-use Rattle.facts.proofs.Tests.{or-equal}
+use Rattle.base_facts.proofs.Tests.{or-equal}
 use Rattle.est_kernel.specs.Preorder.{statement_count}
 use Rattle.est_kernel.specs.Terms.{Awake, Emit, Exit, Local, Loop, Nothing, Par, Pause, Present, Seq, Suspend, Term, Trap}
 use Rattle.grc_graph.specs.Readings.{holds_at}

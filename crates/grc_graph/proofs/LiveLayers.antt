@@ -1,7 +1,7 @@
 -- The layers of each statement of a body, as they are passed down to its parts.
 use Rattle.std.proofs.Common.{◌≡◌, ℕ, ◌+◌, ◌<◌, ◌≤◌, ◌==◌, cond, ltb, List, refl, ap, ◌∙◌, arith}
 use Rattle.std.proofs.lemmas.Bool.{eq-eqb, ne_eqb, cond-true, cond-false, lt-ltb}
-use Rattle.facts.proofs.Tests.{ltb-not}
+use Rattle.base_facts.proofs.Tests.{ltb-not}
 use Rattle.est_kernel.specs.Terms.{Term, Nothing, Pause, Emit, Exit, Awake}
 use Rattle.est_kernel.specs.Preorder.{statement_count}
 use Rattle.grc_graph.specs.Layers.{Layer, Liveness, layers_of, body_liveness, liveness_at, body_layers}

@@ -5,7 +5,7 @@ use Rattle.std.specs.Prelude.{nat_lt, slice_index, Contains, MatchOption, IsTrue
 use Rattle.std.specs.List.Sorted.{IsPartitionedBy}
 use Rattle.std.proofs.lemmas.Bool.{cases_lt, and_parts, eq-eqb, eqb-true, lt-ltb, le-ltb, ltb-true, ltb-false, or_cases, false≢true, both_ways, cases_order}
 use Rattle.std.proofs.lemmas.List.{length-map, get_or-map, get_or_default}
-use Rattle.est_base.specs.declared.indices.WireId.{WireId}
+use Rattle.base_types.specs.declared.indices.WireId.{WireId}
 use Rattle.grc_graph.specs.declared.instances.Instance.{Instance}
 use Rattle.grc_graph.specs.declared.instances.Layer.TheVariants as layers
 use Rattle.grc_graph.specs.declared.wires.Wire.{Wire}

@@ -5,7 +5,7 @@ use Rattle.std.specs.Prelude.{if◌then◌else◌, Contains}
 use Rattle.std.proofs.lemmas.Bool.{false≢true, and_parts, and_from, or_cases, or_left, or_right, false_from_ne_true}
 use Rattle.std.proofs.lemmas.List.Elements.{Contains-append_cases, All-contains, All-nil}
 use Rattle.std.proofs.lemmas.List.{append-nil}
-use Rattle.est_base.specs.Codes.{only, either, except, maxima}
+use Rattle.base_types.specs.Codes.{only, either, except, maxima}
 use Rattle.est_kernel.specs.Laws.{IsSubset}
 use Rattle.est_kernel.specs.Terms.{Term, Pause, Present, Suspend, Seq, Loop, Par, Trap, Local}
 use Rattle.est_kernel.specs.Preorder.{statement_count}

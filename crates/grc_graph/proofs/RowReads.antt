@@ -1,9 +1,9 @@
 -- What lists by statement numbers have of a program: the statement, what lets it run, and its codes.
 use Rattle.std.proofs.Common.{◌≡◌, ℕ, ◌+◌, ◌<◌, Bool, List, ◌∷◌, ◌++◌, length, map, get_or, refl, sym, ap, ◌∙◌, arith}
 use Rattle.std.proofs.lemmas.List.{map-append, length-map, get_or-map}
-use Rattle.est_base.specs.declared.code_set.CodeSet.{CodeSet}
-use Rattle.est_base.specs.CodeSet.{members}
-use Rattle.est_base.specs.Codes.{no_code}
+use Rattle.base_types.specs.declared.code_set.CodeSet.{CodeSet}
+use Rattle.base_types.specs.CodeSet.{members}
+use Rattle.base_types.specs.Codes.{no_code}
 use Rattle.est_kernel.specs.declared.code_lists.Codes.{Codes}
 use Rattle.est_kernel.specs.CodeLists.{AreCodesOf}
 use Rattle.est_kernel.specs.Plain.{Program, interface_count}

@@ -5,14 +5,14 @@ use Rattle.std.specs.Prelude.{nat_lt}
 use Rattle.std.proofs.lemmas.List.{append-nil, get_or-append-add, length-map, get_or-map, get_or_append_left, get_or_default}
 use Rattle.std.proofs.lemmas.Bool.{eq-eqb, ne_eqb, lt-ltb, le-ltb, cases_lt, and_from}
 use Rattle.std.proofs.Math.Bool.{and-false}
-use Rattle.facts.proofs.Tests.{if-false, if-true}
+use Rattle.base_facts.proofs.Tests.{if-false, if-true}
 use Rattle.est_kernel.specs.Terms.{Term, Nothing, Pause, Emit, Exit, Present, Suspend, Seq, Loop, Par, Trap, Local, Awake}
 use Rattle.est_kernel.specs.Preorder.{statement_count}
 use Rattle.est_kernel.proofs.Exports.{statement_count-pos}
 use Rattle.grc_graph.specs.declared.trees.SelNode.{SelNode}
 use Rattle.grc_graph.specs.Layers.{can_pass}
 use Rattle.grc_graph.specs.SelectionTrees.{Form, Leaf, Exclusive, Parallel, Passing, TreeNode, tree_nodes, leaf_paths, subtree_if, resumes, second_resumes}
-use Rattle.grc_graph.specs.TreeForms.{form_of, node_of, end_of, SubtreesNest}
+use Rattle.grc_graph.specs.TreeForms.{form_of, tree_node, end_of, SubtreesNest}
 use Rattle.grc_graph.specs.TreeJudgements.{Judgement, judgement, judgement_if, combined, none_selected}
 use Rattle.grc_graph.proofs.TreeLaws.{tree_none}
 use Rattle.grc_graph.specs.TreeReadings.{Judges, second_place}
@@ -145,21 +145,21 @@ live_nodes false t n i k h = absurd (omega (arith, h, ap length (tree_none t n i
 
 -- the node at a place of a list that has these nodes there
 pub node_there : (nodes : List SelNode) (pre xs post : List TreeNode) (i j : ℕ) (d : SelNode)
-    → map node_of nodes ≡ pre ++ (xs ++ post)
+    → map tree_node nodes ≡ pre ++ (xs ++ post)
     → i ≡ length pre + j
     → j < length xs
-    → node_of (get_or nodes i d) ≡ get_or xs j (node_of d)
+    → tree_node (get_or nodes i d) ≡ get_or xs j (tree_node d)
 node_there nodes pre xs post i j d e at within =
     let inside : i < length nodes
-    = omega (arith, length-map nodes node_of, ap length e, length-append pre (xs ++ post), length-append xs post) in
-    sym (get_or-map node_of nodes i d (node_of d) inside)
-    ∙ (λ k. get_or (e k) (at k) (node_of d))
-    ∙ get_or-append-add pre (xs ++ post) j (node_of d)
-    ∙ get_or_append_left xs post (node_of d) j within
+    = omega (arith, length-map nodes tree_node, ap length e, length-append pre (xs ++ post), length-append xs post) in
+    sym (get_or-map tree_node nodes i d (tree_node d) inside)
+    ∙ (λ k. get_or (e k) (at k) (tree_node d))
+    ∙ get_or-append-add pre (xs ++ post) j (tree_node d)
+    ∙ get_or_append_left xs post (tree_node d) j within
 
 -- the second part begins behind the nodes of the first
 pub middle_of : (nodes : List SelNode) (nest : SubtreesNest nodes) (i n m : ℕ) (d : SelNode) (pre A B post : List TreeNode) (f : Form)
-    → map node_of nodes ≡ pre ++ ((record { path = n; after = i + 1 + length (A ++ B); form = f } ∷ (A ++ B)) ++ post)
+    → map tree_node nodes ≡ pre ++ ((record { path = n; after = i + 1 + length (A ++ B); form = f } ∷ (A ++ B)) ++ post)
     → i ≡ length pre
     → Heads A (n + 1) (i + 1)
     → Heads B m (i + 1 + length A)
@@ -167,7 +167,7 @@ pub middle_of : (nodes : List SelNode) (nest : SubtreesNest nodes) (i n m : ℕ)
     → second_place nodes i d ≡ i + 1 + length A
 middle_of nodes nest i n m d pre A B post f e at a b lt =
     let x : TreeNode = record { path = n; after = i + 1 + length (A ++ B); form = f } in
-    let here : node_of (get_or nodes i d) ≡ x
+    let here : tree_node (get_or nodes i d) ≡ x
     = node_there nodes pre (x ∷ (A ++ B)) post i 0 d e (omega (arith, at)) (omega arith) in
     let end : end_of nodes i d ≡ i + 1 + length (A ++ B) = ap (λ y. y.after) here in
     let path : (get_or nodes i d).path.0 ≡ n = ap (λ y. y.path) here in
@@ -181,21 +181,21 @@ middle_of nodes nest i n m d pre A B post f e at a b lt =
     (le-ltb (i + 1) (end_of nodes i d) (omega (arith, end, both))))
     ∙ (let r : i + 1 ≡ i + 1 + length A = omega arith in r))
     (λ (some : 1 ≤ length B).
-    let next : node_of (get_or nodes (i + 1) d) ≡ get_or (A ++ B) 0 (node_of d)
+    let next : tree_node (get_or nodes (i + 1) d) ≡ get_or (A ++ B) 0 (tree_node d)
     = node_there nodes pre (x ∷ (A ++ B)) post (i + 1) 1 d e (omega (arith, at)) (omega (arith, both)) in
-    let second : get_or (A ++ B) 0 (node_of d) ≡ get_or B 0 (node_of d)
-    = (let z : 0 ≡ length A + 0 = omega arith in ap (λ j. get_or (A ++ B) j (node_of d)) z) ∙ get_or-append-add A B 0 (node_of d) in
-    let number : (get_or nodes (i + 1) d).path.0 ≡ m = ap (λ y. y.path) (next ∙ second) ∙ b.path (node_of d) (omega arith) in
+    let second : get_or (A ++ B) 0 (tree_node d) ≡ get_or B 0 (tree_node d)
+    = (let z : 0 ≡ length A + 0 = omega arith in ap (λ j. get_or (A ++ B) j (tree_node d)) z) ∙ get_or-append-add A B 0 (tree_node d) in
+    let number : (get_or nodes (i + 1) d).path.0 ≡ m = ap (λ y. y.path) (next ∙ second) ∙ b.path (tree_node d) (omega arith) in
     if-false test _ _
     (ap (λ v. nat_lt (i + 1) (end_of nodes i d) && v) (ne_eqb _ _ (λ q. omega (arith, q, number, path, lt))) ∙ and-false _)
     ∙ (let r : i + 1 ≡ i + 1 + length A = omega arith in r))
     (cases_lt (length B) 1))
     (λ (some : 1 ≤ length A).
-    let next : node_of (get_or nodes (i + 1) d) ≡ get_or (A ++ B) 0 (node_of d)
+    let next : tree_node (get_or nodes (i + 1) d) ≡ get_or (A ++ B) 0 (tree_node d)
     = node_there nodes pre (x ∷ (A ++ B)) post (i + 1) 1 d e (omega (arith, at)) (omega (arith, both)) in
-    let first : get_or (A ++ B) 0 (node_of d) ≡ get_or A 0 (node_of d) = get_or_append_left A B (node_of d) 0 (omega arith) in
-    let number : (get_or nodes (i + 1) d).path.0 ≡ n + 1 = ap (λ y. y.path) (next ∙ first) ∙ a.path (node_of d) (omega arith) in
-    let behind : end_of nodes (i + 1) d ≡ i + 1 + length A = ap (λ y. y.after) (next ∙ first) ∙ a.after (node_of d) (omega arith) in
+    let first : get_or (A ++ B) 0 (tree_node d) ≡ get_or A 0 (tree_node d) = get_or_append_left A B (tree_node d) 0 (omega arith) in
+    let number : (get_or nodes (i + 1) d).path.0 ≡ n + 1 = ap (λ y. y.path) (next ∙ first) ∙ a.path (tree_node d) (omega arith) in
+    let behind : end_of nodes (i + 1) d ≡ i + 1 + length A = ap (λ y. y.after) (next ∙ first) ∙ a.after (tree_node d) (omega arith) in
     if-true test _ _
     (and_from _ _ (lt-ltb (i + 1) (end_of nodes i d) (omega (arith, end, both))) (eq-eqb _ _ (omega (arith, number, path))))
     ∙ behind)
@@ -215,8 +215,8 @@ judged_whole nodes nest i middle d bits l r within mid jl jr true t n k pre post
     let A = tree_nodes row.live row.first (n + 1) (length pre + 1) k in
     let B = tree_nodes row.other row.second row.number (length pre + 1 + length A) row.leaf in
     let x : TreeNode = record { path = n; after = length pre + 1 + length (A ++ B); form = row.form } in
-    let whole : map node_of nodes ≡ pre ++ ((x ∷ (A ++ B)) ++ post) = s.nodes_all ∙ ap (λ v. pre ++ (v ++ post)) row.nodes_two in
-    let here : node_of (get_or nodes i d) ≡ x = node_there nodes pre (x ∷ (A ++ B)) post i 0 d whole (omega (arith, at)) (omega arith) in
+    let whole : map tree_node nodes ≡ pre ++ ((x ∷ (A ++ B)) ++ post) = s.nodes_all ∙ ap (λ v. pre ++ (v ++ post)) row.nodes_two in
+    let here : tree_node (get_or nodes i d) ≡ x = node_there nodes pre (x ∷ (A ++ B)) post i 0 d whole (omega (arith, at)) (omega arith) in
     let seam : middle ≡ length pre + 1 + length A
     = mid ∙ ap (λ j. second_place nodes j d) at
     ∙ middle_of nodes nest (length pre) n row.number d pre A B post row.form whole refl
@@ -254,10 +254,10 @@ pub judged_some : (nodes : List SelNode) (i j : ℕ) (d : SelNode) (bits : List 
     → Judges nodes i j bits l
 judged_some nodes i j d bits l h g b t n k pre post s =
     let T = tree_nodes b t n (length pre) k in
-    let here : node_of (get_or nodes i d) ≡ get_or T 0 (node_of d)
+    let here : tree_node (get_or nodes i d) ≡ get_or T 0 (tree_node d)
     = node_there nodes pre T post i 0 d s.nodes_all (omega (arith, s.begins)) (omega (arith, s.begins, s.ends)) in
     let end : end_of nodes i d ≡ length pre + length T
-    = ap (λ y. y.after) here ∙ (heads_tree b t n (length pre) k).after (node_of d) (omega (arith, s.begins, s.ends)) in
+    = ap (λ y. y.after) here ∙ (heads_tree b t n (length pre) k).after (tree_node d) (omega (arith, s.begins, s.ends)) in
     g b t n k pre post (record { nodes_all = s.nodes_all; begins = s.begins; ends = end })
 
 -- the end of a first part that is there

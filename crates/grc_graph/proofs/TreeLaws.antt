@@ -5,14 +5,14 @@ use Rattle.std.specs.Prelude.{IsTrue, count_by, if◌then◌else◌}
 use Rattle.std.proofs.lemmas.List.{length-map, get_or_append_left, get_or-append-add}
 use Rattle.std.proofs.lemmas.Bool.{cases_lt, eq-eqb}
 use Rattle.std.proofs.Common.{◌-◌}
-use Rattle.facts.proofs.Lists.{count_by-cons}
+use Rattle.base_facts.proofs.Lists.{count_by-cons}
 use Rattle.est_kernel.specs.Terms.{Term, Nothing, Pause, Emit, Exit, Present, Suspend, Seq, Loop, Par, Trap, Local, Awake}
 use Rattle.grc_graph.specs.declared.trees.SelForm.{SelForm}
 use Rattle.grc_graph.specs.declared.trees.SelForm.TheVariants as forms
 use Rattle.grc_graph.specs.declared.trees.SelNode.{SelNode}
 use Rattle.grc_graph.specs.SelectionTrees.{Form, Leaf, Exclusive, Parallel, Passing, TreeNode, tree_nodes, leaf_paths, subtree_if, resumes, second_resumes}
 use Rattle.grc_graph.specs.SelectionTrees.{body_tree, body_leaves}
-use Rattle.grc_graph.specs.TreeForms.{form_of, node_of, is_leaf, end_of, is_numbered, leaves_before, SubtreesNest, LeavesAscend}
+use Rattle.grc_graph.specs.TreeForms.{form_of, tree_node, is_leaf, end_of, is_numbered, leaves_before, SubtreesNest, LeavesAscend}
 
 -- where the resumed instance is not live there are no nodes
 pub tree_none : (t : Term) (n i k : ℕ) → tree_nodes false t n i k ≡ []
@@ -122,24 +122,24 @@ nest_tree b (Local s p) n i k = nest_if b n i _ _ (nest_tree (resumes p) p (n + 
 nest_tree b _ n i k = nest_nil i
 
 -- the node at a place, by its plain form
-node_at : (nodes : List SelNode) (i : ℕ) (d : SelNode) → i < length nodes → get_or (map node_of nodes) i (node_of d) ≡ node_of (get_or nodes i d)
+node_at : (nodes : List SelNode) (i : ℕ) (d : SelNode) → i < length nodes → get_or (map tree_node nodes) i (tree_node d) ≡ tree_node (get_or nodes i d)
 node_at (x ∷ xs) zero d h = refl
 node_at (x ∷ xs) (suc i) d h = node_at xs i d (omega arith)
 node_at [] i d h = absurd (omega arith)
 
-after_at : (nodes : List SelNode) (i : ℕ) (d : SelNode) → i < length nodes → (get_or (map node_of nodes) i (node_of d)).after ≡ end_of nodes i d
+after_at : (nodes : List SelNode) (i : ℕ) (d : SelNode) → i < length nodes → (get_or (map tree_node nodes) i (tree_node d)).after ≡ end_of nodes i d
 after_at nodes i d h = ap (λ x. x.after) (node_at nodes i d h)
 
-nest_nodes : (nodes : List SelNode) → NestFrom 0 (map node_of nodes) → SubtreesNest nodes
+nest_nodes : (nodes : List SelNode) → NestFrom 0 (map tree_node nodes) → SubtreesNest nodes
 nest_nodes nodes h =
-    let counts : length (map node_of nodes) ≡ length nodes = length-map nodes node_of in
+    let counts : length (map tree_node nodes) ≡ length nodes = length-map nodes tree_node in
     record {
-      begun = λ i d l. let e = after_at nodes i d l in let k = h.begun i (node_of d) (omega arith) in omega (arith, e, k);
-      ended = λ i d l. let e = after_at nodes i d l in let k = h.ended i (node_of d) (omega arith) in omega (arith, e, k);
+      begun = λ i d l. let e = after_at nodes i d l in let k = h.begun i (tree_node d) (omega arith) in omega (arith, e, k);
+      ended = λ i d l. let e = after_at nodes i d l in let k = h.ended i (tree_node d) (omega arith) in omega (arith, e, k);
       whole = λ i j d l b m.
           let first = after_at nodes i d (omega arith) in
           let other = after_at nodes j d l in
-          let k = h.whole i j (node_of d) (omega arith) b (omega (arith, first)) in
+          let k = h.whole i j (tree_node d) (omega arith) b (omega (arith, first)) in
           omega (arith, first, other, k);
     }
 
@@ -246,12 +246,12 @@ number_test forms.Excl k h = refl
 number_test (forms.Par a b) k h = refl
 number_test forms.Pass k h = refl
 
-counts_leaves : (nodes : List SelNode) → count_by (λ x. is_leaf x.form) nodes ≡ leaf_count (map node_of nodes)
+counts_leaves : (nodes : List SelNode) → count_by (λ x. is_leaf x.form) nodes ≡ leaf_count (map tree_node nodes)
 counts_leaves [] = refl
 counts_leaves (x ∷ xs) =
     count_by-cons (λ x. is_leaf x.form) x xs ∙ λ i. counts_leaf x.form i + counts_leaves xs i
 
-numbers_nodes : (nodes : List SelNode) (k i : ℕ) (d : SelNode) → NumberedFrom k (map node_of nodes) → i < length nodes
+numbers_nodes : (nodes : List SelNode) (k i : ℕ) (d : SelNode) → NumberedFrom k (map tree_node nodes) → i < length nodes
     → IsTrue (is_numbered (get_or nodes i d).form (k + leaves_before nodes i))
 numbers_nodes [] k i d h l = absurd (omega arith)
 numbers_nodes (x ∷ xs) k zero d h l = number_test x.form (k + 0) (let e : k ≡ k + 0 = omega arith in subst (λ m. HasNumber (form_of x.form) m) e h.0)
@@ -263,10 +263,10 @@ numbers_nodes (x ∷ xs) k (suc i) d h l =
     subst (λ m. IsTrue (is_numbered (get_or xs i d).form m)) e (numbers_nodes xs (k + leaf_in (form_of x.form)) i d h.1 (omega arith))
 
 -- a list of nodes that is a body's tree keeps what a selection tree keeps
-pub tree_nests : (nodes : List SelNode) (body : Term) → map node_of nodes ≡ body_tree body → SubtreesNest nodes
+pub tree_nests : (nodes : List SelNode) (body : Term) → map tree_node nodes ≡ body_tree body → SubtreesNest nodes
 tree_nests nodes body e = nest_nodes nodes (subst (λ l. NestFrom 0 l) (sym e) (nest_tree (resumes body) body 0 0 0))
 
-pub tree_numbers : (nodes : List SelNode) (leaves : ℕ) (body : Term) → map node_of nodes ≡ body_tree body → leaves ≡ length (body_leaves body) →
+pub tree_numbers : (nodes : List SelNode) (leaves : ℕ) (body : Term) → map tree_node nodes ≡ body_tree body → leaves ≡ length (body_leaves body) →
     LeavesAscend nodes leaves
 tree_numbers nodes leaves body e l = record {
   numbered = λ i d h. subst (λ m. IsTrue (is_numbered (get_or nodes i d).form m)) (let z : 0 + leaves_before nodes i ≡ leaves_before nodes i = omega arith in z)

@@ -8,7 +8,7 @@ use Rattle.std.specs.Prelude.{◌||◌}
 use Rattle.std.proofs.lemmas.List.{append-nil}
 use Rattle.std.proofs.lemmas.List.FromFn.{get_or-map-range_with_len, length-map-range_with_len}
 use Rattle.std.proofs.lemmas.List.Elements.{Contains-append_left, Contains-append_right, Contains-append_cases}
-use Rattle.facts.proofs.Lists.{contains-flat_map, contains-map}
+use Rattle.base_facts.proofs.Lists.{contains-flat_map, contains-map}
 use Rattle.est_kernel.specs.Plain.{Program, interface_count, outgoing_count}
 use Rattle.est_kernel.specs.WellFormed.{IsKernel}
 use Rattle.est_kernel.specs.Terms.{Term, Present, Suspend, Seq, Loop, Par, Trap, Local, Awake}

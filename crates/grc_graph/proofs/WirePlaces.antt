@@ -2,8 +2,8 @@
 use Rattle.std.proofs.Common.{List, [], arith, inl, inr, length, suc, ℕ, ◌<◌, ◌==◌, ◌∷◌, ◌≡◌}
 use Rattle.std.proofs.lemmas.Bool.{cases_eq, ne_eqb}
 use Rattle.std.proofs.lemmas.List.{length-map}
-use Rattle.facts.proofs.Lists.{count_by-no}
-use Rattle.est_base.specs.declared.indices.WireId.{WireId}
+use Rattle.base_facts.proofs.Lists.{count_by-no}
+use Rattle.base_types.specs.declared.indices.WireId.{WireId}
 use Rattle.grc_graph.specs.PlainGraphs.{instances_of, names_of, wire_of}
 use Rattle.grc_graph.specs.WireOrders.{times, wire_at}
 use Rattle.grc_graph.specs.declared.graph.Graph.{Graph}

@@ -1,8 +1,8 @@
 -- Inner: the static codes of each statement, read by its number.
 use Rattle.std.specs.Prelude.{◌≡◌, ℕ, ◌+◌, ◌<◌, Bool, List, length, map, slice_index_or}
-use Rattle.est_base.specs.declared.code_set.CodeSet.{CodeSet}
-use Rattle.est_base.specs.CodeSet.{members}
-use Rattle.est_base.specs.Codes.{no_code}
+use Rattle.base_types.specs.declared.code_set.CodeSet.{CodeSet}
+use Rattle.base_types.specs.CodeSet.{members}
+use Rattle.base_types.specs.Codes.{no_code}
 use Rattle.est_kernel.specs.declared.code_lists.Codes.{Codes}
 use Rattle.est_kernel.specs.Terms.{Term, Nothing, Pause, Emit, Exit, Present, Suspend, Seq, Loop, Par, Trap, Local}
 use Rattle.est_kernel.specs.Terms.{Awake}

@@ -2,7 +2,7 @@
 use Rattle.std.specs.Prelude.{ℕ, ◌+◌, ◌*◌, ◌≤◌, List, Option, Vec}
 use Rattle.std.specs.Global.{Global}
 use Rattle.std.specs.List.{sum_by}
-use Rattle.est_base.specs.declared.bounds.TheConstants.Limits.{WIRES}
+use Rattle.base_types.specs.declared.bounds.TheConstants.Limits.{WIRES}
 use Rattle.est_kernel.specs.Plain.{Program}
 use Rattle.grc_graph.specs.declared.formulas.Formula.{Formula}
 use Rattle.grc_graph.specs.declared.loops.LoopBodies.{LoopBodies}

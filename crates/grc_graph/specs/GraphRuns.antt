@@ -2,8 +2,8 @@
 -- asks nothing of how they were made.
 use Rattle.std.specs.Prelude.{◌≡◌, ℕ, Bool, false, ◌||◌, List, [], ◌∷◌, map, All}
 use Rattle.std.specs.List.{list_any}
-use Rattle.est_base.specs.Items.{Item}
-use Rattle.machines.specs.Machines.{Machine, IsRunFrom}
+use Rattle.base_types.specs.Items.{Item}
+use Rattle.base_machines.specs.Machines.{Machine, IsRunFrom}
 use Rattle.est_kernel.specs.Terms.{Term}
 use Rattle.est_kernel.specs.Plain.{Program, Interface, interface_of, interface_count, given_count}
 use Rattle.est_kernel.specs.Reactions.{is_given}
@@ -58,7 +58,7 @@ abbrev pub formula_value : PlainGraph → State → List Bool → Valuation → 
 formula_value g q event V a = meaning (boolean_interpretation g.scope g.body q (is_given event) V (g.lasting V)) a
 
 -- A valuation solves the graph: each equation is met, and what is no wire is false.
-pub record Solves (g : PlainGraph) (q : State) (event : List Bool) (V : Valuation) : Type 0 where
+pub record SolvesGraph (g : PlainGraph) (q : State) (event : List Bool) (V : Valuation) : Type 0 where
   pub met : All (λ e. V e.wire ≡ formula_value g q event V e.formula) g.equations
   pub others : (w : Wire) → list_any (λ e. same_wire w e.wire) g.equations ≡ false → V w ≡ false
 
@@ -68,11 +68,11 @@ next_state g q event V = Selecting (selecting g.leaves (map (λ a. formula_value
 
 -- what is seen of an instant: which outgoing signals are present, in order, and whether the program pauses: its body
 -- ends with code 1 in the layer that runs
-pub record Shown : Type 0 where
+pub record ShownInstant : Type 0 where
   pub outputs : List Bool
   pub paused : Bool
 
-abbrev pub shown : PlainGraph → Valuation → Shown
+abbrev pub shown : PlainGraph → Valuation → ShownInstant
 shown g V = record {
   outputs = map (λ s. V (Out s)) g.interface.outgoing;
   paused = V (End 0 Resumed 1) || V (End 0 (Started 0) 1);
@@ -80,7 +80,7 @@ shown g V = record {
 
 -- the machine of a graph: in an instant a valuation solves it, and behind that is the next state
 abbrev pub graph_machine : PlainGraph → Machine Valuation
-graph_machine g = record { State = State; start = Initial; instant = Solves g; next = next_state g }
+graph_machine g = record { State = State; start = Initial; instant = SolvesGraph g; next = next_state g }
 
 -- A run from a state over items: one valuation per event, each of which solves the graph in the state that is reached.
 -- A reset puts the first instant back and has no valuation.

@@ -3,7 +3,7 @@ use mathlib.Core.Bool.{Bool-set}
 use mathlib.Core.HLevel.{Π_prop, ×_prop, ×₃_prop, Unit-prop}
 use native.Mathlib.Bridge.{le_prop}
 use Rattle.std.specs.Prelude.{ℕ, ◌+◌, Bool}
-use Rattle.est_base.specs.Relations.{Relation, Implies, Excludes}
+use Rattle.base_types.specs.Relations.{Relation, Implies, Excludes}
 use Rattle.est_kernel.specs.Terms.{Expression, Tick, Sig, Not, And, Or, Term, Nothing, Pause, Emit, Exit, Present}
 use Rattle.est_kernel.specs.Terms.{Suspend, Seq, Loop, Par, Trap, Local, Awake}
 use Rattle.est_kernel.specs.WellFormed.{ExitsStandInTraps, TestsVisible, SignalsFit, RelatesGiven, with_signal}

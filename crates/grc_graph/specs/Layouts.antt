@@ -14,7 +14,7 @@ use Rattle.grc_graph.specs.PlainInstances.{instance_at, wire_of}
 use Rattle.grc_graph.specs.Rows.{live_in, program_rows, row_at}
 use Rattle.grc_graph.specs.SelectionTrees.{body_leaves, body_tree}
 use Rattle.grc_graph.specs.Statements.{around}
-use Rattle.grc_graph.specs.TreeForms.{node_of}
+use Rattle.grc_graph.specs.TreeForms.{tree_node}
 use Rattle.grc_graph.specs.Wires.{Wire, Out, Go, StatusOf, End, instance_codes, listed, same_wire}
 
 -- whether an instance is among these
@@ -50,5 +50,5 @@ pub record IsLaidOut (p : Program) (insts : List Instance) (wires : List stored.
       → around (row_at (program_rows p) (instance_at insts i).path).entry ≡ Some n
       → is_among insts n (layer_above n (instance_at insts i).layer) ≡ true
   pub names : map (wire_of insts) wires ≡ laid_names p insts (map (wire_of insts) wires)
-  pub tree : map node_of nodes ≡ body_tree p.body
+  pub tree : map tree_node nodes ≡ body_tree p.body
   pub leaves : count ≡ length (body_leaves p.body)

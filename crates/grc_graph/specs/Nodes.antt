@@ -42,5 +42,5 @@ node_at B (Trap p) n l = Through n l
 node_at B (Local s p) n l = Definition n l (StatusOf n l)
 node_at B (Awake e p) n l = Through n l
 
-abbrev pub node_of : Spot → Node
-node_of x = node_at x.scope x.statement x.path x.layer
+abbrev pub spot_node : Spot → Node
+spot_node x = node_at x.scope x.statement x.path x.layer

@@ -51,19 +51,19 @@ formula_of insts names (formulas.AnyOf v) = plain_formulas.any_of
     (map (λ w. plain_formulas.Value (wire_at names w.0)) v.items)
 
 -- a node by names
-abbrev pub node_of : List Instance → List plain.Wire → Node → plain_nodes.Node
-node_of insts names (nodes.Fork i j) =
+abbrev pub node_form : List Instance → List plain.Wire → Node → plain_nodes.Node
+node_form insts names (nodes.Fork i j) =
     plain_nodes.Fork (instance_at insts i.0).path (instance_at insts j.0).path (instance_at insts i.0).layer
-node_of insts names (nodes.Sync i) = plain_nodes.Sync (instance_at insts i.0).path (instance_at insts i.0).layer
-node_of insts names (nodes.Switch i) = plain_nodes.Switch (instance_at insts i.0).path (instance_at insts i.0).layer
-node_of insts names (nodes.Test i) = plain_nodes.Tested (instance_at insts i.0).path (instance_at insts i.0).layer
-node_of insts names (nodes.Enter i) = plain_nodes.Enter (instance_at insts i.0).path (instance_at insts i.0).layer
-node_of insts names (nodes.Emit i w) =
+node_form insts names (nodes.Sync i) = plain_nodes.Sync (instance_at insts i.0).path (instance_at insts i.0).layer
+node_form insts names (nodes.Switch i) = plain_nodes.Switch (instance_at insts i.0).path (instance_at insts i.0).layer
+node_form insts names (nodes.Test i) = plain_nodes.Tested (instance_at insts i.0).path (instance_at insts i.0).layer
+node_form insts names (nodes.Enter i) = plain_nodes.Enter (instance_at insts i.0).path (instance_at insts i.0).layer
+node_form insts names (nodes.Emit i w) =
     plain_nodes.Emission (instance_at insts i.0).path (instance_at insts i.0).layer (Some (wire_at names w.0))
-node_of insts names (nodes.Define i w) =
+node_form insts names (nodes.Define i w) =
     plain_nodes.Definition (instance_at insts i.0).path (instance_at insts i.0).layer (wire_at names w.0)
-node_of insts names (nodes.Exit i k) = plain_nodes.Leave (instance_at insts i.0).path (instance_at insts i.0).layer k
-node_of insts names (nodes.Through i) = plain_nodes.Through (instance_at insts i.0).path (instance_at insts i.0).layer
+node_form insts names (nodes.Exit i k) = plain_nodes.Leave (instance_at insts i.0).path (instance_at insts i.0).layer k
+node_form insts names (nodes.Through i) = plain_nodes.Through (instance_at insts i.0).path (instance_at insts i.0).layer
 
 -- the instances and the wires of a graph by name, in order
 abbrev pub instances_of : Graph → List Instance

@@ -1,7 +1,7 @@
 -- To believe: which wires a formula reads, and orders along which the equations of a graph read. Such an order is one
 -- in which the wires can be evaluated one after another.
 use Rattle.std.specs.Prelude.{◌≡◌, ℕ, ◌<◌, ◌≤◌, List, length, slice_index_or, All, ⊤}
-use Rattle.est_base.specs.declared.indices.WireId.{WireId}
+use Rattle.base_types.specs.declared.indices.WireId.{WireId}
 use Rattle.grc_graph.specs.Wires.{Wire, End}
 use Rattle.grc_graph.specs.Formulas.{Formula, Const, Boot, Input, Value, Selected, Upto, Kept, Held, Negation}
 use Rattle.grc_graph.specs.Formulas.{Conjunction, Disjunction}

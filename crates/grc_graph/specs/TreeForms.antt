@@ -12,8 +12,8 @@ form_of forms.Excl = Exclusive
 form_of (forms.Par a b) = Parallel a b
 form_of forms.Pass = Passing
 
-abbrev pub node_of : SelNode → TreeNode
-node_of x = record { path = x.path.0; after = x.after; form = form_of x.form }
+abbrev pub tree_node : SelNode → TreeNode
+tree_node x = record { path = x.path.0; after = x.after; form = form_of x.form }
 
 abbrev pub is_leaf : SelForm → Bool
 is_leaf (forms.Leaf k) = true

@@ -5,7 +5,7 @@ use Rattle.est_kernel.specs.Terms.{Term}
 use Rattle.grc_graph.specs.declared.judgements.Judgement.{Judgement as CodeJudgement}
 use Rattle.grc_graph.specs.declared.trees.SelNode.{SelNode}
 use Rattle.grc_graph.specs.SelectionTrees.{TreeNode, tree_nodes}
-use Rattle.grc_graph.specs.TreeForms.{node_of, end_of}
+use Rattle.grc_graph.specs.TreeForms.{tree_node, end_of}
 use Rattle.grc_graph.specs.TreeJudgements.{Judgement, judgement}
 
 abbrev pub judgement_of : CodeJudgement → Judgement
@@ -14,7 +14,7 @@ judgement_of j = record { holds = j.holds; formed = j.formed }
 -- the nodes from one place up to another are those of a statement
 pub record StandsBetween (nodes : List SelNode) (from to : ℕ) (b : Bool) (t : Term) (n k : ℕ)
     (pre post : List TreeNode) : Type 0 where
-  pub nodes_all : map node_of nodes ≡ pre ++ (tree_nodes b t n (length pre) k ++ post)
+  pub nodes_all : map tree_node nodes ≡ pre ++ (tree_nodes b t n (length pre) k ++ post)
   pub begins : from ≡ length pre
   pub ends : to ≡ length pre + length (tree_nodes b t n (length pre) k)
 

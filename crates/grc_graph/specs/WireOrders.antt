@@ -2,7 +2,7 @@
 -- in their order, and an edge is the pair of the wires that it leads from and to.
 use Rattle.std.specs.Prelude.{◌≡◌, ℕ, ◌<◌, Bool, ◌==◌, ◌&&◌, ◌||◌, nat_lt, List, length, slice_index, slice_index_or}
 use Rattle.std.specs.Prelude.{count_by, IsTrue, All, AllPairs}
-use Rattle.est_base.specs.declared.indices.WireId.{WireId}
+use Rattle.base_types.specs.declared.indices.WireId.{WireId}
 
 abbrev pub WireEdge : Type 0
 WireEdge = WireId × WireId

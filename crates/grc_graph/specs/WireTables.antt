@@ -3,8 +3,8 @@ use Rattle.std.specs.Prelude.{◌≡◌, ℕ, ◌+◌, ◌<◌, ◌≤◌, ◌^�
 use Rattle.std.specs.Prelude.{List, [], ◌∷◌, ◌++◌, length, map, slice_index, slice_index_or, Option, Some, None}
 use Rattle.std.specs.Prelude.{MatchOption, Contains}
 use Rattle.std.specs.List.Sorted.{IsPartitionPoint}
-use Rattle.est_base.specs.declared.indices.InstId.{InstId}
-use Rattle.est_base.specs.declared.indices.WireId.{WireId}
+use Rattle.base_types.specs.declared.indices.InstId.{InstId}
+use Rattle.base_types.specs.declared.indices.WireId.{WireId}
 use Rattle.est_kernel.specs.Terms.{Term, Nothing, Pause, Emit, Exit, Present, Suspend, Seq, Loop, Par, Trap, Local}
 use Rattle.est_kernel.specs.Terms.{Awake}
 use Rattle.grc_graph.specs.declared.instances.Instance.{Instance}

@@ -1,14 +1,14 @@
 // The static codes of a statement, by its number.
 
 ghost use Rattle.std.specs.Prelude.{◌≡◌, ℕ, ◌<◌, ◌≤◌, false, length};
-ghost use Rattle.est_base.specs.CodeSet.{members};
+ghost use Rattle.base_types.specs.CodeSet.{members};
 ghost use Rattle.est_kernel.specs.StaticCodes.{has_code};
 ghost use Rattle.grc_graph.specs.CodeTables.{codes_of, set_at};
 ghost use Rattle.grc_graph.specs.PlainInstances.{instance_of};
 ghost use Rattle.grc_graph.specs.Wires.{codes_below, listed};
 
 use crate::instances::{Instance, Layer};
-use est_base::CodeSet;
+use base_types::CodeSet;
 use est_kernel::Codes;
 
 /// The codes of the started statement with this number. It takes no memory.

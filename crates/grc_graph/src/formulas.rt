@@ -1,6 +1,6 @@
 // The formulas of a graph.
 
-use est_base::{InstId, PathId, SigId, WireId};
+use base_types::{InstId, PathId, SigId, WireId};
 
 /// A formula over wires. It is read by two truth values, or by three.
 #[derive(Drop)]

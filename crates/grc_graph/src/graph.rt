@@ -20,7 +20,7 @@ use crate::trees::SelTree;
 use crate::wire_names::WireName;
 use crate::wire_search::Search;
 use crate::wires::{Node, Wire};
-use est_base::{InstId, WireId};
+use base_types::{InstId, WireId};
 use est_kernel::{Codes, KernelProgram};
 
 /// A graph of a kernel program: a node per instance, an equation per wire, and a formula per leaf of the selection

@@ -1,6 +1,6 @@
 // The live instances of a kernel body.
 
-use est_base::PathId;
+use base_types::PathId;
 
 /// In which way a statement runs in an instant.
 #[derive(Clone, Copy)]

@@ -4,7 +4,7 @@ ghost use Rattle.std.specs.Prelude.{◌≡◌, ◌==◌, ◌+◌, ◌≤◌, ◌
 ghost use Rattle.est_kernel.specs.Terms.{Term};
 ghost use Rattle.grc_graph.specs.declared.trees.SelNode.{SelNode};
 ghost use Rattle.grc_graph.specs.SelectionTrees.{body_tree, body_leaves, selecting};
-ghost use Rattle.grc_graph.specs.TreeForms.{node_of, form_of, end_of, LeafWithin};
+ghost use Rattle.grc_graph.specs.TreeForms.{tree_node, form_of, end_of, LeafWithin};
 ghost use Rattle.grc_graph.specs.TreeJudgements.{combined};
 ghost use Rattle.grc_graph.specs.TreeReadings.{judgement_of, Judges, second_place};
 
@@ -112,7 +112,7 @@ impl SelTree {
     /// marked. `selected` has one entry per leaf. It takes no memory.
     pub fn well_formed(&self, selected: &[bool]) -> bool
         requires { length selected.now ≡ self.now.leaves }
-        ensures { (body : Term) → map node_of self.now.nodes.items ≡ body_tree body
+        ensures { (body : Term) → map tree_node self.now.nodes.items ≡ body_tree body
             → result ≡ well_formed (selecting (body_leaves body) selected.now) body 0 }
     {
         judged_between(self, 0, self.nodes.len(), selected).formed

@@ -2,8 +2,8 @@
 
 ghost use Rattle.std.specs.Prelude.{◌≡◌, ◌+◌, ◌<◌, ◌≤◌, ◌^◌, ◌++◌, length, map, IfOk};
 ghost use Rattle.std.specs.List.{range_with_len};
-ghost use Rattle.est_base.specs.CodeSet.{members};
-ghost use Rattle.est_base.specs.declared.bounds.TheConstants.Limits.{WIRES};
+ghost use Rattle.base_types.specs.CodeSet.{members};
+ghost use Rattle.base_types.specs.declared.bounds.TheConstants.Limits.{WIRES};
 ghost use Rattle.est_kernel.specs.CodeLists.{AreCodesOf};
 ghost use Rattle.est_kernel.specs.Plain.{program_of, term_of};
 ghost use Rattle.est_kernel.specs.WellFormed.{IsWellFormed};
@@ -22,7 +22,7 @@ use crate::code_tables::{codes_end, instance_codes};
 use crate::instances::{Instance, Instances};
 use crate::statements::Statement;
 use crate::wires::Wire;
-use est_base::{CodeSet, InstId, NoMemory, SigId};
+use base_types::{CodeSet, InstId, NoMemory, SigId};
 use est_kernel::{Codes, Kernel, KernelProgram};
 use std::alloc::Global;
 

@@ -4,7 +4,7 @@ ghost use Rattle.grc_graph.specs.WireTables.{AreFirsts, AreNeighbours};
 
 use crate::instances::{Instance, Instances, Layer};
 use crate::wires::Wire;
-use est_base::{InstId, PathId, SigId, WireId};
+use base_types::{InstId, PathId, SigId, WireId};
 use est_kernel::KernelProgram;
 
 /// The live instances and the wires of a graph, each found by its name: an instance in steps that are logarithmic in

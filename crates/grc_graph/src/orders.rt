@@ -2,7 +2,7 @@
 
 ghost use Rattle.grc_graph.specs.WireOrders.{AreEdges};
 
-use est_base::WireId;
+use base_types::WireId;
 
 /// The dependency edges of a graph with `count` wires, each as the pair of the wires that it leads from and
 /// to. They ascend: by their beginnings, and edges from one wire by their ends.

@@ -10,7 +10,7 @@ ghost use Rattle.grc_graph.specs.Statements.{Listed, listed, listed_one, program
 ghost use Rattle.grc_graph.specs.Statements.{LocalsFit};
 ghost use Rattle.grc_graph.specs.StatementViews.{view_of, entry_view, binding_of, scope_of};
 
-use est_base::{NoMemory, SigId};
+use base_types::{NoMemory, SigId};
 use est_kernel::{Kernel, KernelProgram, Test};
 use std::alloc::Global;
 

@@ -1,10 +1,10 @@
 // Selection trees.
 
 ghost use Rattle.std.specs.Prelude.{◌≤◌, length};
-ghost use Rattle.est_base.specs.declared.bounds.TheConstants.Limits.{KERNEL_NODES};
+ghost use Rattle.base_types.specs.declared.bounds.TheConstants.Limits.{KERNEL_NODES};
 ghost use Rattle.grc_graph.specs.TreeForms.{SubtreesNest, LeavesAscend};
 
-use est_base::PathId;
+use base_types::PathId;
 
 /// What a node of a selection tree says of the parts of its statement.
 #[derive(Clone, Copy)]

@@ -1,6 +1,6 @@
 // The names of wires, by the paths of statements.
 
-use est_base::Text;
+use base_types::Text;
 
 /// The place of a statement in a body: the child numbers from the body down. Of two parts the first has
 /// the number 0 and the second 1; a single part has 0.

@@ -17,7 +17,7 @@ use crate::graph::Graph;
 use crate::instances::Layer;
 use crate::wire_names::{LayerName, WireName};
 use crate::wires::Wire;
-use est_base::{InstId, PathId, SigId, SignalInfo};
+use base_types::{InstId, PathId, SigId, SignalInfo};
 use est_kernel::Kernel;
 
 /// The statement that a path leads to: its number, and the signal that it binds. A number that does not fit is

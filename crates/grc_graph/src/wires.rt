@@ -1,6 +1,6 @@
 // The wires and the nodes of a graph.
 
-use est_base::{InstId, SigId, WireId};
+use base_types::{InstId, SigId, WireId};
 
 /// A wire of a graph.
 #[derive(Clone, Copy, PartialEq)]

@@ -6,7 +6,7 @@ use Rattle.std.specs.Prelude.{if◌then◌else◌}
 use Rattle.std.proofs.lemmas.Bool.{false≢true}
 use Rattle.std.proofs.Math.ListN.{set}
 use Rattle.std.proofs.lemmas.List.{length-map, append-nil}
-use Rattle.facts.proofs.Lists.{map-set-append}
+use Rattle.base_facts.proofs.Lists.{map-set-append}
 use Rattle.est_kernel.specs.Terms.{Expression, Tick, Term, Nothing, Pause, Emit, Exit, Present, Suspend, Seq, Loop, Par, Trap, Local, Awake}
 use Rattle.est_kernel.specs.Preorder.{statement_count}
 use Rattle.est_kernel.specs.declared.code_lists.Codes.{Codes}
@@ -14,7 +14,7 @@ use Rattle.grc_graph.specs.CodeTables.{CodesFrom}
 use Rattle.grc_graph.specs.declared.trees.SelForm.{SelForm}
 use Rattle.grc_graph.specs.declared.trees.SelNode.{SelNode}
 use Rattle.grc_graph.specs.SelectionTrees.{Form, TreeNode, tree_nodes, leaf_paths, subtree_if, resumes, second_resumes}
-use Rattle.grc_graph.specs.TreeForms.{form_of, node_of}
+use Rattle.grc_graph.specs.TreeForms.{form_of, tree_node}
 use Rattle.grc_graph.proofs.Exports.{tree_none, leaves_none}
 use Rattle.grc_layout.specs.declared.nodes.TreeDraft.{TreeDraft}
 use Rattle.grc_layout.specs.declared.nodes.Part.{Part}
@@ -93,9 +93,9 @@ length-grown old new b t n g =
     omega (
       arith,
       ap length g.nodes,
-      length-map new.nodes.items node_of,
-      length-map old.nodes.items node_of,
-      length-append (map node_of old.nodes.items) (tree_nodes b t n (length old.nodes.items) old.leaves),
+      length-map new.nodes.items tree_node,
+      length-map old.nodes.items tree_node,
+      length-append (map tree_node old.nodes.items) (tree_nodes b t n (length old.nodes.items) old.leaves),
     )
 
 pub nodes_at_most : (old new : TreeDraft) (b : Bool) (t : Term) (n : ℕ) → Grows old new b t n
@@ -124,12 +124,18 @@ open_within old part form h = open_live old part.live part.path form h
 
 -- the nodes that were appended between two states of the list
 pub record Between (old new : TreeDraft) (more : List TreeNode) (leaves : ℕ) : Type 0 where
-  pub nodes : map node_of new.nodes.items ≡ map node_of old.nodes.items ++ more
+  pub nodes : map tree_node new.nodes.items ≡ map tree_node old.nodes.items ++ more
   pub leaves_more : new.leaves ≡ old.leaves + leaves
 
 length-between : (old new : TreeDraft) (more : List TreeNode) (l : ℕ) → Between old new more l → length new.nodes.items ≡ length old.nodes.items + length more
 length-between old new more l g =
-    omega (arith, ap length g.nodes, length-map new.nodes.items node_of, length-map old.nodes.items node_of, length-append (map node_of old.nodes.items) more)
+    omega (
+      arith,
+      ap length g.nodes,
+      length-map new.nodes.items tree_node,
+      length-map old.nodes.items tree_node,
+      length-append (map tree_node old.nodes.items) more,
+    )
 
 -- a statement whose parts have these nodes, which stand behind its own where it has one
 pub closed_over : (old o part new : TreeDraft) (b : Bool) (i n : ℕ) (form0 form : SelForm) (more : List TreeNode) (l : ℕ)
@@ -145,13 +151,13 @@ closed_over old o part new true i n form0 form more l at opn lv g cl lw =
     = omega (arith, length-between o part more l g, ap length opn, length-append old.nodes.items (node n form0 0 ∷ [])) in
     record {
       nodes =
-          ap (λ v. map node_of v) (cl ∙ λ j. set part.nodes.items (at j) (node n form (counts j)))
-          ∙ map-set-append node_of old.nodes.items part.nodes.items (node n form0 0) (node n form (length old.nodes.items + 1 + length more)) more
-          (g.nodes ∙ ap (λ v. map node_of v ++ more) opn);
+          ap (λ v. map tree_node v) (cl ∙ λ j. set part.nodes.items (at j) (node n form (counts j)))
+          ∙ map-set-append tree_node old.nodes.items part.nodes.items (node n form0 0) (node n form (length old.nodes.items + 1 + length more)) more
+          (g.nodes ∙ ap (λ v. map tree_node v ++ more) opn);
       leaves_more = lw ∙ g.leaves_more ∙ ap (λ x. x + l) lv;
     }
 closed_over old o part new false i n form0 form more l at opn lv g cl lw = record {
-  nodes = ap (λ v. map node_of v) cl ∙ g.nodes ∙ ap (λ v. map node_of v ++ []) (opn ∙ append-nil old.nodes.items);
+  nodes = ap (λ v. map tree_node v) cl ∙ g.nodes ∙ ap (λ v. map tree_node v ++ []) (opn ∙ append-nil old.nodes.items);
   leaves_more = lw ∙ g.leaves_more ∙ ap (λ x. x + 0) lv;
 }
 
@@ -165,13 +171,13 @@ pub part_between : (o part : TreeDraft) (b r live : Bool) (p : Term) (n i k : �
 part_between o part true r live p n i k e hi hk g =
     let h : Grows o part r p n = subst (λ v. Grows o part v p n) e g in
     record {
-      nodes = h.nodes ∙ λ j. map node_of o.nodes.items ++ tree_nodes r p n (sym (hi refl) j) (sym (hk refl) j);
+      nodes = h.nodes ∙ λ j. map tree_node o.nodes.items ++ tree_nodes r p n (sym (hi refl) j) (sym (hk refl) j);
       leaves_more = h.leaves;
     }
 part_between o part false r live p n i k e hi hk g =
     let h : Grows o part false p n = subst (λ v. Grows o part v p n) e g in
     record {
-      nodes = h.nodes ∙ ap (λ l. map node_of o.nodes.items ++ l) (tree_none p n (length o.nodes.items) o.leaves);
+      nodes = h.nodes ∙ ap (λ l. map tree_node o.nodes.items ++ l) (tree_none p n (length o.nodes.items) o.leaves);
       leaves_more = h.leaves ∙ ap (λ l. o.leaves + length l) (leaves_none p n);
     }
 
@@ -181,7 +187,7 @@ pub between_two : (o mid part : TreeDraft) (b : Bool) (xs ys : List TreeNode) (k
     → Between mid part (if b then ys else []) (if b then l else 0)
     → Between o part (if b then xs ++ ys else []) (if b then k + l else 0)
 between_two o mid part true xs ys k l g h = record {
-  nodes = h.nodes ∙ ap (λ v. v ++ ys) g.nodes ∙ append_assoc (map node_of o.nodes.items) xs ys;
+  nodes = h.nodes ∙ ap (λ v. v ++ ys) g.nodes ∙ append_assoc (map tree_node o.nodes.items) xs ys;
   leaves_more = omega (arith, h.leaves_more, g.leaves_more);
 }
 between_two o mid part false xs ys k l g h = record {
@@ -218,7 +224,7 @@ one_over old o part new t b r live i n form0 form p at opn lv e g cl lw tn lp =
     let whole = closed_over old o part new b i n form0 form _ _ at opn lv
     (part_between o part b r live p (n + 1) (length old.nodes.items + 1) old.leaves e (next_place old o b n form0 opn) (λ h. sym lv) g) cl lw in
     record {
-      nodes = whole.nodes ∙ ap (λ l. map node_of old.nodes.items ++ l) (sym tn);
+      nodes = whole.nodes ∙ ap (λ l. map tree_node old.nodes.items ++ l) (sym tn);
       leaves = whole.leaves_more ∙ ap (λ l. old.leaves + l) (sym (length-if b (leaf_paths r p (n + 1))) ∙ ap length (sym lp));
     }
 
@@ -257,7 +263,7 @@ two_over old o mid part new t b r s live other i n m form0 form p q at opn lv e 
     (old.leaves + length (leaf_paths r p (n + 1))) f (λ y. (behind y).0) (λ y. ap (λ l. l + length (leaf_paths r p (n + 1))) (sym lv) ∙ (behind y).1) h in
     let whole = closed_over old o part new b i n form0 form _ _ at opn lv (between_two o mid part b _ _ _ _ first second) cl lw in
     record {
-      nodes = whole.nodes ∙ ap (λ l. map node_of old.nodes.items ++ l) (sym tn);
+      nodes = whole.nodes ∙ ap (λ l. map tree_node old.nodes.items ++ l) (sym tn);
       leaves = whole.leaves_more ∙ ap (λ l. old.leaves + l)
           (ap (λ l. if b then l else 0) (sym (length-append (leaf_paths r p (n + 1)) (leaf_paths s q m)))
           ∙ sym (length-if b (leaf_paths r p (n + 1) ++ leaf_paths s q m)) ∙ ap length (sym lp));
@@ -276,7 +282,7 @@ pub passing_grown : (old new : TreeDraft) (b : Bool) (k p t : Term) (n : ℕ) �
 passing_grown old new b k p t n e tn lp g =
     let h : Grows old new b (Trap p) n = subst (λ s. Grows old new b (Trap s) n) e g in
     record {
-      nodes = h.nodes ∙ ap (λ l. map node_of old.nodes.items ++ l) (sym (tn (length old.nodes.items) old.leaves));
+      nodes = h.nodes ∙ ap (λ l. map tree_node old.nodes.items ++ l) (sym (tn (length old.nodes.items) old.leaves));
       leaves = h.leaves ∙ ap (λ l. old.leaves + length l) (sym lp);
     }
 
@@ -296,7 +302,7 @@ codes_of_two c n k l p q e h x = subst (λ s. CodesFrom c (Par s l) n) (sym e) (
 
 -- the walk over a body, which begins with no node
 pub record IsTreeOf (new : TreeDraft) (body : Term) : Type 0 where
-  pub nodes : map node_of new.nodes.items ≡ tree_nodes (resumes body) body 0 0 0
+  pub nodes : map tree_node new.nodes.items ≡ tree_nodes (resumes body) body 0 0 0
   pub leaves : new.leaves ≡ length (leaf_paths (resumes body) body 0)
 
 pub body_grown : (old new : TreeDraft) (live : Bool) (body : Term)
@@ -306,7 +312,7 @@ pub body_grown : (old new : TreeDraft) (live : Bool) (body : Term)
     → Grows old new live body 0
     → IsTreeOf new body
 body_grown old new live body e z l g = record {
-  nodes = g.nodes ∙ λ i. map node_of (e i) ++ tree_nodes (l i) body 0 (length (e i)) (z i);
+  nodes = g.nodes ∙ λ i. map tree_node (e i) ++ tree_nodes (l i) body 0 (length (e i)) (z i);
   leaves = g.leaves ∙ (λ i. z i + length (leaf_paths (l i) body 0))
       ∙ (let s : 0 + length (leaf_paths (resumes body) body 0) ≡ length (leaf_paths (resumes body) body 0) = omega arith in s);
 }

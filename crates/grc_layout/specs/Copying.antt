@@ -1,6 +1,6 @@
 -- Inner: what the walk over a body appends, and when it stops.
 use Rattle.std.specs.Prelude.{◌≡◌, ℕ, ◌+◌, ◌<◌, ◌≤◌, Bool, if◌then◌else◌, List, [], ◌∷◌, ◌++◌, length, map, drop, ⊤}
-use Rattle.est_base.specs.declared.bounds.TheConstants.Limits.{INSTANCES}
+use Rattle.base_types.specs.declared.bounds.TheConstants.Limits.{INSTANCES}
 use Rattle.est_kernel.specs.Terms.{Term}
 use Rattle.grc_graph.specs.Layers.{Resumed, Started, Liveness, part_liveness}
 use Rattle.grc_graph.specs.Instances as plain

@@ -1,6 +1,6 @@
 -- Contract: when a body has too many live instances.
 use Rattle.std.specs.Prelude.{◌<◌, length, ⊤}
-use Rattle.est_base.specs.declared.bounds.TheConstants.Limits.{INSTANCES}
+use Rattle.base_types.specs.declared.bounds.TheConstants.Limits.{INSTANCES}
 use Rattle.est_kernel.specs.Terms.{Term}
 use Rattle.grc_graph.specs.Instances.{body_instances}
 use Rattle.grc_layout.specs.declared.refusal.CopyFault.{CopyFault}

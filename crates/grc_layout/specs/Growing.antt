@@ -5,7 +5,7 @@ use Rattle.grc_graph.specs.declared.trees.SelForm.{SelForm}
 use Rattle.grc_graph.specs.declared.trees.SelForm.TheVariants.{Leaf}
 use Rattle.grc_graph.specs.declared.trees.SelNode.{SelNode}
 use Rattle.grc_graph.specs.SelectionTrees.{tree_nodes, leaf_paths}
-use Rattle.grc_graph.specs.TreeForms.{node_of}
+use Rattle.grc_graph.specs.TreeForms.{tree_node}
 use Rattle.grc_layout.specs.declared.nodes.TreeDraft.{TreeDraft}
 use Rattle.grc_layout.specs.declared.nodes.Part.{Part}
 
@@ -27,6 +27,6 @@ leaf_of part place k = if part.live then node part.path (Leaf k) (place + 1) ∷
 
 -- the nodes of a statement were appended, and their leaves counted
 pub record Grows (old new : TreeDraft) (live : Bool) (t : Term) (n : ℕ) : Type 0 where
-  pub nodes : map node_of new.nodes.items
-      ≡ map node_of old.nodes.items ++ tree_nodes live t n (length old.nodes.items) old.leaves
+  pub nodes : map tree_node new.nodes.items
+      ≡ map tree_node old.nodes.items ++ tree_nodes live t n (length old.nodes.items) old.leaves
   pub leaves : new.leaves ≡ old.leaves + length (leaf_paths live t n)

@@ -1,14 +1,14 @@
 // The lists that the walk over a body keeps.
 
 ghost use Rattle.std.specs.Prelude.{◌≡◌, ◌+◌, ◌<◌, ◌≤◌, ◌++◌, ◌∷◌, [], length, map, drop, if◌then◌else◌, IfOk, IfErr};
-ghost use Rattle.est_base.specs.declared.bounds.TheConstants.Limits.{INSTANCES};
+ghost use Rattle.base_types.specs.declared.bounds.TheConstants.Limits.{INSTANCES};
 ghost use Rattle.grc_graph.specs.Layers.{root_if};
 ghost use Rattle.grc_graph.specs.Instances.{instances_at};
 ghost use Rattle.grc_graph.specs.PlainInstances.{instance_of};
 ghost use Rattle.grc_layout.specs.Copying.{starts, resumed_instances, liveness_of, Gains, IsTooMany};
 
 use crate::refusal::CopyFault;
-use est_base::{Limits, NoMemory, PathId};
+use base_types::{Limits, NoMemory, PathId};
 use grc_graph::{Instance, Layer};
 
 /// The live instances so far, and the roots of the starts of the statement at hand and of those

@@ -1,7 +1,7 @@
 // The walk over a body that lists its live instances.
 
 ghost use Rattle.std.specs.Prelude.{◌≡◌, ◌+◌, ◌<◌, ◌≤◌, ◌^◌, ◌&&◌, ◌||◌, if◌then◌else◌, length, map, IfOk, IfErr};
-ghost use Rattle.est_base.specs.declared.bounds.TheConstants.Limits.{INSTANCES};
+ghost use Rattle.base_types.specs.declared.bounds.TheConstants.Limits.{INSTANCES};
 ghost use Rattle.est_kernel.specs.CodeLists.{AreCodesOf};
 ghost use Rattle.est_kernel.specs.Plain.{term_of};
 ghost use Rattle.est_kernel.specs.Preorder.{statement_count};

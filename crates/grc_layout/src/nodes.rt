@@ -4,7 +4,7 @@ ghost use Rattle.std.specs.Prelude.{◌≡◌, ◌+◌, ◌<◌, ◌≤◌, ◌^
 ghost use Rattle.std.specs.Prelude.{IsTrue, IfOk};
 ghost use Rattle.grc_layout.specs.Growing.{opened, closed, leaf_of};
 
-use est_base::{NoMemory, PathId};
+use base_types::{NoMemory, PathId};
 use grc_graph::{SelForm, SelNode};
 
 /// A selection tree under construction: the nodes so far, and how many of them are leaves.

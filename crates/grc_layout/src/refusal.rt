@@ -33,10 +33,10 @@ impl<T: Drop> From<AllocFailed<T>> for CopyFault {
     }
 }
 
-impl From<est_base::NoMemory> for CopyFault {
+impl From<base_types::NoMemory> for CopyFault {
     ghost from_gives = { λ _ error. error ≡ lacks_memory };
 
-    fn from(_error: est_base::NoMemory) -> CopyFault {
+    fn from(_error: base_types::NoMemory) -> CopyFault {
         CopyFault::NoMemory
     }
 }

@@ -9,11 +9,11 @@ ghost use Rattle.est_kernel.specs.Terms.{Tick, Present, Seq, Par, Trap};
 ghost use Rattle.est_kernel.specs.WellFormed.{KeepsLimits};
 ghost use Rattle.grc_graph.specs.CodeTables.{CodesFrom, set_at};
 ghost use Rattle.grc_graph.specs.SelectionTrees.{body_tree, body_leaves};
-ghost use Rattle.grc_graph.specs.TreeForms.{node_of};
+ghost use Rattle.grc_graph.specs.TreeForms.{tree_node};
 ghost use Rattle.grc_layout.specs.Growing.{Grows};
 
 use crate::nodes::{Part, TreeDraft, close_node, open_node, push_leaf};
-use est_base::NoMemory;
+use base_types::NoMemory;
 use est_kernel::{Codes, Kernel};
 use grc_graph::{SelForm, SelTree, has_some_code, resumed_codes, started_codes};
 use std::alloc::Global;
@@ -22,7 +22,7 @@ use std::alloc::Global;
 pub fn select(alloc: Global, body: &Kernel, codes: &Codes) -> Result<SelTree, NoMemory>
     requires limits { KeepsLimits (term_of body.now) }
     requires codes { AreCodesOf codes.now (term_of body.now) }
-    ensures nodes { IfOk result (λ tree. map node_of tree.nodes.items ≡ body_tree (term_of body.now)) }
+    ensures nodes { IfOk result (λ tree. map tree_node tree.nodes.items ≡ body_tree (term_of body.now)) }
     ensures leaves { IfOk result (λ tree. tree.leaves ≡ length (body_leaves (term_of body.now))) }
 {
     let mut draft = TreeDraft {

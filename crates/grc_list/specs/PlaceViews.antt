@@ -1,4 +1,5 @@
 -- Inner: the plain form of a place.
+-- (It is in specs/, short as it is, because a contract can cite definitions of specs/ alone.)
 use Rattle.std.specs.Prelude.{option_map}
 use Rattle.grc_list.specs.declared.places.Place as declared_places
 use Rattle.grc_list.specs.Places.{Place}

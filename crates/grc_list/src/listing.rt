@@ -4,7 +4,7 @@ ghost use Rattle.std.specs.Prelude.{◌≡◌, ◌++◌, ◌∷◌, [], flat_map
 ghost use Rattle.std.specs.List.{concat};
 ghost use Rattle.est_kernel.specs.Plain.{term_of, program_of};
 ghost use Rattle.grc_graph.specs.BuiltGraphs.{IsGraphOf};
-ghost use Rattle.grc_graph.specs.TreeForms.{node_of};
+ghost use Rattle.grc_graph.specs.TreeForms.{tree_node};
 ghost use Rattle.grc_graph.specs.PlainGraphs.{names_of};
 ghost use Rattle.grc_graph.specs.PlainWireNames.{wire_name_of};
 ghost use Rattle.grc_list.specs.Listings.{node_line, wire_text, wire_lines, program_listing};
@@ -12,7 +12,7 @@ ghost use Rattle.grc_list.specs.Listings.{node_line, wire_text, wire_lines, prog
 use crate::names::wire_name;
 use crate::places::Places;
 use crate::texts::{put_node, put_wire};
-use est_base::{NoMemory, put, put_number};
+use base_types::{NoMemory, put, put_number};
 use grc_graph::{Graph, SelTree, WireName};
 use std::alloc::Global;
 
@@ -39,7 +39,7 @@ fn put_nodes(
     tree: &SelTree,
 ) -> Result<(), NoMemory>
     ensures { OnOk result (text.new.items ≡ text.old.items
-        ++ flat_map (node_line (term_of places.now.body.now)) (map node_of tree.now.nodes.items)) }
+        ++ flat_map (node_line (term_of places.now.body.now)) (map tree_node tree.now.nodes.items)) }
 {
     for node in &tree.nodes {
         let path = places.path_at(alloc, node.path)?;

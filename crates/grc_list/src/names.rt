@@ -9,7 +9,7 @@ ghost use Rattle.grc_graph.specs.PlainInstances.{layer_of};
 ghost use Rattle.grc_graph.specs.PlainGraphs.{instance_at, wire_of, wire_at, instances_of, names_of};
 
 use crate::places::Places;
-use est_base::{InstId, NoMemory, SigId, SignalInfo, Text, WireId};
+use base_types::{InstId, NoMemory, SigId, SignalInfo, Text, WireId};
 use grc_graph::{Graph, Layer, LayerName, Path, Wire, WireName};
 use std::alloc::Global;
 

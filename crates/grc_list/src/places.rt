@@ -6,7 +6,7 @@ ghost use Rattle.grc_graph.specs.WireNames.{path_at, bound_signal, bound_at};
 ghost use Rattle.grc_list.specs.Places.{places, body_places};
 ghost use Rattle.grc_list.specs.PlaceViews.{place_of};
 
-use est_base::{NoMemory, PathId, SigId};
+use base_types::{NoMemory, PathId, SigId};
 use est_kernel::Kernel;
 use grc_graph::Path;
 use std::alloc::Global;

@@ -5,7 +5,7 @@ ghost use Rattle.grc_graph.specs.PlainWireNames.{wire_name_of, layer_name_of};
 ghost use Rattle.grc_graph.specs.TreeForms.{form_of};
 ghost use Rattle.grc_list.specs.Listings.{path_text, layer_text, wire_text, mark_text, node_text};
 
-use est_base::{NoMemory, put, put_number};
+use base_types::{NoMemory, put, put_number};
 use grc_graph::{LayerName, Path, SelForm, WireName};
 use std::alloc::Global;
 

@@ -5,8 +5,8 @@ use Rattle.std.proofs.lemmas.Bool.{cases_eq, cases_lt, cases_Bool, ne_eqb, eq-eq
 use Rattle.std.proofs.lemmas.List.{length-set, length_push, length-take-le, take_more, get_or-take, get_or_append_left, get_or_push, get_or_default}
 use Rattle.std.proofs.lemmas.List.Sums.{count_by_more_yes, count_by-le-length, sum_by-set, sum_by-take-le}
 use Rattle.std.proofs.lemmas.List.Elements.{All-head, All-tail, All-push, All-filter, All-contains_itself, filter_passes, at_from_Contains}
-use Rattle.facts.proofs.Lists.{count_by-no, count_by-yes}
-use Rattle.est_base.specs.declared.indices.WireId.{WireId}
+use Rattle.base_facts.proofs.Lists.{count_by-no, count_by-yes}
+use Rattle.base_types.specs.declared.indices.WireId.{WireId}
 use Rattle.grc_graph.specs.WireOrders.{WireEdge, wire_at, edge_at, times, AreEdges, IsWireOrder}
 use Rattle.grc_graph.proofs.Exports.{place-of}
 use Rattle.grc_order.specs.Schedules.{edges_from}

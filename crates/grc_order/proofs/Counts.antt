@@ -3,8 +3,8 @@ use Rattle.std.proofs.Common.{◌≡◌, ℕ, ◌+◌, ◌<◌, zero, suc, Bool,
 use Rattle.std.proofs.Common.{count_by, refl, sym, ◌∙◌, arith, inl, inr}
 use Rattle.std.proofs.lemmas.Bool.{cases_eq, ne_eqb, eq-eqb, eqb-true, eqb-false, and_parts, and_from, cases_Bool}
 use Rattle.std.proofs.lemmas.List.Sums.{sum_by_push}
-use Rattle.facts.proofs.Lists.{count_by-cons, count_by-no, count_by-yes}
-use Rattle.est_base.specs.declared.indices.WireId.{WireId}
+use Rattle.base_facts.proofs.Lists.{count_by-cons, count_by-no, count_by-yes}
+use Rattle.base_types.specs.declared.indices.WireId.{WireId}
 use Rattle.grc_graph.specs.WireOrders.{WireEdge, wire_at, edge_at, times}
 use Rattle.grc_order.specs.Schedules.{holds_back, edges_from, arrivals}
 

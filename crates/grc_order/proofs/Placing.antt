@@ -9,9 +9,9 @@ use Rattle.std.proofs.lemmas.List.{length-set, length_push, get_or_append_left, 
 use Rattle.std.proofs.lemmas.List.Sums.{sum_by-set, sum_by-swap_remove, sum_by-le, get_or-le-sum_by}
 use Rattle.std.proofs.lemmas.List.Elements.{All-push, All-tail}
 use Rattle.std.proofs.lemmas.List.Sorted.{IsPermutation-swap_remove, All-permutation, length_permutation, sum_by-IsPermutation}
-use Rattle.facts.proofs.Lists.{count_by-no, count_by-yes}
-use Rattle.facts.proofs.Tests.{and-true}
-use Rattle.est_base.specs.declared.indices.WireId.{WireId}
+use Rattle.base_facts.proofs.Lists.{count_by-no, count_by-yes}
+use Rattle.base_facts.proofs.Tests.{and-true}
+use Rattle.base_types.specs.declared.indices.WireId.{WireId}
 use Rattle.grc_graph.specs.WireOrders.{WireEdge, wire_at, edge_at, times, AreEdges, AreRanks, IsWireOrder}
 use Rattle.grc_order.specs.Schedules.{holds_back, edges_from, arrivals, IsAlong, IsSchedule, IsReadyOf}
 use Rattle.grc_order.proofs.Counts.{bit, times-push, holds_back-split, times-place, holder, unheld}

@@ -7,7 +7,7 @@ use Rattle.std.proofs.lemmas.List.{take-append-drop, drop-drop, get_or-take, get
 use Rattle.std.proofs.lemmas.List.{length_push, get_or_append_left, get_or-append-add}
 use Rattle.std.proofs.lemmas.List.Elements.{filter-append, All-head, All-tail}
 use Rattle.std.specs.List.Sorted.{IsNonDecreasingBy}
-use Rattle.facts.proofs.Lists.{filter-none}
+use Rattle.base_facts.proofs.Lists.{filter-none}
 use Rattle.grc_graph.specs.WireOrders.{WireEdge, edge_at, edge_before, AreEdges}
 use Rattle.grc_order.specs.Runs.{AreBegins, BeginBelow, SplitsBelow, SplitsAbove}
 use Rattle.grc_order.specs.Schedules.{edges_from}

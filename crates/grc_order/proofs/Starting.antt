@@ -5,7 +5,7 @@ use Rattle.std.proofs.lemmas.Bool.{cases_eq, ne_eqb, eq-eqb}
 use Rattle.std.proofs.lemmas.List.{length_push, length-take-le, get_or-take}
 use Rattle.std.proofs.lemmas.List.Sums.{count_by_more_yes, count_by_more_no, count_by-le-length}
 use Rattle.std.proofs.lemmas.List.Elements.{All-push}
-use Rattle.est_base.specs.declared.indices.WireId.{WireId}
+use Rattle.base_types.specs.declared.indices.WireId.{WireId}
 use Rattle.grc_graph.specs.WireOrders.{WireEdge, edge_at, times}
 use Rattle.grc_graph.proofs.Exports.{place-of}
 use Rattle.grc_order.specs.Schedules.{arrivals, IsReadyOf}

@@ -1,7 +1,7 @@
 -- Inner: what is seen while a list is checked.
 use Rattle.std.specs.Prelude.{◌≡◌, ℕ, ◌<◌, Bool, false, if◌then◌else◌, List, length, slice_index_or, count_by, IsTrue}
 use Rattle.std.specs.Prelude.{All}
-use Rattle.est_base.specs.declared.indices.WireId.{WireId}
+use Rattle.base_types.specs.declared.indices.WireId.{WireId}
 use Rattle.grc_graph.specs.WireOrders.{WireEdge, edge_at, times}
 use Rattle.grc_order.specs.Schedules.{IsAlong}
 

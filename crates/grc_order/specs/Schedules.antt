@@ -1,7 +1,7 @@
 -- Inner: how far the placing of wires has come.
 use Rattle.std.specs.Prelude.{◌≡◌, ℕ, ◌+◌, ◌<◌, Bool, not, ◌==◌, ◌&&◌, if◌then◌else◌, List, length, filter}
 use Rattle.std.specs.Prelude.{slice_index, count_by, All}
-use Rattle.est_base.specs.declared.indices.WireId.{WireId}
+use Rattle.base_types.specs.declared.indices.WireId.{WireId}
 use Rattle.grc_graph.specs.declared.orders.Edges.{Edges}
 use Rattle.grc_graph.specs.WireOrders.{WireEdge, wire_at, edge_at, times}
 use Rattle.grc_order.specs.declared.schedule.Schedule.{Schedule}

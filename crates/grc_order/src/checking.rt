@@ -6,7 +6,7 @@ ghost use Rattle.grc_order.specs.Checks.{LeadToMarked};
 ghost use Rattle.grc_order.specs.Schedules.{edges_from};
 
 use crate::edge_runs::edges_from;
-use est_base::WireId;
+use base_types::WireId;
 use grc_graph::Edges;
 
 /// Whether the list has each wire once and no wire before one that has an edge to it. The marks, one for each

@@ -6,7 +6,7 @@ ghost use Rattle.grc_graph.specs.WireOrders.{WireEdge};
 ghost use Rattle.grc_order.specs.Schedules.{edges_from};
 ghost use Rattle.grc_order.specs.Runs.{AreBegins, BeginBelow, SplitsBelow, SplitsAbove};
 
-use est_base::WireId;
+use base_types::WireId;
 use grc_graph::Edges;
 use std::alloc::{AllocError, Global};
 

@@ -1,9 +1,9 @@
 // Pickers: which of the ready wires is placed next.
 
 ghost use Rattle.std.specs.Prelude.{◌≡◌, ◌-◌, ◌<◌, length};
-ghost use Rattle.est_base.specs.Draws.{next_state, drawn};
+ghost use Rattle.base_types.specs.Draws.{next_state, drawn};
 
-use est_base::{Draw, WireId};
+use base_types::{Draw, WireId};
 
 /// Chooses among the wires that can be placed next. What it answers is free: a number that is no place of the
 /// list counts as its remainder by the list's length.

@@ -7,7 +7,7 @@ ghost use Rattle.grc_order.specs.Schedules.{IsScheduleOf, IsReadyOf, arrivals, e
 
 use crate::edge_runs::edges_between;
 use crate::picking::Picker;
-use est_base::{NoMemory, WireId};
+use base_types::{NoMemory, WireId};
 use grc_graph::Edges;
 use std::alloc::{AllocError, Global};
 

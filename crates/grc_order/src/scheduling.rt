@@ -6,7 +6,7 @@ ghost use Rattle.grc_graph.specs.WireOrders.{AreRanks, IsWireOrder};
 use crate::edge_runs::edge_begins;
 use crate::picking::Picker;
 use crate::schedule::Schedule;
-use est_base::NoMemory;
+use base_types::NoMemory;
 use grc_graph::{Edges, Order, Ranks};
 use std::alloc::Global;
 

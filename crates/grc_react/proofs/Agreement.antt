@@ -2,11 +2,11 @@
 use Rattle.std.proofs.Common.{◌≡◌, ℕ, ◌<◌, zero, suc, Bool, false, not, ◌&&◌, ◌||◌, List, [], ◌∷◌, ◌++◌, length, slice_index_or, refl, ap, ◌∙◌, arith}
 use Rattle.std.proofs.Common.{IsTrue}
 use Rattle.std.proofs.lemmas.Bool.{ltb-true, and_parts}
-use Rattle.grc_words.specs.declared.table.Source.{Source}
-use Rattle.grc_words.specs.declared.table.Source.TheVariants as sources
-use Rattle.grc_words.specs.declared.table.Row.{Row}
-use Rattle.grc_words.specs.declared.table.Row.TheVariants as rows
-use Rattle.grc_words.specs.Rows.{Surroundings, Bounds, source_value, row_value, row_values, source_fits, row_fits}
+use Rattle.grc_formulas.specs.declared.table.Source.{Source}
+use Rattle.grc_formulas.specs.declared.table.Source.TheVariants as sources
+use Rattle.grc_formulas.specs.declared.table.Row.{Row}
+use Rattle.grc_formulas.specs.declared.table.Row.TheVariants as rows
+use Rattle.grc_formulas.specs.Rows.{Surroundings, Bounds, source_value, row_value, row_values, source_fits, row_fits}
 
 -- the surroundings agree in what these bounds allow
 pub record Agree (b : Bounds) (t u : Surroundings) : Type 0 where

@@ -5,7 +5,7 @@ use Rattle.std.specs.List.{prefix_len}
 use Rattle.std.proofs.lemmas.Bool.{cases_lt, or_left, or_right, false≢true}
 use Rattle.std.proofs.lemmas.List.{get_or-drop}
 use Rattle.std.proofs.lemmas.List.Sums.{prefix_len_is, prefix_len_stops}
-use Rattle.grc_words.specs.WordLaws.{any_from}
+use Rattle.grc_formulas.specs.WordLaws.{any_from}
 
 -- The elements from a first place up to this one pass the test, and none of them has a true value.
 pub record Passed {X : Type 0} (p : X → Bool) (f : ℕ → Bool) (xs : List X) (first at : ℕ) : Type 0 where

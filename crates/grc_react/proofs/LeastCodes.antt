@@ -12,7 +12,7 @@ use Rattle.grc_graph.specs.Layers.{Layer, Resumed, Started, same_layer}
 use Rattle.grc_graph.specs.PlainGraphs.{instance_at, instances_of, names_of, wire_at, wire_of}
 use Rattle.grc_graph.specs.Wires.{Wire, Go, End, same_wire, codes_below, listed}
 use Rattle.grc_graph.proofs.Exports.{same_layer-true, same_wire-true, length-names}
-use Rattle.grc_sem.specs.GraphWalks.{ends_with, shown_code}
+use Rattle.grc_solutions_laws.specs.GraphWalks.{ends_with, shown_code}
 use Rattle.grc_solutions.specs.Evaluations.{valuation_of}
 use Rattle.grc_solutions.specs.GraphWires.{Differ}
 use Rattle.grc_solutions.proofs.Exports.{value_there}

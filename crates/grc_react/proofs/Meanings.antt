@@ -5,18 +5,18 @@ use Rattle.std.specs.List.{list_any}
 use Rattle.std.proofs.Common.{length-drop}
 use Rattle.std.proofs.lemmas.List.Elements.{All-head, All-tail}
 use Rattle.std.proofs.lemmas.List.Sums.{prefix_len-le-length}
-use Rattle.est_base.specs.declared.indices.WireId.{WireId}
+use Rattle.base_types.specs.declared.indices.WireId.{WireId}
 use Rattle.grc_graph.specs.declared.graph.Graph.{Graph}
 use Rattle.grc_graph.specs.Formulas as plain
 use Rattle.grc_graph.specs.PlainGraphs.{instances_of, instance_at, names_of, wire_at}
 use Rattle.grc_graph.specs.Walk.{is_initial}
 use Rattle.grc_solutions.specs.Evaluations.{valuation_of}
-use Rattle.grc_words.specs.declared.table.Source.{Source}
-use Rattle.grc_words.specs.declared.table.Source.TheVariants as sources
-use Rattle.grc_words.specs.declared.table.Words.{Words}
-use Rattle.grc_words.specs.Occasions.{state_of}
-use Rattle.grc_words.specs.Rows.{source_value, source_fits}
-use Rattle.grc_words.specs.WordLaws.{late_bounds, selected_source, is_end_upto, first_end, ends_upto, any_from}
+use Rattle.grc_formulas.specs.declared.table.Source.{Source}
+use Rattle.grc_formulas.specs.declared.table.Source.TheVariants as sources
+use Rattle.grc_formulas.specs.declared.table.Words.{Words}
+use Rattle.grc_formulas.specs.Occasions.{state_of}
+use Rattle.grc_formulas.specs.Rows.{source_value, source_fits}
+use Rattle.grc_formulas.specs.WordLaws.{late_bounds, selected_source, is_end_upto, first_end, ends_upto, any_from}
 use Rattle.grc_react.specs.declared.rows.Start.{Start}
 use Rattle.grc_react.specs.Evaluations.{Stage, surroundings_of, formula_under, value_at}
 use Rattle.grc_react.proofs.Stages.{occasion, false-off, wire-named, source-known, early-late}

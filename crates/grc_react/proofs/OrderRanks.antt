@@ -6,7 +6,7 @@ use Rattle.std.proofs.lemmas.Bool.{cases_lt, eqb-true, eq-eqb, false≢true}
 use Rattle.std.proofs.lemmas.List.{get_or_default}
 use Rattle.std.proofs.lemmas.List.FromFn.{get_or-map-range_with_len, length-map-range_with_len}
 use Rattle.std.proofs.lemmas.List.Sums.{fails_before_first, passes_at_first}
-use Rattle.est_base.specs.declared.indices.WireId.{WireId}
+use Rattle.base_types.specs.declared.indices.WireId.{WireId}
 use Rattle.est_kernel.specs.Plain.{Program}
 use Rattle.grc_graph.specs.GraphRuns.{program_edges, program_wires}
 use Rattle.grc_graph.specs.NumberedEdges.{AreEdgesOf}

@@ -2,8 +2,8 @@
 use Rattle.std.proofs.Common.{◌≡◌, ℕ, ◌==◌, Bool, true, false, ◌||◌, List, [], ◌∷◌, length, map, sym, ap, ◌∙◌, subst, inl, inr, Some}
 use Rattle.std.specs.List.{list_any}
 use Rattle.std.proofs.lemmas.Bool.{cases_Bool, cond-false, or_left, or_right, false≢true}
-use Rattle.facts.proofs.Lists.{map-equal}
-use Rattle.est_base.specs.declared.indices.WireId.{WireId}
+use Rattle.base_facts.proofs.Lists.{map-equal}
+use Rattle.base_types.specs.declared.indices.WireId.{WireId}
 use Rattle.est_kernel.specs.Plain.{Program, program_of, interface_of, given_count}
 use Rattle.est_kernel.specs.Reactions.{is_given}
 use Rattle.est_kernel.specs.StaticCodes.{NoInstantLoop}
@@ -11,7 +11,7 @@ use Rattle.est_kernel.specs.Terms.{Term}
 use Rattle.est_kernel.specs.WellFormed.{IsWellFormed}
 use Rattle.est_kernel.specs.WellFormed as programs
 use Rattle.grc_graph.specs.declared.graph.Graph.{Graph}
-use Rattle.grc_graph.specs.GraphRuns.{PlainGraph, graph_of, program_edges, Solves, shown, formula_value}
+use Rattle.grc_graph.specs.GraphRuns.{PlainGraph, graph_of, program_edges, SolvesGraph, shown, formula_value}
 use Rattle.grc_graph.specs.Orders.{GoUp}
 use Rattle.grc_graph.specs.PlainGraphs.{names_of, plain_graph}
 use Rattle.grc_graph.specs.Readings.{Valuation}
@@ -20,12 +20,12 @@ use Rattle.grc_graph.specs.SelectionTrees.{body_leaves, selecting}
 use Rattle.grc_graph.specs.Walk.{State, remaining}
 use Rattle.grc_graph.specs.Wires.{Wire, Out}
 use Rattle.grc_graph.proofs.Exports.{states-are-formed}
-use Rattle.grc_sem.specs.GraphWalks.{SelectsLeaves, IsWalkOf, graph_walk, shown_code}
-use Rattle.grc_sem.proofs.Exports.{next_state_is_kept_lem, codes_are_shown_lem, program_kernel, equations_are_the_walk_lem}
-use Rattle.grc_tri.proofs.Exports.{solutions_are_reactions_lem}
+use Rattle.grc_solutions_laws.specs.GraphWalks.{SelectsLeaves, IsWalkOf, graph_walk, shown_code}
+use Rattle.grc_solutions_laws.proofs.Exports.{next_state_is_kept_lem, codes_are_shown_lem, program_kernel, equations_are_the_walk_lem}
+use Rattle.grc_ternary.proofs.Exports.{solutions_are_reactions_lem}
 use Rattle.grc_solutions.specs.GraphWires.{Differ}
 use Rattle.grc_solutions.proofs.Exports.{reading_orders_read_up_lem, one_solution_lem}
-use Rattle.grc_words.specs.Occasions.{state_of}
+use Rattle.grc_formulas.specs.Occasions.{state_of}
 use Rattle.grc_react.specs.declared.reaction.Reaction.{Reaction}
 use Rattle.grc_react.specs.Reactions.{IsProgramGraph, BeginsWell, IsWalked, IsConstructive, state_after, valued}
 use Rattle.grc_react.proofs.States.{formed-state}
@@ -33,7 +33,7 @@ use Rattle.grc_react.proofs.Steps.{ReadsAlong, plain-order, plain-differ}
 
 -- two solutions agree in every wire
 pub alone : (g : Graph) (q : State) (event : List Bool) (V W : Valuation) (order : List WireId) → Differ (names_of g) → ReadsAlong g order
-    → Solves (plain_graph g) q event W → Solves (plain_graph g) q event V → (w : Wire) → V w ≡ W w
+    → SolvesGraph (plain_graph g) q event W → SolvesGraph (plain_graph g) q event V → (w : Wire) → V w ≡ W w
 alone g q event V W order differ reads one other =
     let d = plain-differ g differ in
     let rank = reading_orders_read_up_lem (plain_graph g).equations order d (plain-order g order reads) in
@@ -69,7 +69,7 @@ pub record Premises (g : Graph) (q : State) (event : List Bool) (r : Reaction) :
   pub graph : IsProgramGraph g
   pub state : IsState q (program_of g.program).body
   pub leaves : SelectsLeaves q (program_of g.program).body
-  pub solves : Solves (plain_graph g) q event (valued g r.wires)
+  pub solves : SolvesGraph (plain_graph g) q event (valued g r.wires)
   pub emitted_is : r.emitted ≡ (shown (plain_graph g) (valued g r.wires)).outputs
   pub code_is : r.code ≡ shown_code (valued g r.wires)
   pub next_is : r.next ≡ map (formula_value (plain_graph g) q event (valued g r.wires)) (plain_graph g).next
@@ -80,8 +80,8 @@ next-bits : (g : Graph) (q : State) (event : List Bool) (r : Reaction) → Premi
 next-bits g q event r m = m.next_is ∙ ap (λ P. map (formula_value P q event (valued g r.wires)) P.next) m.graph
 
 solved : (g : Graph) (q : State) (event : List Bool) (r : Reaction) → Premises g q event r
-    → Solves (graph_of (program_of g.program)) q event (valued g r.wires)
-solved g q event r m = subst (λ P. Solves P q event (valued g r.wires)) m.graph m.solves
+    → SolvesGraph (graph_of (program_of g.program)) q event (valued g r.wires)
+solved g q event r m = subst (λ P. SolvesGraph P q event (valued g r.wires)) m.graph m.solves
 
 -- it is the walk of the state
 pub walked : (g : Graph) (q : State) (event : List Bool) (r : Reaction) → Premises g q event r → IsWalked g q event r

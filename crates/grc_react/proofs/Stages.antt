@@ -7,14 +7,14 @@ use Rattle.grc_graph.specs.PlainGraphs.{names_of, wire_at}
 use Rattle.grc_graph.proofs.Exports.{length-names}
 use Rattle.grc_solutions.specs.Evaluations.{valuation_of}
 use Rattle.grc_solutions.proofs.Exports.{value_there, value_off}
-use Rattle.grc_words.specs.declared.table.Row.{Row}
-use Rattle.grc_words.specs.declared.table.Source.{Source}
-use Rattle.grc_words.specs.declared.table.Source.TheVariants as sources
-use Rattle.grc_words.specs.declared.table.Words.{Words}
-use Rattle.grc_words.specs.Occasions.{Occasion, FalseOffWires, surroundings}
-use Rattle.grc_words.specs.Rows.{source_value, row_values, source_fits, row_fits}
-use Rattle.grc_words.specs.WordLaws.{early_bounds, late_bounds, value_of}
-use Rattle.grc_words.proofs.Exports.{row_values-append, value-stays, source_value-same}
+use Rattle.grc_formulas.specs.declared.table.Row.{Row}
+use Rattle.grc_formulas.specs.declared.table.Source.{Source}
+use Rattle.grc_formulas.specs.declared.table.Source.TheVariants as sources
+use Rattle.grc_formulas.specs.declared.table.Words.{Words}
+use Rattle.grc_formulas.specs.Occasions.{Occasion, FalseOffWires, surroundings}
+use Rattle.grc_formulas.specs.Rows.{source_value, row_values, source_fits, row_fits}
+use Rattle.grc_formulas.specs.WordLaws.{early_bounds, late_bounds, value_of}
+use Rattle.grc_formulas.proofs.Exports.{row_values-append, value-stays, source_value-same}
 use Rattle.grc_react.specs.declared.rows.Start.{Start}
 use Rattle.grc_react.specs.Evaluations.{Stage, surroundings_of, bounds_of, value_at}
 use Rattle.grc_react.proofs.Agreement.{Agree, source-agrees, rows-agree}

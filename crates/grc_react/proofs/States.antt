@@ -4,7 +4,7 @@ use Rattle.std.specs.Prelude.{Contains}
 use Rattle.std.proofs.lemmas.Bool.{cases_Bool, and_parts, and_from, or_cases, or_parts, eqb-true, false≢true}
 use Rattle.std.proofs.lemmas.List.Elements.{Contains-append_cases, All-contains}
 use Rattle.std.proofs.lemmas.Map.Views.{Contains-from_any}
-use Rattle.facts.proofs.Tests.{not-false}
+use Rattle.base_facts.proofs.Tests.{not-false}
 use Rattle.est_kernel.specs.Terms.{Term, Nothing, Pause, Emit, Exit, Present, Suspend, Seq, Loop, Par, Trap, Local, Awake}
 use Rattle.est_kernel.specs.Preorder.{statement_count}
 use Rattle.grc_graph.specs.Layers.{can_pass}
@@ -14,7 +14,7 @@ use Rattle.grc_graph.specs.Selections.{well_formed, at_most_one, each_or_over}
 use Rattle.grc_graph.specs.SelectionTrees.{leaf_paths, resumes, second_resumes, body_leaves}
 use Rattle.grc_graph.specs.Walk.{Selecting}
 use Rattle.grc_graph.proofs.Exports.{leaves_among, leaves_none, branches_fit}
-use Rattle.grc_sem.specs.GraphWalks.{SelectsLeaves}
+use Rattle.grc_solutions_laws.specs.GraphWalks.{SelectsLeaves}
 
 -- ---- a state is well formed
 

@@ -2,13 +2,13 @@
 use Rattle.std.proofs.Common.{◌≡◌, ℕ, ◌+◌, ◌<◌, ◌≤◌, Bool, true, List, [], ◌∷◌, length, map, slice_index_or, slice_set, refl, sym, ap, ◌∙◌, subst, arith}
 use Rattle.std.specs.List.{zip}
 use Rattle.std.proofs.lemmas.List.{length-map, get_or-map}
-use Rattle.est_base.specs.declared.indices.WireId.{WireId}
+use Rattle.base_types.specs.declared.indices.WireId.{WireId}
 use Rattle.grc_graph.specs.declared.formulas.Formula.{Formula}
 use Rattle.grc_graph.specs.declared.formulas.Formula.TheVariants as variants
 use Rattle.grc_graph.specs.declared.graph.Graph.{Graph}
 use Rattle.grc_graph.specs.Equations.{Equation}
 use Rattle.grc_graph.specs.Formulas as plain
-use Rattle.grc_graph.specs.GraphRuns.{Solves, formula_value}
+use Rattle.grc_graph.specs.GraphRuns.{SolvesGraph, formula_value}
 use Rattle.grc_graph.specs.Instances.{Instance}
 use Rattle.grc_graph.specs.PlainGraphs.{formula_of, instances_of, names_of, equations_of, plain_graph}
 use Rattle.grc_graph.specs.Reads.{ReadsOnly, IsReadingOrder, StandsBefore}
@@ -21,7 +21,7 @@ use Rattle.grc_solutions.specs.Evaluations.{valuation_of}
 use Rattle.grc_solutions.specs.GraphWires.{Differ, equation_wires}
 use Rattle.grc_solutions.specs.NumberedGraphs.{formulas_of}
 use Rattle.grc_solutions.proofs.Exports.{solved_at_start, solved_one_more, solved_at_end}
-use Rattle.grc_words.specs.declared.table.Words.{Words}
+use Rattle.grc_formulas.specs.declared.table.Words.{Words}
 use Rattle.grc_react.specs.declared.rows.Start.{Start}
 use Rattle.grc_react.specs.Evaluations.{Early, IsKnown, IsSolved, formula_under, start_state}
 use Rattle.grc_react.proofs.Stages.{stage-write}
@@ -110,7 +110,7 @@ solving-step g w s wires rows order j f b m reads low e is =
 pub solving-done : (g : Graph) (w : Words) (s : Start) (wires rows : List Bool) (order : List WireId) (j : ℕ) → Solving g w s wires rows order j
     → ReadsAlong g order → length order ≤ j → IsSolved g s wires
 solving-done g w s wires rows order j m reads le =
-    subst (λ ns. Solves (plain_graph g) (start_state g s) s.inputs.now (valuation_of ns wires)) (plain-wires g)
+    subst (λ ns. SolvesGraph (plain_graph g) (start_state g s) s.inputs.now (valuation_of ns wires)) (plain-wires g)
     (solved_at_end (plain_graph g) (start_state g s) s.inputs.now order (plain-differ g m.early.stage.differ) (plain-order g order reads) j wires le m.solved)
 
 -- ---- a formula along the order has no word of the next state

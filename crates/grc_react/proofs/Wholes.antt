@@ -1,16 +1,16 @@
 -- The stages of a reaction: before its first wire, and once all wires and rows are made.
 use Rattle.std.proofs.Common.{◌≡◌, ◌-◌, Bool, List, [], length, map, take, drop, slice_index_or, sym, ap, ◌∙◌, subst, arith, IsTrue}
 use Rattle.std.proofs.lemmas.List.{length-take-le, take-append-drop, take_rest, take_all}
-use Rattle.facts.proofs.Lists.{map-equal}
+use Rattle.base_facts.proofs.Lists.{map-equal}
 use Rattle.grc_graph.specs.declared.graph.Graph.{Graph}
 use Rattle.grc_graph.specs.GraphRuns.{shown}
 use Rattle.grc_graph.specs.PlainGraphs.{names_of, plain_graph}
 use Rattle.grc_solutions.specs.Evaluations.{valuation_of}
-use Rattle.grc_words.specs.declared.table.Row.{Row}
-use Rattle.grc_words.specs.declared.table.Words.{Words}
-use Rattle.grc_words.specs.Rows.{source_value, row_values, source_fits}
-use Rattle.grc_words.specs.WordLaws.{late_bounds, value_of}
-use Rattle.grc_words.proofs.Exports.{length-row_values, row_values-append}
+use Rattle.grc_formulas.specs.declared.table.Row.{Row}
+use Rattle.grc_formulas.specs.declared.table.Words.{Words}
+use Rattle.grc_formulas.specs.Rows.{source_value, row_values, source_fits}
+use Rattle.grc_formulas.specs.WordLaws.{late_bounds, value_of}
+use Rattle.grc_formulas.proofs.Exports.{length-row_values, row_values-append}
 use Rattle.grc_react.specs.declared.rows.Start.{Start}
 use Rattle.grc_react.specs.Evaluations.{Begins, Early, Late, surroundings_of}
 use Rattle.grc_react.proofs.Stages.{occasion, false-off, source-known}

@@ -5,15 +5,15 @@ use Rattle.grc_graph.specs.declared.formulas.Formula as formulas
 use Rattle.grc_graph.specs.declared.formulas.Formula.TheVariants as variants
 use Rattle.grc_graph.specs.declared.graph.Graph.{Graph}
 use Rattle.grc_graph.specs.Formulas.{Formula}
-use Rattle.grc_graph.specs.GraphRuns.{Solves, formula_value}
+use Rattle.grc_graph.specs.GraphRuns.{SolvesGraph, formula_value}
 use Rattle.grc_graph.specs.PlainGraphs.{names_of, plain_graph}
 use Rattle.grc_graph.specs.Walk.{State}
 use Rattle.grc_solutions.specs.Evaluations.{valuation_of}
 use Rattle.grc_solutions.specs.GraphWires.{Differ}
-use Rattle.grc_words.specs.declared.table.Words.{Words}
-use Rattle.grc_words.specs.Occasions.{state_of}
-use Rattle.grc_words.specs.Rows.{Bounds, Surroundings, row_values}
-use Rattle.grc_words.specs.WordLaws.{AreWordsOf}
+use Rattle.grc_formulas.specs.declared.table.Words.{Words}
+use Rattle.grc_formulas.specs.Occasions.{state_of}
+use Rattle.grc_formulas.specs.Rows.{Bounds, Surroundings, row_values}
+use Rattle.grc_formulas.specs.WordLaws.{AreWordsOf}
 use Rattle.grc_react.specs.declared.rows.Start.{Start}
 
 -- the value at a place; behind the last one it is false
@@ -43,7 +43,7 @@ formula_under g s wires a =
 
 -- the wires solve the equations
 abbrev pub IsSolved : Graph → Start → List Bool → Type 0
-IsSolved g s wires = Solves (plain_graph g) (start_state g s) s.inputs.now (valuation_of (names_of g) wires)
+IsSolved g s wires = SolvesGraph (plain_graph g) (start_state g s) s.inputs.now (valuation_of (names_of g) wires)
 
 -- An instant of a graph whose wires have these values, and the values of the rows at the front of the table, among
 -- which are all that read no wire.

@@ -1,6 +1,6 @@
 -- Contract: what a reaction of a graph is, and what it means for the program where the graph is the program's.
 use Rattle.std.specs.Prelude.{◌≡◌, ℕ, Bool, true, false, ◌||◌, List, length, map, Some, ⊤}
-use Rattle.est_base.specs.declared.indices.WireId.{WireId}
+use Rattle.base_types.specs.declared.indices.WireId.{WireId}
 use Rattle.est_kernel.specs.Plain.{Program, program_of, interface_of}
 use Rattle.est_kernel.specs.Reactions.{react, is_given}
 use Rattle.est_kernel.specs.Terms.{Term}
@@ -14,9 +14,9 @@ use Rattle.grc_graph.specs.Selections.{well_formed}
 use Rattle.grc_graph.specs.SelectionTrees.{body_leaves, selecting}
 use Rattle.grc_graph.specs.Walk.{Walk, State, Selecting, remaining}
 use Rattle.grc_graph.specs.WireOrders.{WireEdge, IsWireOrder}
-use Rattle.grc_sem.specs.GraphWalks.{IsWalkOf, graph_walk}
+use Rattle.grc_solutions_laws.specs.GraphWalks.{IsWalkOf, graph_walk}
 use Rattle.grc_solutions.specs.Evaluations.{valuation_of}
-use Rattle.grc_words.specs.Occasions.{state_of}
+use Rattle.grc_formulas.specs.Occasions.{state_of}
 use Rattle.grc_react.specs.declared.reaction.Reaction.{Reaction}
 
 -- the state in which an instant of a graph begins: the first one, or these leaves selected

@@ -4,7 +4,7 @@ ghost use Rattle.std.specs.Prelude.{◌≡◌, length, IsTrue};
 ghost use Rattle.grc_graph.specs.GraphShapes.{wire_fits};
 ghost use Rattle.grc_graph.specs.PlainGraphs.{instances_of, names_of};
 ghost use Rattle.grc_graph.specs.PlainInstances.{instance_of};
-ghost use Rattle.grc_sem.specs.GraphWalks.{shown_code};
+ghost use Rattle.grc_solutions_laws.specs.GraphWalks.{shown_code};
 ghost use Rattle.grc_solutions.specs.Evaluations.{valuation_of};
 ghost use Rattle.grc_solutions.specs.GraphWires.{Differ};
 ghost use Rattle.grc_react.specs.Codes.{is_body, body_code, least_of};

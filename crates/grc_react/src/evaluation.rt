@@ -7,9 +7,9 @@ ghost use Rattle.grc_react.specs.Evaluations.{Begins, Early, Late, IsSolved};
 
 use crate::formulas::evaluate;
 use crate::rows::{Start, add_rows};
-use est_base::{NoMemory, WireId};
+use base_types::{NoMemory, WireId};
+use grc_formulas::Words;
 use grc_graph::{Graph, Order};
-use grc_words::Words;
 use std::alloc::Global;
 
 /// The values of the wires, false as long as a wire has none of its own, and of the rows so far.

@@ -4,13 +4,13 @@ ghost use Rattle.std.specs.Prelude.{◌≡◌, ◌<◌, length, IsTrue, All};
 ghost use Rattle.std.specs.List.{list_any};
 ghost use Rattle.grc_graph.specs.GraphShapes.{formula_fits};
 ghost use Rattle.grc_graph.specs.PlainGraphs.{formula_of, instances_of, names_of};
-ghost use Rattle.grc_words.specs.WordLaws.{AreWordsOf, first_end, ends_upto, any_from};
+ghost use Rattle.grc_formulas.specs.WordLaws.{AreWordsOf, first_end, ends_upto, any_from};
 ghost use Rattle.grc_react.specs.Evaluations.{Stage, IsKnown, formula_under, value_at};
 
 use crate::rows::{Start, source_value};
-use est_base::{InstId, WireId};
+use base_types::{InstId, WireId};
+use grc_formulas::{Words, is_end_upto, selected_source};
 use grc_graph::{Formula, Graph};
-use grc_words::{Words, is_end_upto, selected_source};
 
 /// The value of a formula, where the wires and the rows have these values. It takes no memory.
 pub fn evaluate(

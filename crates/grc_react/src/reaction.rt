@@ -3,15 +3,15 @@
 ghost use Rattle.std.specs.Prelude.{◌≡◌, ℕ, ◌≤◌, length, map, false, All, IsTrue, IfOk};
 ghost use Rattle.est_kernel.specs.Plain.{program_of, term_of, given_count};
 ghost use Rattle.est_kernel.specs.StaticCodes.{NoInstantLoop};
-ghost use Rattle.grc_graph.specs.GraphRuns.{Solves, formula_value, program_edges, shown};
+ghost use Rattle.grc_graph.specs.GraphRuns.{SolvesGraph, formula_value, program_edges, shown};
 ghost use Rattle.grc_graph.specs.Orders.{GoUp};
 ghost use Rattle.grc_graph.specs.PlainGraphs.{formula_of, instances_of, names_of, plain_graph};
 ghost use Rattle.grc_graph.specs.Readings.{Valuation};
 ghost use Rattle.grc_graph.specs.Reads.{IsReadingOrder};
 ghost use Rattle.grc_graph.specs.Wires.{Wire};
-ghost use Rattle.grc_sem.specs.GraphWalks.{shown_code};
+ghost use Rattle.grc_solutions_laws.specs.GraphWalks.{shown_code};
 ghost use Rattle.grc_solutions.specs.GraphWires.{Differ};
-ghost use Rattle.grc_words.specs.WordLaws.{AreWordsOf};
+ghost use Rattle.grc_formulas.specs.WordLaws.{AreWordsOf};
 ghost use Rattle.grc_react.specs.Evaluations.{Late, formula_under};
 ghost use Rattle.grc_react.specs.Reactions.{IsProgramGraph, BeginsWell, IsWalked, IsConstructive};
 ghost use Rattle.grc_react.specs.Reactions.{IsDependencyOrder, state_begun, valued};
@@ -21,9 +21,9 @@ use crate::codes::shown_code;
 use crate::evaluation::{Values, settle};
 use crate::formulas::evaluate;
 use crate::rows::{Start, source_values};
-use est_base::NoMemory;
+use base_types::NoMemory;
+use grc_formulas::{Words, words};
 use grc_graph::{Graph, Order};
-use grc_words::{Words, words};
 use std::alloc::Global;
 
 /// What a graph does in an instant.
@@ -58,10 +58,10 @@ pub fn react(
     requires first { IsTrue boot → All (λ b. b ≡ false) selected.now }
     requires inputs { length inputs.now ≡ given_count (program_of graph.now.program) }
     ensures wires { IfOk result (λ r. length r.wires ≡ length graph.now.wires.items) }
-    ensures solution { IfOk result (λ r. Solves (plain_graph graph.now) (state_begun graph.now boot selected.now)
+    ensures solution { IfOk result (λ r. SolvesGraph (plain_graph graph.now) (state_begun graph.now boot selected.now)
         inputs.now (valued graph.now r.wires)) }
     ensures alone { IfOk result (λ r. (V : Valuation)
-        → Solves (plain_graph graph.now) (state_begun graph.now boot selected.now) inputs.now V
+        → SolvesGraph (plain_graph graph.now) (state_begun graph.now boot selected.now) inputs.now V
         → (w : Wire) → V w ≡ valued graph.now r.wires w) }
     ensures emitted { IfOk result (λ r. r.emitted
         ≡ (shown (plain_graph graph.now) (valued graph.now r.wires)).outputs) }
@@ -105,10 +105,10 @@ pub fn react_over(
     requires first { IsTrue boot → All (λ b. b ≡ false) selected.now }
     requires inputs { length inputs.now ≡ given_count (program_of graph.now.program) }
     ensures wires { IfOk result (λ r. length r.wires ≡ length graph.now.wires.items) }
-    ensures solution { IfOk result (λ r. Solves (plain_graph graph.now) (state_begun graph.now boot selected.now)
+    ensures solution { IfOk result (λ r. SolvesGraph (plain_graph graph.now) (state_begun graph.now boot selected.now)
         inputs.now (valued graph.now r.wires)) }
     ensures alone { IfOk result (λ r. (V : Valuation)
-        → Solves (plain_graph graph.now) (state_begun graph.now boot selected.now) inputs.now V
+        → SolvesGraph (plain_graph graph.now) (state_begun graph.now boot selected.now) inputs.now V
         → (w : Wire) → V w ≡ valued graph.now r.wires w) }
     ensures emitted { IfOk result (λ r. r.emitted
         ≡ (shown (plain_graph graph.now) (valued graph.now r.wires)).outputs) }

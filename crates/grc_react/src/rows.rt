@@ -1,12 +1,12 @@
 // The values of sources and rows.
 
 ghost use Rattle.std.specs.Prelude.{◌≡◌, ℕ, ◌+◌, ◌<◌, length, slice_index_or, map, IsTrue, IfOk, OnOk};
-ghost use Rattle.grc_words.specs.declared.table.Row.{Row};
-ghost use Rattle.grc_words.specs.Rows.{source_value, row_value, row_values, source_fits, row_fits};
+ghost use Rattle.grc_formulas.specs.declared.table.Row.{Row};
+ghost use Rattle.grc_formulas.specs.Rows.{source_value, row_value, row_values, source_fits, row_fits};
 ghost use Rattle.grc_react.specs.Evaluations.{bounds_of, surroundings_of};
 
-use est_base::NoMemory;
-use grc_words::{Row, Source};
+use base_types::NoMemory;
+use grc_formulas::{Row, Source};
 use std::alloc::Global;
 
 /// What an instant begins with: whether it is the first, which leaves are selected, and the event.

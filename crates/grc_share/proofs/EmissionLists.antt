@@ -5,8 +5,8 @@ use Rattle.std.specs.Prelude.{All, MatchOption, filter, option_map, slice_index}
 use Rattle.std.proofs.lemmas.Bool.{cases_eq, cases_Bool, eq-eqb, ne_eqb}
 use Rattle.std.proofs.lemmas.List.{append-nil, get_or-map, get_or-set_other, get_or-set_same, length-map, map-append}
 use Rattle.std.proofs.lemmas.List.Elements.{All-append, All-cons, All-nil, filter_more}
-use Rattle.est_base.specs.declared.indices.InstId.{InstId}
-use Rattle.est_base.specs.declared.indices.WireId.{WireId}
+use Rattle.base_types.specs.declared.indices.InstId.{InstId}
+use Rattle.base_types.specs.declared.indices.WireId.{WireId}
 use Rattle.est_kernel.specs.Plain.{Program, program_of}
 use Rattle.est_kernel.specs.Terms.{Nothing}
 use Rattle.est_kernel.specs.WellFormed.{IsKernel}
@@ -20,7 +20,7 @@ use Rattle.grc_graph.specs.GraphRuns.{program_spots}
 use Rattle.grc_graph.specs.Instances.{Instance}
 use Rattle.grc_graph.specs.Layers.{Resumed}
 use Rattle.grc_graph.specs.Nodes as plain
-use Rattle.grc_graph.specs.PlainGraphs.{instance_at, instances_of, names_of, node_of, wire_at}
+use Rattle.grc_graph.specs.PlainGraphs.{instance_at, instances_of, names_of, node_form, wire_at}
 use Rattle.grc_graph.specs.PlainInstances.{instance_of}
 use Rattle.grc_graph.specs.Rows.{program_rows, spot_at}
 use Rattle.grc_graph.specs.Scopes.{Unbound}
@@ -62,12 +62,12 @@ module _ (g : Graph) (built : IsGraphOf g (program_of g.program)) where
       (omega (arith, low, length-map g.instances.list.items instance_of))
 
   pub node-at : (i : ℕ) (d : stored.Node) → i < length g.instances.list.items
-      → node_of (instances_of g) (names_of g) (get_or g.nodes.items i d) ≡ plain.node_of (spot_in (program_of g.program) i)
+      → node_form (instances_of g) (names_of g) (get_or g.nodes.items i d) ≡ plain.spot_node (spot_in (program_of g.program) i)
   node-at i d low =
       let many : i < length g.nodes.items = omega (arith, low, g.indices.nodes_all) in
-      sym (get_or-map (node_of (instances_of g) (names_of g)) g.nodes.items i d (plain.Through 0 Resumed) many)
+      sym (get_or-map (node_form (instances_of g) (names_of g)) g.nodes.items i d (plain.Through 0 Resumed) many)
       ∙ ap (λ xs. get_or xs i (plain.Through 0 Resumed)) built.nodes
-      ∙ get_or-map plain.node_of (program_spots (program_of g.program)) i no_spot (plain.Through 0 Resumed) (omega (arith, low, spots-many))
+      ∙ get_or-map plain.spot_node (program_spots (program_of g.program)) i no_spot (plain.Through 0 Resumed) (omega (arith, low, spots-many))
 
   -- one more instance of those that name their shared ones
   pub next-least : {X : Type 0} (test : Spot → Bool) (f : Spot → X) (n : ℕ) → n < length g.instances.list.items
@@ -105,7 +105,7 @@ module _ (g : Graph) (built : IsGraphOf g (program_of g.program)) (least instanc
 
   -- what an instance that names its shared instance emits on
   pub emitted : (d : InstId) (r : Option WireId) → (get_or least i d).0 ≡ i
-      → emitted_on (plain.node_of (spot_in (program_of g.program) i)) ≡ option_map (λ v. wire_at (names_of g) v.0) r
+      → emitted_on (plain.spot_node (spot_in (program_of g.program) i)) ≡ option_map (λ v. wire_at (names_of g) v.0) r
       → MatchOption r ((w : Wire) → emits_at (program_of g.program) w i ≡ false)
       (λ v. (w : Wire) → emits_at (program_of g.program) w i ≡ same_wire (shared_wire (body_sharing (program_of g.program).body) (wire_at (names_of g) v.0)) w)
   emitted d None e h = λ w t. is-least d e t && is_wire (option_map (shared_wire (body_sharing (program_of g.program).body)) (h t)) w
@@ -113,7 +113,7 @@ module _ (g : Graph) (built : IsGraphOf g (program_of g.program)) (least instanc
 
   pub nothing-emitted : (d : InstId) → ((get_or least i d).0 ≡ i → ⊥) → (w : Wire) → emits_at (program_of g.program) w i ≡ false
   nothing-emitted d apart w =
-      let node = plain.node_of (spot_in (program_of g.program) i) in
+      let node = plain.spot_node (spot_in (program_of g.program) i) in
       λ t. not-least d apart t && is_wire (option_map (shared_wire (body_sharing (program_of g.program).body)) (emitted_on node)) w
 
   -- no emission is noted

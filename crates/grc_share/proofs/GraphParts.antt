@@ -3,8 +3,8 @@ use Rattle.std.proofs.Common.{◌≡◌, ℕ, ◌<◌, ◌≤◌, List, length, 
 use Rattle.std.specs.Prelude.{All, IsTrue, slice_index}
 use Rattle.std.proofs.lemmas.List.{get_or_default, length-map}
 use Rattle.std.proofs.lemmas.List.Elements.{All-get_or}
-use Rattle.est_base.specs.declared.indices.InstId.{InstId}
-use Rattle.est_base.specs.declared.indices.WireId.{WireId}
+use Rattle.base_types.specs.declared.indices.InstId.{InstId}
+use Rattle.base_types.specs.declared.indices.WireId.{WireId}
 use Rattle.est_kernel.specs.Plain.{Program, program_of}
 use Rattle.est_kernel.specs.WellFormed.{IsKernel}
 use Rattle.grc_graph.specs.declared.graph.Graph.{Graph}
@@ -14,7 +14,7 @@ use Rattle.grc_graph.specs.declared.wires.Wire as wires
 use Rattle.grc_graph.specs.BuiltGraphs.{IsGraphOf}
 use Rattle.grc_graph.specs.GraphRuns.{program_wires}
 use Rattle.grc_graph.specs.GraphShapes.{IndicesFit, formula_fits, node_fits, wire_fits}
-use Rattle.grc_graph.specs.PlainGraphs.{instances_of, names_of, node_of, wire_at, wire_of}
+use Rattle.grc_graph.specs.PlainGraphs.{instances_of, names_of, node_form, wire_at, wire_of}
 use Rattle.grc_graph.specs.PlainInstances.{instance_of}
 use Rattle.grc_graph.specs.Wires.{Wire, same_wire}
 use Rattle.grc_graph.specs.WireTables.{IsNumberOf}
@@ -89,7 +89,7 @@ module _ (g : Graph) (s : GraphParts) (are : AreGraphParts g s) where
 
   nodes-all : IsKernel p.body → length s.named.nodes.items ≡ length (shared_instances p)
   nodes-all kernel =
-      sym (length-map s.named.nodes.items (node_of (shared_instances p) (shared_wires p))) ∙ ap length are.named.nodes ∙ nodes-many p kernel
+      sym (length-map s.named.nodes.items (node_form (shared_instances p) (shared_wires p))) ∙ ap length are.named.nodes ∙ nodes-many p kernel
 
   pub parts-fit : IsKernel p.body
       → IndicesFit (length s.instances.items) s.named.wires.items s.named.nodes.items s.formulas.equations.items s.formulas.next.items

@@ -7,7 +7,7 @@ use Rattle.std.proofs.lemmas.Bool.{cases_Bool, cases_eq, cases_lt, eq-eqb, ne_eq
 use Rattle.std.proofs.lemmas.List.{get_or_append_left, length-append, length-map, length-take}
 use Rattle.std.proofs.lemmas.List.Elements.{filter_more}
 use Rattle.std.proofs.lemmas.List.Filters.{length-filter_both}
-use Rattle.est_base.specs.declared.indices.InstId.{InstId}
+use Rattle.base_types.specs.declared.indices.InstId.{InstId}
 use Rattle.est_kernel.specs.Plain.{program_of}
 use Rattle.grc_graph.specs.declared.graph.Graph.{Graph}
 use Rattle.grc_graph.specs.declared.instances.Instance as stored
@@ -20,7 +20,7 @@ use Rattle.grc_graph.specs.PlainInstances.{instance_of}
 use Rattle.grc_graph.specs.Wires.{Wire, Go}
 use Rattle.grc_graph.specs.WireTables.{IsNumberOf}
 use Rattle.grc_graph.proofs.Exports.{first_instance, name_at, place_once, same_layer-self, same_layer-true}
-use Rattle.grc_share.specs.LeastMembers.{AreLeast, IsLeast, shared_of}
+use Rattle.grc_share.specs.LeastMembers.{AreLeast, IsLeastMember, shared_of}
 use Rattle.grc_share.specs.Renamings.{AreOwnPlaces, TellNamed, if_named, is_named}
 use Rattle.grc_share.specs.SharedGraphs.{shared_instances}
 use Rattle.grc_share.specs.SharedInstances.{Sharing, body_sharing}
@@ -55,14 +55,15 @@ module _ (g : Graph) where
   at i = instance_at (instances_of g) i
 
   -- the least member, by name
-  pub least-names : (i : ℕ) (k : InstId) → i < length g.instances.list.items → IsLeast (body_sharing (program_of g.program).body) g.instances.list.items i k
+  pub least-names : (i : ℕ) (k : InstId) → i < length g.instances.list.items
+      → IsLeastMember (body_sharing (program_of g.program).body) g.instances.list.items i k
       → IsNumberOf (instances_of g) k.0 (shared_of (body_sharing (program_of g.program).body) (instance_at (instances_of g) i))
   least-names i k low h =
       subst (λ x. IsNumberOf (instances_of g) k.0 (shared_of (body_sharing (program_of g.program).body) x))
       (sym (name_at g.instances.list.items i first_instance _ low)) (h first_instance)
 
   -- it is the instance itself exactly where that names its shared instance
-  pub tells : (i : ℕ) (k : InstId) → i < length g.instances.list.items → IsLeast (body_sharing (program_of g.program).body) g.instances.list.items i k
+  pub tells : (i : ℕ) (k : InstId) → i < length g.instances.list.items → IsLeastMember (body_sharing (program_of g.program).body) g.instances.list.items i k
       → (k.0 == i) ≡ is_named (body_sharing (program_of g.program).body) (instance_at (instances_of g) i)
   tells i k low h = ⊎_elim own other (cases_eq k.0 i)
     where
@@ -159,7 +160,7 @@ module _ (g : Graph) where
 
   -- the number of the shared instance of an instance, by the place of its least member
   pub number-at : (list : List stored.Instance) (places : List ℕ) (i : ℕ) (k : InstId) → i < length g.instances.list.items
-      → IsLeast (body_sharing (program_of g.program).body) g.instances.list.items i k
+      → IsLeastMember (body_sharing (program_of g.program).body) g.instances.list.items i k
       → map instance_of list ≡ shared_instances (program_of g.program) → length places ≡ length g.instances.list.items
       → AreOwnPlaces (body_sharing (program_of g.program).body) (instances_of g) list places
       → IsNumberOf (shared_instances (program_of g.program)) (slice_index places k.0)

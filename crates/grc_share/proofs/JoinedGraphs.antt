@@ -11,7 +11,7 @@ use Rattle.grc_graph.specs.GraphRuns.{program_wires}
 use Rattle.grc_graph.specs.GraphShapes.{IndicesFit, wire_fits}
 use Rattle.grc_graph.specs.Instances.{Instance, body_instances}
 use Rattle.grc_graph.specs.Layouts.{IsLaidOut, laid_names}
-use Rattle.grc_graph.specs.PlainGraphs.{equations_of, formula_of, instances_of, lasting_in, names_of, node_of, wire_of}
+use Rattle.grc_graph.specs.PlainGraphs.{equations_of, formula_of, instances_of, lasting_in, names_of, node_form, wire_of}
 use Rattle.grc_graph.specs.PlainInstances.{instance_of}
 use Rattle.grc_graph.specs.Scopes.{program_scope}
 use Rattle.grc_graph.specs.SelectionTrees.{body_leaves}
@@ -72,7 +72,7 @@ joined-shared g s m are program list wires nodes equations next loops =
     record {
       instances = insts;
       wires = names;
-      nodes = (λ t. map (node_of (insts t) (names t)) (nodes t)) ∙ are.named.nodes;
+      nodes = (λ t. map (node_form (insts t) (names t)) (nodes t)) ∙ are.named.nodes;
       graph = λ t. record {
         interface = interface_of (same t);
         scope = program_scope (same t).inputs (interface_count (same t));

@@ -5,7 +5,7 @@ use Rattle.std.proofs.Common.{List, length, map, get_or, refl, sym, ap, ◌∙�
 use Rattle.std.specs.Prelude.{All, Contains, nat_lt}
 use Rattle.std.proofs.lemmas.Bool.{eq-eqb, eqb-true, false≢true, both_ways, and_from, and_parts, cases_lt, ltb-true, or_cases}
 use Rattle.std.proofs.lemmas.List.{length-map, get_or_default}
-use Rattle.est_base.specs.declared.indices.InstId.{InstId}
+use Rattle.base_types.specs.declared.indices.InstId.{InstId}
 use Rattle.est_kernel.specs.Plain.{Program}
 use Rattle.est_kernel.specs.Preorder.{statement_count}
 use Rattle.est_kernel.specs.WellFormed.{IsKernel}
@@ -17,7 +17,7 @@ use Rattle.grc_graph.specs.Rows.{live_in, program_rows, row_at}
 use Rattle.grc_graph.specs.WireTables.{IsNumberOf, comes_before, layer_before}
 use Rattle.grc_graph.proofs.Exports.{body_ascending, first_instance, name_at, instance_live, live_instance, program_placed}
 use Rattle.grc_share.specs.SharedInstances.{Sharing, body_sharing, one_instance}
-use Rattle.grc_share.specs.LeastMembers.{IsLeast, RootIn, one_start, shared_of, starts_as}
+use Rattle.grc_share.specs.LeastMembers.{IsLeastMember, RootIn, one_start, shared_of, starts_as}
 use Rattle.grc_share.specs.SharedWires.{first_root, shared_layer}
 use Rattle.grc_share.proofs.FirstRoots.{Rises, among_all, first_among, first_least, keys_up}
 use Rattle.grc_share.proofs.RootKeys.{KeysRise, body_keys_rise}
@@ -220,7 +220,7 @@ module _ (p : Program) (kernel : IsKernel p.body) where
     named_at : (i : ℕ) → i < length insts → IsNumberOf (map instance_of insts) i (at i)
     named_at i h = record { within = omega (arith, h, length-map insts instance_of); same = λ d. name_at insts i first_instance d h }
 
-    least_of : (i : ℕ) (k : InstId) → i < length insts → IsNumberOf (map instance_of insts) k.0 (shared_of K (at i)) → IsLeast K insts i k
+    least_of : (i : ℕ) (k : InstId) → i < length insts → IsNumberOf (map instance_of insts) k.0 (shared_of K (at i)) → IsLeastMember K insts i k
     least_of i k h n x =
         subst (λ y. IsNumberOf (map instance_of insts) k.0 (shared_of K (instance_of y))) (get_or_default insts i first_instance x h) n
 
@@ -236,22 +236,22 @@ module _ (p : Program) (kernel : IsKernel p.body) where
 
     -- an instance that is one with the one before it
     pub least_same : (i j : ℕ) (y z : stored.Instance) (k : InstId) → j + 1 ≡ i → i < length insts → y ≡ get_or insts j y → z ≡ get_or insts i z
-        → starts_as K (instance_of y) (instance_of z) ≡ true → IsLeast K insts j k → IsLeast K insts i k
+        → starts_as K (instance_of y) (instance_of z) ≡ true → IsLeastMember K insts j k → IsLeastMember K insts i k
     least_same i j y z k n h a b e least =
         let low : j < length insts = omega (arith, n, h) in
         let one = (λ t. starts_as K (sym (read_at j y a low) t) (sym (read_at i z b h) t)) ∙ e in
         least_of i k h (subst (IsNumberOf (map instance_of insts) k.0) (same_shared K (at j) (at i) (lives_at j low).live one) (least first_instance))
 
     -- one that is not one with the one before it
-    least_new : (i : ℕ) → i < length insts → ((j : ℕ) → j + 1 ≡ i → starts_as K (at j) (at i) ≡ false) → IsLeast K insts i (record { 0 = i })
+    least_new : (i : ℕ) → i < length insts → ((j : ℕ) → j + 1 ≡ i → starts_as K (at j) (at i) ≡ false) → IsLeastMember K insts i (record { 0 = i })
     least_new i h new =
         least_of i (record { 0 = i }) h (subst (IsNumberOf (map instance_of insts) i) (sym (own_least i h new)) (named_at i h))
 
     pub least_other : (i j : ℕ) (y z : stored.Instance) → j + 1 ≡ i → i < length insts → y ≡ get_or insts j y → z ≡ get_or insts i z
-        → starts_as K (instance_of y) (instance_of z) ≡ false → IsLeast K insts i (record { 0 = i })
+        → starts_as K (instance_of y) (instance_of z) ≡ false → IsLeastMember K insts i (record { 0 = i })
     least_other i j y z n h a b e = least_new i h (λ m q.
         let same : m ≡ j = omega (arith, n, q) in
         (λ t. starts_as K (at (same t)) (at i)) ∙ (λ t. starts_as K (sym (read_at j y a (omega (arith, n, h))) t) (sym (read_at i z b h) t)) ∙ e)
 
-    pub least_first : (i : ℕ) → i ≤ 0 → i < length insts → IsLeast K insts i (record { 0 = i })
+    pub least_first : (i : ℕ) → i ≤ 0 → i < length insts → IsLeastMember K insts i (record { 0 = i })
     least_first i z h = least_new i h (λ m q. absurd (omega (arith, z, q)))

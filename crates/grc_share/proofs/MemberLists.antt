@@ -4,7 +4,7 @@ use Rattle.std.specs.Prelude.{All, filter, slice_index}
 use Rattle.std.proofs.lemmas.Bool.{both_ways, eq-eqb, eqb-true}
 use Rattle.std.proofs.lemmas.List.{get_or_default, length-map}
 use Rattle.std.proofs.lemmas.List.Elements.{All-cons, All-filter, All-get_or, All-nil, Contains-get_or}
-use Rattle.est_base.specs.declared.indices.WireId.{WireId}
+use Rattle.base_types.specs.declared.indices.WireId.{WireId}
 use Rattle.est_kernel.specs.Plain.{Program}
 use Rattle.est_kernel.specs.WellFormed.{IsKernel, KeepsLimits}
 use Rattle.grc_graph.specs.GraphRuns.{program_wires}

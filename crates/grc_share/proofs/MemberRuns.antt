@@ -5,7 +5,7 @@ use Rattle.std.specs.Prelude.{slice_index}
 use Rattle.std.specs.List.{slice_range}
 use Rattle.std.proofs.lemmas.Bool.{cases_lt}
 use Rattle.std.proofs.lemmas.List.{drop-append-le, drop_at, get_or_append_left, get_or-append-add, length-drop, take-append-le, take_all}
-use Rattle.est_base.specs.declared.indices.WireId.{WireId}
+use Rattle.base_types.specs.declared.indices.WireId.{WireId}
 use Rattle.est_kernel.specs.Plain.{Program}
 use Rattle.grc_graph.specs.GraphRuns.{program_wires}
 use Rattle.grc_graph.specs.PlainGraphs.{wire_at}

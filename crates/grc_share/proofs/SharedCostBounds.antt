@@ -10,8 +10,8 @@ use Rattle.std.proofs.lemmas.List.Elements.{filter-append}
 use Rattle.std.proofs.lemmas.List.Filters.{length-filter_both}
 use Rattle.std.proofs.lemmas.List.FromFn.{length-map-range_with_len}
 use Rattle.std.proofs.lemmas.List.Sums.{get_or-le-sum_by, sum_by-append, sum_by-cons, sum_by-le-sum_by}
-use Rattle.facts.proofs.Lists.{sum-flat_map}
-use Rattle.est_base.specs.declared.bounds.TheConstants.Limits.{WIRES}
+use Rattle.base_facts.proofs.Lists.{sum-flat_map}
+use Rattle.base_types.specs.declared.bounds.TheConstants.Limits.{WIRES}
 use Rattle.est_kernel.specs.Plain.{Program, interface_count, outgoing_count, program_of}
 use Rattle.est_kernel.specs.Preorder.{statement_count}
 use Rattle.est_kernel.specs.WellFormed.{IsKernel, KeepsLimits}

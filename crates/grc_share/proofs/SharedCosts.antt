@@ -9,7 +9,7 @@ use Rattle.std.proofs.lemmas.List.Concat.{flat_map-cons}
 use Rattle.std.proofs.lemmas.List.Elements.{All-head, All-tail}
 use Rattle.std.proofs.lemmas.List.Filters.{sum_by-filter_both}
 use Rattle.std.proofs.lemmas.List.Sums.{sum_by-append, sum_by-cons, sum_by-le-sum_by}
-use Rattle.facts.proofs.Lists.{contains-later, sum-flat_map}
+use Rattle.base_facts.proofs.Lists.{contains-later, sum-flat_map}
 use Rattle.est_kernel.specs.Plain.{Program, given_count, interface_of}
 use Rattle.est_kernel.specs.Preorder.{statement_count}
 use Rattle.est_kernel.specs.Terms.{Term, Nothing, Pause, Emit, Exit, Present, Suspend, Seq, Loop, Par, Trap, Local, Awake}
@@ -19,7 +19,7 @@ use Rattle.grc_graph.specs.Formulas.{Formula, Const, Input, Value, Negation, Con
 use Rattle.grc_graph.specs.GraphRuns.{graph_of, program_spots, program_wires}
 use Rattle.grc_graph.specs.Instances.{Instance, body_instances}
 use Rattle.grc_graph.specs.Layers.{Layer, Resumed, Started, same_layer}
-use Rattle.grc_graph.specs.Nodes.{node_at, node_of}
+use Rattle.grc_graph.specs.Nodes.{node_at, spot_node}
 use Rattle.grc_graph.specs.Rows.{Row, live_in, program_rows, row_at, spot_at}
 use Rattle.grc_graph.specs.Scopes.{Scope}
 use Rattle.grc_graph.specs.Spots.{Spot}
@@ -269,7 +269,7 @@ module _ (p : Program) where
       spot_once : (x : Spot) → sum_by (λ w. one_if (emits_on K w x)) ws ≤ (if is_least K x then emit_gates x.statement else 0)
       spot_once x = by (is_least K x)
         where
-          by : (b : Bool) → sum_by (λ w. one_if (b && is_wire (option_map (shared_wire K) (emitted_on (node_of x))) w)) ws
+          by : (b : Bool) → sum_by (λ w. one_if (b && is_wire (option_map (shared_wire K) (emitted_on (spot_node x))) w)) ws
               ≤ (if b then emit_gates x.statement else 0)
           by true = node_once x.statement x.scope x.path x.layer
           by false = omega (arith, never)

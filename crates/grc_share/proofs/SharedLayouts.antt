@@ -16,7 +16,7 @@ use Rattle.grc_graph.specs.Layouts.{IsLaidOut, has_status, is_among, laid_names,
 use Rattle.grc_graph.specs.PlainInstances.{instance_at, wire_of}
 use Rattle.grc_graph.specs.Rows.{program_rows, row_at}
 use Rattle.grc_graph.specs.SelectionTrees.{body_leaves, body_tree}
-use Rattle.grc_graph.specs.TreeForms.{node_of}
+use Rattle.grc_graph.specs.TreeForms.{tree_node}
 use Rattle.grc_graph.specs.Wires.{Wire, Out, Go, StatusOf, End, instance_codes, listed, same_wire}
 use Rattle.grc_graph.proofs.Exports.{LiveAt, live_instance, same_layer-self, same_wire-self, same_wire-true}
 use Rattle.grc_share.specs.Renamings.{is_named}
@@ -171,7 +171,7 @@ module _ (p : Program) where
 
     pub shared-layout : (wires : List stored.Wire) (nodes : List SelNode) (count : ℕ) → IsWellFormed p
         → program_wires p ≡ laid_names p (body_instances p.body) (program_wires p) → map (wire_of insts) wires ≡ shared_wires p
-        → map node_of nodes ≡ body_tree p.body → count ≡ length (body_leaves p.body) → IsLaidOut p insts wires nodes count
+        → map tree_node nodes ≡ body_tree p.body → count ≡ length (body_leaves p.body) → IsLaidOut p insts wires nodes count
     shared-layout wires nodes count formed laid names tree leaves = record {
       formed = formed;
       within = λ i l. (live i l).within;

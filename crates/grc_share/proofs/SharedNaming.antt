@@ -3,7 +3,7 @@ use Rattle.std.proofs.Common.{◌≡◌, ℕ, ◌<◌, ◌&&◌, ◌==◌, Bool,
 use Rattle.std.specs.Prelude.{All, IsTrue, filter}
 use Rattle.std.proofs.lemmas.List.{append-nil, get_or-map, length-map, map-append}
 use Rattle.std.proofs.lemmas.List.Elements.{All-append, All-cons, All-get_or, All-nil}
-use Rattle.est_base.specs.declared.indices.WireId.{WireId}
+use Rattle.base_types.specs.declared.indices.WireId.{WireId}
 use Rattle.est_kernel.specs.Plain.{Program, program_of}
 use Rattle.est_kernel.specs.WellFormed.{IsKernel}
 use Rattle.grc_graph.specs.declared.graph.Graph.{Graph}
@@ -13,7 +13,7 @@ use Rattle.grc_graph.specs.GraphRuns.{program_spots}
 use Rattle.grc_graph.specs.GraphShapes.{node_fits}
 use Rattle.grc_graph.specs.Instances.{Instance, body_instances}
 use Rattle.grc_graph.specs.Layers.{Layer, Resumed}
-use Rattle.grc_graph.specs.PlainGraphs.{names_of, node_of, wire_at}
+use Rattle.grc_graph.specs.PlainGraphs.{names_of, node_form, wire_at}
 use Rattle.grc_graph.specs.Rows.{program_rows, spot_at}
 use Rattle.grc_graph.specs.Wires.{Wire, Out, Go, StatusOf, End, same_wire}
 use Rattle.grc_graph.proofs.Exports.{program_spots_by_row, same_wire-true}
@@ -107,18 +107,18 @@ nodes-many p kernel =
 -- no node more
 pub same-nodes : (p : Program) (i : ℕ) (list : List Node) → node_at p i ≡ [] → GainsNode p i list list
 same-nodes p i list e = record {
-  gained = let nodes = map (node_of (shared_instances p) (shared_wires p)) list in sym (ap (λ xs. nodes ++ xs) e ∙ append-nil nodes);
+  gained = let nodes = map (node_form (shared_instances p) (shared_wires p)) list in sym (ap (λ xs. nodes ++ xs) e ∙ append-nil nodes);
   within = λ h. h;
 }
 
 -- one node more
-pub more-nodes : (p : Program) (i : ℕ) (list : List Node) (x : Node) → node_of (shared_instances p) (shared_wires p) x ∷ [] ≡ node_at p i
+pub more-nodes : (p : Program) (i : ℕ) (list : List Node) (x : Node) → node_form (shared_instances p) (shared_wires p) x ∷ [] ≡ node_at p i
     → IsTrue (node_fits (length (shared_instances p)) (length (shared_wires p)) x) → GainsNode p i list (list ++ (x ∷ []))
 more-nodes p i list x e fits =
     let P = λ (y : Node). IsTrue (node_fits (length (shared_instances p)) (length (shared_wires p)) y) in
     record {
       gained =
-          let F = node_of (shared_instances p) (shared_wires p) in
+          let F = node_form (shared_instances p) (shared_wires p) in
           map-append F list (x ∷ []) ∙ ap (λ xs. map F list ++ xs) e;
       within = λ h. All-append P list (x ∷ []) h (All-cons P x [] fits (All-nil P));
     }

@@ -4,14 +4,14 @@ use Rattle.std.specs.Prelude.{All, Contains, IsTrue, slice_index, ◌↔◌}
 use Rattle.std.proofs.lemmas.List.{get_or-map, get_or_default, length-map}
 use Rattle.std.proofs.lemmas.List.Filters.{length-filter_both}
 use Rattle.std.proofs.lemmas.List.Elements.{All-contains, All-get_or, All-map, Contains-get_or}
-use Rattle.digraph.specs.Answers as digraph
-use Rattle.digraph.specs.Walks.{AreRanks, HasEdge, IsClosedWalk, JoinsNodes}
-use Rattle.digraph.specs.declared.ranking.RanksOrCycle.{RanksOrCycle}
-use Rattle.digraph.specs.declared.ranking.RanksOrCycle.TheVariants.{Ranks, Cycle}
-use Rattle.est_base.specs.declared.indices.WireId.{WireId}
+use Rattle.base_digraph.specs.Answers as digraph
+use Rattle.base_digraph.specs.Walks.{AreRanks, HasEdge, IsClosedWalk, JoinsNodes}
+use Rattle.base_digraph.specs.declared.ranking.RanksOrCycle.{RanksOrCycle}
+use Rattle.base_digraph.specs.declared.ranking.RanksOrCycle.TheVariants.{Ranks, Cycle}
+use Rattle.base_types.specs.declared.indices.WireId.{WireId}
 use Rattle.est_kernel.specs.Plain.{Program}
 use Rattle.est_kernel.specs.WellFormed.{IsKernel, KeepsLimits}
-use Rattle.facts.proofs.Lists.{contains-map}
+use Rattle.base_facts.proofs.Lists.{contains-map}
 use Rattle.grc_graph.specs.Edges.{edge}
 use Rattle.grc_graph.specs.GraphRuns.{program_edges, program_wires}
 use Rattle.grc_graph.specs.Layers.{Resumed}

@@ -1,8 +1,8 @@
 -- Inner: the least members of shared instances and of shared wires: instances that are one stand side by side.
 use Rattle.std.specs.Prelude.{◌≡◌, ℕ, ◌+◌, ◌<◌, ◌≤◌, Bool, false, ◌==◌, ◌&&◌, if◌then◌else◌, List, [], ◌∷◌, length, map}
 use Rattle.std.specs.Prelude.{slice_index, slice_index_or, Contains, MatchOption, Option, ⊤}
-use Rattle.est_base.specs.declared.indices.InstId.{InstId}
-use Rattle.est_base.specs.declared.indices.WireId.{WireId}
+use Rattle.base_types.specs.declared.indices.InstId.{InstId}
+use Rattle.base_types.specs.declared.indices.WireId.{WireId}
 use Rattle.grc_graph.specs.declared.instances.Instance as stored
 use Rattle.grc_graph.specs.Instances.{Instance}
 use Rattle.grc_graph.specs.Layers.{Layer, Resumed, Started}
@@ -27,15 +27,15 @@ abbrev pub shared_of : Sharing → Instance → Instance
 shared_of K x = record { path = x.path; layer = shared_layer K x.path x.layer }
 
 -- this is the number of the instance that names that of the instance with the number i
-abbrev pub IsLeast : Sharing → List stored.Instance → ℕ → InstId → Type 0
-IsLeast K insts i k =
+abbrev pub IsLeastMember : Sharing → List stored.Instance → ℕ → InstId → Type 0
+IsLeastMember K insts i k =
     (x : stored.Instance)
     → IsNumberOf (map instance_of insts) k.0 (shared_of K (instance_of (slice_index_or insts i x)))
 
 -- these are the numbers of the instances that name those of the first instances, one for each
 abbrev pub AreLeast : Sharing → List stored.Instance → List InstId → Type 0
 AreLeast K insts least =
-    (i : ℕ) (d : InstId) → i < length least → IsLeast K insts i (slice_index_or least i d)
+    (i : ℕ) (d : InstId) → i < length least → IsLeastMember K insts i (slice_index_or least i d)
 
 -- these are the numbers of the wires that name those of the first wires, one for each
 abbrev pub AreLeastWires : Sharing → List Wire → List WireId → Type 0

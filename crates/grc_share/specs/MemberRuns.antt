@@ -1,7 +1,7 @@
 -- Contract: the members of shared wires in one list, one shared wire after another.
 use Rattle.std.specs.Prelude.{◌≡◌, ◌≤◌, ◌<◌, ◌+◌, ℕ, List, [], length, slice_index, slice_index_or}
 use Rattle.std.specs.List.{slice_range}
-use Rattle.est_base.specs.declared.indices.WireId.{WireId}
+use Rattle.base_types.specs.declared.indices.WireId.{WireId}
 
 -- The members of so many shared wires: those of each stand together, from its place on up to that of the next.
 pub record AreMemberRuns (count : ℕ) (list : List WireId) (firsts : List ℕ) : Type 0 where

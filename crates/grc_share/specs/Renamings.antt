@@ -1,8 +1,8 @@
 -- Inner: formulas, wires and nodes over the numbers of shared instances and wires.
 use Rattle.std.specs.Prelude.{◌≡◌, ℕ, ◌<◌, Bool, true, false, not, ◌==◌, if◌then◌else◌, List, [], ◌∷◌, ◌++◌, length}
 use Rattle.std.specs.Prelude.{map, slice_index, slice_index_or, All, IsTrue, MatchOption, Option}
-use Rattle.est_base.specs.declared.indices.InstId.{InstId}
-use Rattle.est_base.specs.declared.indices.WireId.{WireId}
+use Rattle.base_types.specs.declared.indices.InstId.{InstId}
+use Rattle.base_types.specs.declared.indices.WireId.{WireId}
 use Rattle.est_kernel.specs.Plain.{Program, program_of}
 use Rattle.est_kernel.specs.Terms.{Nothing}
 use Rattle.grc_graph.specs.declared.formulas.Formula as stored
@@ -17,7 +17,7 @@ use Rattle.grc_graph.specs.GraphShapes.{formula_fits, node_fits}
 use Rattle.grc_graph.specs.Instances.{Instance}
 use Rattle.grc_graph.specs.Layers.{Layer, Resumed, Started}
 use Rattle.grc_graph.specs.Nodes as plain_nodes
-use Rattle.grc_graph.specs.PlainGraphs.{formula_of, instance_at, instances_of, names_of, node_of, wire_at}
+use Rattle.grc_graph.specs.PlainGraphs.{formula_of, instance_at, instances_of, names_of, node_form, wire_at}
 use Rattle.grc_graph.specs.PlainInstances.{instance_of}
 use Rattle.grc_graph.specs.Rows.{program_rows, row_at}
 use Rattle.grc_graph.specs.Scopes.{Unbound}
@@ -102,12 +102,12 @@ spot_in p i =
 abbrev pub node_at : Program → ℕ → List plain_nodes.Node
 node_at p i =
     if is_least (body_sharing p.body) (spot_in p i)
-    then renamed_node (body_sharing p.body) (plain_nodes.node_of (spot_in p i)) ∷ [] else []
+    then renamed_node (body_sharing p.body) (plain_nodes.spot_node (spot_in p i)) ∷ [] else []
 
 -- nodes gain that of the instance with a number, where it names its shared instance
 pub record GainsNode (p : Program) (i : ℕ) (old new : List Node) : Type 0 where
-  pub gained : map (node_of (shared_instances p) (shared_wires p)) new
-      ≡ map (node_of (shared_instances p) (shared_wires p)) old ++ node_at p i
+  pub gained : map (node_form (shared_instances p) (shared_wires p)) new
+      ≡ map (node_form (shared_instances p) (shared_wires p)) old ++ node_at p i
   pub within : All (λ x. IsTrue (node_fits (length (shared_instances p)) (length (shared_wires p)) x)) old
       → All (λ x. IsTrue (node_fits (length (shared_instances p)) (length (shared_wires p)) x)) new
 

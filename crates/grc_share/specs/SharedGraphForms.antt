@@ -1,11 +1,11 @@
 -- Contract: the graph of a program's shared wires by number, and when a program has one.
 use Rattle.std.specs.Prelude.{◌≡◌, ◌<◌, ℕ, Bool, true, false, List, length, map}
-use Rattle.est_base.specs.declared.indices.WireId.{WireId}
+use Rattle.base_types.specs.declared.indices.WireId.{WireId}
 use Rattle.est_kernel.specs.Plain.{Program, program_of}
 use Rattle.grc_graph.specs.declared.graph.Graph.{Graph}
 use Rattle.grc_graph.specs.GraphRuns.{program_wires}
 use Rattle.grc_graph.specs.NumberedEdges.{AreEdgesOf}
-use Rattle.grc_graph.specs.PlainGraphs.{instances_of, names_of, node_of, plain_graph, wire_at}
+use Rattle.grc_graph.specs.PlainGraphs.{instances_of, names_of, node_form, plain_graph, wire_at}
 use Rattle.grc_graph.specs.WireOrders.{AreRanks}
 use Rattle.grc_share.specs.declared.shared_graph.SharedGraph.{SharedGraph}
 use Rattle.grc_share.specs.declared.graphs.SharedOrFull.{SharedOrFull}
@@ -26,7 +26,7 @@ pub record IsSharedGraphOf (p : Program) (s : SharedGraph) : Type 0 where
   pub program : program_of s.graph.program ≡ p
   pub instances : instances_of s.graph ≡ shared_instances p
   pub wires : names_of s.graph ≡ shared_wires p
-  pub nodes : map (node_of (instances_of s.graph) (names_of s.graph)) s.graph.nodes.items ≡ shared_nodes p
+  pub nodes : map (node_form (instances_of s.graph) (names_of s.graph)) s.graph.nodes.items ≡ shared_nodes p
   pub graph : plain_graph s.graph ≡ shared_graph p
   pub members : (k : ℕ) → k < length (shared_wires p)
       → map (λ w. wire_at (program_wires p) w.0) (members_at s k) ≡ members p (wire_at (shared_wires p) k)

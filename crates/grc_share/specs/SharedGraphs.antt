@@ -13,7 +13,7 @@ use Rattle.grc_graph.specs.Instances.{Instance, body_instances}
 use Rattle.grc_graph.specs.Layers.{Layer, Resumed, Started, same_layer}
 use Rattle.grc_graph.specs.LoopKeys.{lasting}
 use Rattle.grc_graph.specs.Nodes.{Node, Fork, Sync, Switch, Tested, Enter, Emission, Definition, Leave, Through}
-use Rattle.grc_graph.specs.Nodes.{node_of}
+use Rattle.grc_graph.specs.Nodes.{spot_node}
 use Rattle.grc_graph.specs.Readings.{Valuation}
 use Rattle.grc_graph.specs.Rows.{program_rows, row_at}
 use Rattle.grc_graph.specs.Scopes.{program_scope}
@@ -63,7 +63,7 @@ shared_instances p = filter (λ x. names_itself (body_sharing p.body) x.path x.l
 
 -- the emissions on a shared status wire: the `go` of each shared instance that emits on one of its members
 abbrev pub emits_on : Sharing → Wire → Spot → Bool
-emits_on K w x = is_least K x && is_wire (option_map (shared_wire K) (emitted_on (node_of x))) w
+emits_on K w x = is_least K x && is_wire (option_map (shared_wire K) (emitted_on (spot_node x))) w
 
 abbrev pub go_value : Spot → Formula
 go_value x = Value (Go x.path x.layer)
@@ -154,7 +154,7 @@ renamed_node K (Through n l) = Through n (shared_layer K n l)
 -- what each shared instance is in the control-flow graph
 abbrev pub shared_nodes : Program → List Node
 shared_nodes p =
-    map (λ x. renamed_node (body_sharing p.body) (node_of x))
+    map (λ x. renamed_node (body_sharing p.body) (spot_node x))
     (filter (is_least (body_sharing p.body)) (program_spots p))
 
 -- the state behind an instant in which the shared wires have these values

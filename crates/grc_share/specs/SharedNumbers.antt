@@ -1,10 +1,10 @@
 -- Contract: the shared wires of a program by number, and what is found of the edges between them.
 use Rattle.std.specs.Prelude.{◌≡◌, ℕ, ◌+◌, ◌-◌, ◌<◌, List, [], length, map, slice_index, All, Contains}
 use Rattle.std.specs.Prelude.{slice_index_or}
-use Rattle.digraph.specs.declared.ranking.RanksOrCycle.{RanksOrCycle}
-use Rattle.digraph.specs.declared.ranking.RanksOrCycle.TheVariants.{Ranks, Cycle}
-use Rattle.digraph.specs.Walks.{IsOrderOf}
-use Rattle.est_base.specs.declared.indices.WireId.{WireId}
+use Rattle.base_digraph.specs.declared.ranking.RanksOrCycle.{RanksOrCycle}
+use Rattle.base_digraph.specs.declared.ranking.RanksOrCycle.TheVariants.{Ranks, Cycle}
+use Rattle.base_digraph.specs.Walks.{IsOrderOf}
+use Rattle.base_types.specs.declared.indices.WireId.{WireId}
 use Rattle.est_kernel.specs.Plain.{Program}
 use Rattle.grc_graph.specs.GraphRuns.{program_wires}
 use Rattle.grc_graph.specs.NumberedEdges.{named_edge}

@@ -8,7 +8,7 @@ use Rattle.grc_graph.specs.GraphRuns.{program_wires}
 use Rattle.grc_graph.specs.GraphShapes.{formula_fits, node_fits, wire_fits}
 use Rattle.grc_graph.specs.LoopTables.{AreLoopCounts}
 use Rattle.grc_graph.specs.NumberedEdges.{AreEdgesOf}
-use Rattle.grc_graph.specs.PlainGraphs.{formula_of, instances_of, names_of, node_of, plain_graph, wire_at, wire_of}
+use Rattle.grc_graph.specs.PlainGraphs.{formula_of, instances_of, names_of, node_form, plain_graph, wire_at, wire_of}
 use Rattle.grc_graph.specs.PlainInstances.{instance_of}
 use Rattle.grc_graph.specs.WireOrders.{AreRanks}
 use Rattle.grc_graph.specs.WireTables.{AreFirsts}
@@ -42,7 +42,7 @@ pub record AreNumbered (g : Graph) (s : Numbered) : Type 0 where
 pub record AreNamed (p : Program) (s : Named) : Type 0 where
   pub wires : map (wire_of (shared_instances p)) s.wires.items ≡ shared_wires p
   pub wires_fit : All (λ w. IsTrue (wire_fits (length (shared_instances p)) w)) s.wires.items
-  pub nodes : map (node_of (shared_instances p) (shared_wires p)) s.nodes.items ≡ shared_nodes p
+  pub nodes : map (node_form (shared_instances p) (shared_wires p)) s.nodes.items ≡ shared_nodes p
   pub nodes_fit : All (λ x. IsTrue (node_fits (length (shared_instances p)) (length (shared_wires p)) x)) s.nodes.items
 
 -- the formulas of a program's shared wires and of the next state
@@ -91,5 +91,5 @@ is_walk (Walk walk) = true
 pub record IsGraphOfShared (p : Program) (g : Graph) : Type 0 where
   pub instances : instances_of g ≡ shared_instances p
   pub wires : names_of g ≡ shared_wires p
-  pub nodes : map (node_of (instances_of g) (names_of g)) g.nodes.items ≡ shared_nodes p
+  pub nodes : map (node_form (instances_of g) (names_of g)) g.nodes.items ≡ shared_nodes p
   pub graph : plain_graph g ≡ shared_graph p

@@ -11,7 +11,7 @@ ghost use Rattle.grc_share.specs.SharedPairs.{numbered_edges};
 ghost use Rattle.grc_share.specs.SharedWires.{shared_edges, shared_wires};
 
 use crate::sharing::SharedWires;
-use est_base::{NoMemory, WireId};
+use base_types::{NoMemory, WireId};
 use grc_dep::edges_of;
 use grc_graph::{Edges, Graph};
 use grc_solutions::edges_join_wires;

@@ -6,7 +6,7 @@ ghost use Rattle.est_kernel.specs.Plain.{program_of};
 ghost use Rattle.grc_graph.specs.BuiltGraphs.{IsGraphOf};
 ghost use Rattle.grc_graph.specs.GraphShapes.{node_fits};
 ghost use Rattle.grc_graph.specs.Instances.{Instance};
-ghost use Rattle.grc_graph.specs.PlainGraphs.{names_of, node_of, wire_at};
+ghost use Rattle.grc_graph.specs.PlainGraphs.{names_of, node_form, wire_at};
 ghost use Rattle.grc_graph.specs.Wires.{Wire, same_wire};
 ghost use Rattle.grc_share.specs.Renamings.{AreEmissions, AreNumbersOf, GainsEmission, emits_at};
 ghost use Rattle.grc_share.specs.SharedGraphs.{emitted_on};
@@ -15,7 +15,7 @@ ghost use Rattle.grc_share.specs.SharedWires.{shared_wire, shared_wires};
 
 use crate::placing::{empty_lists, push_wire};
 use crate::renaming::Numbers;
-use est_base::{InstId, NoMemory, WireId};
+use base_types::{InstId, NoMemory, WireId};
 use grc_graph::{Graph, Node};
 use std::alloc::Global;
 
@@ -90,7 +90,7 @@ fn emitted_wire(graph: &Graph, numbers: &Numbers, i: InstId) -> Option<WireId>
 
 // The wire on which a node emits.
 fn node_emission(node: Node) -> Option<WireId>
-    ensures named { (insts : List Instance) (names : List Wire) → emitted_on (node_of insts names node)
+    ensures named { (insts : List Instance) (names : List Wire) → emitted_on (node_form insts names node)
         ≡ option_map (λ v. wire_at names v.0) result }
     ensures within { (insts count : ℕ) → IsTrue (node_fits insts count node)
         → MatchOption result (⊤) (λ v. v.0 < count) }

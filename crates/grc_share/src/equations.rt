@@ -9,7 +9,7 @@ use crate::emissions::emission_lists;
 use crate::formulas::{Given, shared_formula};
 use crate::guards::guards;
 use crate::renaming::Numbers;
-use est_base::{NoMemory, WireId};
+use base_types::{NoMemory, WireId};
 use grc_graph::{Formula, Graph};
 use std::alloc::Global;
 

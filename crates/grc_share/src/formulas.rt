@@ -16,7 +16,7 @@ ghost use Rattle.grc_share.specs.SharedInstances.{body_sharing};
 ghost use Rattle.grc_share.specs.SharedWires.{shared_layer, shared_wire, shared_wires};
 
 use crate::renaming::{Numbers, both, either, renamed};
-use est_base::{InstId, NoMemory, SigId, WireId};
+use base_types::{InstId, NoMemory, SigId, WireId};
 use grc_graph::{Formula, Graph, Layer, Wire};
 use std::alloc::Global;
 

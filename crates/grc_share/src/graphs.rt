@@ -27,8 +27,8 @@ use crate::shared_graph::SharedGraph;
 use crate::sharing::{SharedWires, shared_wires};
 use crate::tables::{Tables, place_tables};
 use crate::walking::ranks_or_walk;
-use digraph::RanksOrCycle;
-use est_base::{InstId, NoMemory, WireId};
+use base_digraph::RanksOrCycle;
+use base_types::{InstId, NoMemory, WireId};
 use grc_graph::{Edges, Formula, Graph, Instance, Instances, LoopBodies, Node, Ranks, Wire};
 use std::alloc::Global;
 

@@ -7,7 +7,7 @@ ghost use Rattle.est_kernel.specs.WellFormed.{IsWellFormed};
 ghost use Rattle.grc_share.specs.Renamings.{AreGuards};
 ghost use Rattle.grc_share.specs.SharedGraphs.{is_guarded};
 
-use est_base::NoMemory;
+use base_types::NoMemory;
 use est_kernel::{Kernel, KernelProgram};
 use grc_graph::list_statements;
 use std::alloc::Global;

@@ -5,12 +5,12 @@ ghost use Rattle.est_kernel.specs.Plain.{program_of, term_of};
 ghost use Rattle.grc_graph.specs.BuiltGraphs.{IsGraphOf};
 ghost use Rattle.grc_graph.specs.PlainGraphs.{instance_at, instances_of};
 ghost use Rattle.grc_graph.specs.PlainInstances.{instance_of};
-ghost use Rattle.grc_share.specs.LeastMembers.{AreLeast, IsLeast};
+ghost use Rattle.grc_share.specs.LeastMembers.{AreLeast, IsLeastMember};
 ghost use Rattle.grc_share.specs.Renamings.{AreInstanceNumbers, AreOwnPlaces, if_named};
 ghost use Rattle.grc_share.specs.SharedGraphs.{shared_instances};
 ghost use Rattle.grc_share.specs.SharedInstances.{body_sharing};
 
-use est_base::{InstId, NoMemory};
+use base_types::{InstId, NoMemory};
 use grc_graph::{Graph, Instance};
 use std::alloc::Global;
 
@@ -80,7 +80,8 @@ fn push_own(
     list: &mut Vec<Instance>,
 ) -> Result<(), NoMemory>
     requires within { i < length graph.now.instances.list.items }
-    requires least { IsLeast (body_sharing (term_of graph.now.program.body)) graph.now.instances.list.items i least }
+    requires least { IsLeastMember (body_sharing (term_of graph.now.program.body))
+        graph.now.instances.list.items i least }
     ensures { OnOk result (map instance_of list.new.items ≡ map instance_of list.old.items
         ++ if_named (body_sharing (term_of graph.now.program.body)) (instance_at (instances_of graph.now) i)) }
 {

@@ -9,13 +9,13 @@ ghost use Rattle.grc_graph.specs.Neighbouring.{instances_in, names_in};
 ghost use Rattle.grc_graph.specs.PlainGraphs.{instances_of, names_of, wire_at};
 ghost use Rattle.grc_graph.specs.PlainInstances.{instance_of, layer_of};
 ghost use Rattle.grc_graph.specs.WireTables.{IsNumberOf};
-ghost use Rattle.grc_share.specs.LeastMembers.{AreLeast, AreLeastWires, IsLeast, RootIn, one_start, starts_as};
+ghost use Rattle.grc_share.specs.LeastMembers.{AreLeast, AreLeastWires, IsLeastMember, RootIn, one_start, starts_as};
 ghost use Rattle.grc_share.specs.LeastMembers.{HasResumedStatus};
 ghost use Rattle.grc_share.specs.LoopCounts.{AreLoopCounts};
 ghost use Rattle.grc_share.specs.SharedInstances.{body_sharing, key};
 ghost use Rattle.grc_share.specs.SharedWires.{shared_wire};
 
-use est_base::{InstId, NoMemory, WireId};
+use base_types::{InstId, NoMemory, WireId};
 use grc_graph::{Graph, Instance, Layer, LoopBodies, Neighbours, Wire};
 use std::alloc::Global;
 
@@ -50,7 +50,7 @@ fn least_instance(graph: &Graph, loops: &[LoopBodies], least: &[InstId], i: usiz
     requires within { i < length graph.now.instances.list.items }
     requires least { AreLeast (body_sharing (term_of graph.now.program.body))
         graph.now.instances.list.items least.now }
-    ensures { IsLeast (body_sharing (term_of graph.now.program.body)) graph.now.instances.list.items i result }
+    ensures { IsLeastMember (body_sharing (term_of graph.now.program.body)) graph.now.instances.list.items i result }
 {
     let list = &graph.instances.list;
     if i > 0 && starts_as(loops, list[i - 1], list[i]) {

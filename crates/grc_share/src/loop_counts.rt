@@ -7,7 +7,7 @@ ghost use Rattle.est_kernel.specs.WellFormed.{IsWellFormed};
 ghost use Rattle.grc_graph.specs.StatementViews.{entry_view};
 ghost use Rattle.grc_share.specs.LoopCounts.{AreLoopCounts, Enters, counts_in};
 
-use est_base::NoMemory;
+use base_types::NoMemory;
 use est_kernel::KernelProgram;
 use grc_graph::{Entry, LoopBodies, list_statements};
 use std::alloc::Global;

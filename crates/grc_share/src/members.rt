@@ -3,7 +3,7 @@
 ghost use Rattle.std.specs.Prelude.{map, IfOk};
 ghost use Rattle.grc_share.specs.MemberRuns.{AreRunsOf};
 
-use est_base::{NoMemory, WireId};
+use base_types::{NoMemory, WireId};
 use std::alloc::Global;
 
 /// Lists of members, one behind the other.

@@ -5,7 +5,7 @@ ghost use Rattle.est_kernel.specs.Plain.{program_of};
 ghost use Rattle.grc_graph.specs.BuiltGraphs.{IsGraphOf};
 ghost use Rattle.grc_graph.specs.GraphShapes.{node_fits, wire_fits};
 ghost use Rattle.grc_graph.specs.Instances.{Instance};
-ghost use Rattle.grc_graph.specs.PlainGraphs.{node_of, wire_of};
+ghost use Rattle.grc_graph.specs.PlainGraphs.{node_form, wire_of};
 ghost use Rattle.grc_graph.specs.Wires.{Wire as plain_wire};
 ghost use Rattle.grc_share.specs.Renamings.{AreInstanceNumbers, AreLeastMembers, AreNumbers, AreNumbersOf, GainsNode};
 ghost use Rattle.grc_share.specs.Renamings.{by_instance};
@@ -14,7 +14,7 @@ ghost use Rattle.grc_share.specs.SharedInstances.{Sharing};
 ghost use Rattle.grc_share.specs.SharedWires.{shared_wires};
 
 use crate::renaming::Numbers;
-use est_base::{InstId, NoMemory, WireId};
+use base_types::{InstId, NoMemory, WireId};
 use grc_graph::{Graph, Node, Wire};
 use std::alloc::Global;
 
@@ -64,7 +64,7 @@ pub(crate) fn shared_node_list(
 ) -> Result<Vec<Node>, NoMemory>
     requires built { IsGraphOf graph.now (program_of graph.now.program) }
     requires numbers { AreNumbersOf graph.now numbers.now.least.now numbers.now.instances.now numbers.now.wires.now }
-    ensures nodes { IfOk result (λ v. map (node_of (shared_instances (program_of graph.now.program))
+    ensures nodes { IfOk result (λ v. map (node_form (shared_instances (program_of graph.now.program))
         (shared_wires (program_of graph.now.program))) v.items ≡ shared_nodes (program_of graph.now.program)) }
     ensures fit { IfOk result (λ v. All (λ x. IsTrue (node_fits
         (length (shared_instances (program_of graph.now.program)))
@@ -102,7 +102,7 @@ fn renamed_node(node: Node, numbers: &Numbers) -> Node
     ensures named { (K : Sharing) (insts : List Instance) (names : List plain_wire) (shared : List Instance)
         (wires : List plain_wire)
         → AreNumbers K insts names shared wires numbers.now.instances.now numbers.now.wires.now
-        → node_of shared wires result ≡ renamed_node K (node_of insts names node) }
+        → node_form shared wires result ≡ renamed_node K (node_form insts names node) }
     ensures fits { (K : Sharing) (insts : List Instance) (names : List plain_wire) (shared : List Instance)
         (wires : List plain_wire)
         → AreNumbers K insts names shared wires numbers.now.instances.now numbers.now.wires.now

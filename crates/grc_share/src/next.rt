@@ -14,7 +14,7 @@ ghost use Rattle.grc_share.specs.SharedInstances.{Sharing, body_sharing};
 ghost use Rattle.grc_share.specs.SharedWires.{shared_wires};
 
 use crate::renaming::{Numbers, either, renamed};
-use est_base::NoMemory;
+use base_types::NoMemory;
 use grc_graph::{Formula, Graph};
 use std::alloc::Global;
 

@@ -4,7 +4,7 @@ ghost use Rattle.std.specs.Prelude.{◌≡◌, ℕ, ◌<◌, ◌^◌, [], ◌∷
 ghost use Rattle.std.specs.Prelude.{OnOk};
 ghost use Rattle.grc_share.specs.LeastMembers.{ArePlaces, Settled, leaders};
 
-use est_base::{NoMemory, WireId};
+use base_types::{NoMemory, WireId};
 use std::alloc::Global;
 
 /// Those that stand for themselves, in order, and for each the place of what stands for it among them.

@@ -3,7 +3,7 @@
 ghost use Rattle.std.specs.Prelude.{◌≡◌, ◌++◌, ◌<◌, ◌^◌, [], ◌∷◌, ℕ, length, map, slice_index_or, slice_set, All, IfOk};
 ghost use Rattle.grc_share.specs.LeastMembers.{places_of};
 
-use est_base::{NoMemory, WireId};
+use base_types::{NoMemory, WireId};
 use std::alloc::Global;
 
 /// For each number the places that have it, ascending.

@@ -10,7 +10,7 @@ ghost use Rattle.grc_share.specs.Renamings.{AreNumbers, StandsFor, renamed_wires
 ghost use Rattle.grc_share.specs.SharedGraphs.{renamed};
 ghost use Rattle.grc_share.specs.SharedInstances.{Sharing};
 
-use est_base::{InstId, NoMemory, WireId};
+use base_types::{InstId, NoMemory, WireId};
 use grc_graph::Formula;
 use std::alloc::Global;
 

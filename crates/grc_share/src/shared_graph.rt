@@ -3,7 +3,7 @@
 ghost use Rattle.std.specs.Prelude.{length};
 ghost use Rattle.grc_share.specs.MemberRuns.{AreMemberRuns};
 
-use est_base::WireId;
+use base_types::WireId;
 use grc_graph::{Edges, Graph, Ranks};
 
 /// The graph of a program's shared wires, with the edges between them.

@@ -12,7 +12,7 @@ use crate::least_members::{least_instances, least_wires};
 use crate::loop_counts::loop_bodies;
 use crate::numbering::{Numbered, number_members};
 use crate::placing::places_by_number;
-use est_base::{NoMemory, WireId};
+use base_types::{NoMemory, WireId};
 use grc_graph::Graph;
 use std::alloc::Global;
 

@@ -12,7 +12,7 @@ ghost use Rattle.grc_share.specs.SharedWires.{shared_wires};
 ghost use Rattle.grc_share.specs.Tables.{AreFirstsOf, AreFirstWires};
 
 use crate::renaming::Numbers;
-use est_base::NoMemory;
+use base_types::NoMemory;
 use grc_graph::{Graph, Instance, LoopBodies, first_instances};
 use std::alloc::Global;
 

@@ -1,7 +1,7 @@
 // Whether the edges between shared wires have a closed walk.
 
 ghost use Rattle.std.specs.Prelude.{◌≡◌, ◌↔◌, ◌<◌, ℕ, List, length, map, All, IfOk, IsTrue};
-ghost use Rattle.digraph.specs.Answers.{is_cycle};
+ghost use Rattle.base_digraph.specs.Answers.{is_cycle};
 ghost use Rattle.est_kernel.specs.Plain.{program_of};
 ghost use Rattle.grc_graph.specs.BuiltGraphs.{IsGraphOf};
 ghost use Rattle.grc_graph.specs.GraphRuns.{program_edges};
@@ -11,8 +11,8 @@ ghost use Rattle.grc_share.specs.SharedNumbers.{AreSharedWires, IsSharedAnswer, 
 ghost use Rattle.grc_share.specs.SharedPairs.{numbered_pairs};
 
 use crate::sharing::{SharedWires, shared_wires};
-use digraph::{RanksOrCycle, ranks_or_cycle};
-use est_base::{NoMemory, WireId};
+use base_digraph::{RanksOrCycle, ranks_or_cycle};
+use base_types::{NoMemory, WireId};
 use grc_graph::{Edges, Graph};
 use grc_solutions::edges_join_wires;
 use std::alloc::{AllocError, Global};

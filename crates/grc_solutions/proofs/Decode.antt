@@ -1,8 +1,8 @@
 -- From facts of each edge of an instance to its rows.
 use Rattle.std.proofs.Common.{◌≡◌, ℕ, ◌+◌, ◌<◌, Bool, true, ◌&&◌, leb, List, [], ◌∷◌, ◌++◌, map, filter, Option, Some, None}
 use Rattle.std.proofs.lemmas.Bool.{and_parts, le-leb}
-use Rattle.facts.proofs.Lists.{Every}
-use Rattle.est_base.specs.Codes.{except}
+use Rattle.base_facts.proofs.Lists.{Every}
+use Rattle.base_types.specs.Codes.{except}
 use Rattle.est_kernel.specs.Terms.{Expression, Tick, Sig, Not, And, Or, Term, Pause, Emit, Present, Suspend, Seq, Loop, Par, Trap, Local, Awake}
 use Rattle.est_kernel.specs.Preorder.{statement_count}
 use Rattle.est_kernel.specs.Steps.{trap_code}

@@ -1,8 +1,8 @@
 -- The edges at a live instance join wires that exist.
 use Rattle.std.proofs.Common.{◌≡◌, ℕ, ◌+◌, ◌<◌, Bool, true, ◌&&◌, cond, leb, List, [], ◌∷◌, ◌++◌, map, filter, refl, ap, ◌∙◌, arith}
 use Rattle.std.proofs.lemmas.Bool.{and_parts, and_from, or_left, or_right, cond_both, cond-true}
-use Rattle.facts.proofs.Lists.{Every, every-append}
-use Rattle.est_base.specs.Codes.{except, either}
+use Rattle.base_facts.proofs.Lists.{Every, every-append}
+use Rattle.base_types.specs.Codes.{except, either}
 use Rattle.est_kernel.specs.Terms.{Expression, Tick, Sig, Not, And, Or, Term, Emit, Present, Suspend, Seq, Loop, Par, Trap, Local, Awake}
 use Rattle.est_kernel.specs.Preorder.{statement_count}
 use Rattle.est_kernel.specs.Steps.{trap_code}

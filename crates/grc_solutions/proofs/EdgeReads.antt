@@ -4,8 +4,8 @@ use Rattle.std.proofs.Common.{ap, ◌∙◌}
 use Rattle.std.proofs.Common.{subst, inl, inr, ⊎_elim, arith}
 use Rattle.std.specs.Prelude.{Contains, filter}
 use Rattle.std.proofs.lemmas.Bool.{and_from, cond_both, cond-true, cond-false, eq-eqb, ne_eqb, leb-true, false≢true}
-use Rattle.facts.proofs.Lists.{Every, every-append}
-use Rattle.est_base.specs.Codes.{except}
+use Rattle.base_facts.proofs.Lists.{Every, every-append}
+use Rattle.base_types.specs.Codes.{except}
 use Rattle.est_kernel.specs.Terms.{Expression, Tick, Sig, Not, And, Or, Term, Emit, Exit, Present, Suspend, Seq, Loop, Par, Trap, Local, Awake}
 use Rattle.est_kernel.specs.Preorder.{statement_count}
 use Rattle.est_kernel.specs.Steps.{trap_code}

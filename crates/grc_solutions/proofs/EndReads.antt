@@ -1,8 +1,8 @@
 -- What the formula of an end reads: each wire of it has an edge to the end.
 use Rattle.std.proofs.Common.{◌≡◌, ℕ, zero, suc, ◌+◌, Bool, true, false, ◌==◌, cond, List, [], ◌∷◌, ◌++◌, refl, sym, subst, arith}
 use Rattle.std.proofs.lemmas.Bool.{eqb-true, false≢true}
-use Rattle.facts.proofs.Lists.{Every, every-append}
-use Rattle.est_base.specs.Codes.{except}
+use Rattle.base_facts.proofs.Lists.{Every, every-append}
+use Rattle.base_types.specs.Codes.{except}
 use Rattle.est_kernel.specs.Terms.{Term, Pause, Emit, Present, Suspend, Seq, Loop, Par, Trap, Local, Awake}
 use Rattle.est_kernel.specs.Preorder.{statement_count}
 use Rattle.est_kernel.specs.StaticCodes.{codes_if, has_code, started_codes, resumed_codes}

@@ -6,8 +6,8 @@ use Rattle.std.specs.List.{list_any}
 use Rattle.std.proofs.lemmas.Bool.{cases_lt, eq-eqb, or_from, cond-true, cond-false, cond_both, or_parts}
 use Rattle.std.proofs.lemmas.List.{length-map, length-set, get_or-map, get_or_default, get_or-set_same, get_or-set_other}
 use Rattle.std.proofs.lemmas.List.Sums.{sum_by-cons}
-use Rattle.facts.proofs.Lists.{count_by-yes}
-use Rattle.est_base.specs.declared.indices.WireId.{WireId}
+use Rattle.base_facts.proofs.Lists.{count_by-yes}
+use Rattle.base_types.specs.declared.indices.WireId.{WireId}
 use Rattle.grc_graph.specs.Layers.{Resumed}
 use Rattle.grc_graph.specs.Wires.{Wire, Go, same_wire}
 use Rattle.grc_graph.specs.Formulas.{Formula}
@@ -16,7 +16,7 @@ use Rattle.grc_graph.specs.WireOrders.{wire_at, times}
 use Rattle.grc_graph.specs.PlainGraphs as graphs
 use Rattle.grc_graph.specs.Reads.{StandsBefore, IsReadingOrder}
 use Rattle.grc_graph.specs.Walk.{State}
-use Rattle.grc_graph.specs.GraphRuns.{PlainGraph, Solves}
+use Rattle.grc_graph.specs.GraphRuns.{PlainGraph, SolvesGraph}
 use Rattle.grc_graph.proofs.Exports.{same_wire-self, same_wire-true}
 use Rattle.grc_solutions.specs.GraphWires.{equation_wires, Differ}
 use Rattle.grc_solutions.specs.NumberedGraphs.{formulas_of}
@@ -159,7 +159,7 @@ module _ (g : PlainGraph) (q : State) (event : List Bool) (order : List WireId) 
 
   -- behind the last one all equations are met
   pub solved_at_end : (place : ℕ) (values : List Bool) → length order ≤ place → IsSolvedUpTo g q event order place values →
-      Solves g q event (valuation_of names values)
+      SolvesGraph g q event (valuation_of names values)
   solved_at_end place values l s = record {
     met = λ k x h.
         let low : k < length names = omega (arith, h, length-map g.equations (λ (e : Equation). e.wire)) in

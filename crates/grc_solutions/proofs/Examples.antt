@@ -4,7 +4,7 @@ use Rattle.std.proofs.Common.{◌≡◌, ℕ, ◌<◌, Bool, true, false, not, �
 use Rattle.std.specs.Prelude.{slice_index}
 use Rattle.std.specs.List.{list_all, position_or_len}
 use Rattle.std.proofs.lemmas.Bool.{and_parts, ltb-true, false≢true}
-use Rattle.facts.proofs.Lists.{Every, all-of-every}
+use Rattle.base_facts.proofs.Lists.{Every, all-of-every}
 use Rattle.est_kernel.specs.Plain.{Program}
 use Rattle.est_kernel.specs.Terms.{Sig, Term, Nothing, Pause, Emit, Present, Seq, Local}
 use Rattle.grc_graph.specs.Layers.{Layer, Started}
@@ -15,7 +15,7 @@ use Rattle.grc_graph.specs.Edges.{Edge}
 use Rattle.grc_graph.specs.Orders.{GoUp}
 use Rattle.grc_graph.specs.Walk.{State, Initial}
 use Rattle.grc_graph.specs.Readings.{Valuation}
-use Rattle.grc_graph.specs.GraphRuns.{Solves, graph_of, formula_value}
+use Rattle.grc_graph.specs.GraphRuns.{SolvesGraph, graph_of, formula_value}
 use Rattle.grc_solutions.specs.GraphWires.{equation_wires, program_wires, program_edges}
 use Rattle.grc_solutions.specs.Solutions.{HasOneSolution}
 use Rattle.grc_solutions.specs.Evaluations.{valuation_of}
@@ -45,7 +45,7 @@ not_itself : (b : Bool) → b ≡ not b → ⊥
 not_itself true e = false≢true (sym e)
 not_itself false e = false≢true e
 
-pub no_solution : (V : Valuation) → Solves (graph_of no_status) Initial [] V → ⊥
+pub no_solution : (V : Valuation) → SolvesGraph (graph_of no_status) Initial [] V → ⊥
 unfolding listed codes_below
 no_solution V s =
     let d : Equation = record { wire = Out 0; formula = Boot } in
@@ -63,7 +63,7 @@ by_values p values = valuation_of (equation_wires (graph_of p).equations) values
 
 pub solved_by : (p : Program) (q : State) (event values : List Bool)
     → Every (λ e. by_values p values e.wire ≡ formula_value (graph_of p) q event (by_values p values) e.formula) (graph_of p).equations
-    → Solves (graph_of p) q event (by_values p values)
+    → SolvesGraph (graph_of p) q event (by_values p values)
 solved_by p q event values h = record {
   met = all-of-every (λ e. by_values p values e.wire ≡ formula_value (graph_of p) q event (by_values p values) e.formula) (graph_of p).equations h;
   others = λ w e. value_off (equation_wires (graph_of p).equations) values w (unnamed (graph_of p).equations w e);
@@ -76,11 +76,11 @@ present = true ∷ true ∷ true ∷ true ∷ true ∷ true ∷ true ∷ false �
 abbrev absent : List Bool
 absent = true ∷ false ∷ true ∷ true ∷ true ∷ false ∷ false ∷ true ∷ true ∷ []
 
-pub solves_present : Solves (graph_of two_statuses) Initial [] (by_values two_statuses present)
+pub solves_present : SolvesGraph (graph_of two_statuses) Initial [] (by_values two_statuses present)
 unfolding listed codes_below
 solves_present = solved_by two_statuses Initial [] present (refl, (refl, (refl, (refl, (refl, (refl, (refl, (refl, (refl, tt)))))))))
 
-solves_absent : Solves (graph_of two_statuses) Initial [] (by_values two_statuses absent)
+solves_absent : SolvesGraph (graph_of two_statuses) Initial [] (by_values two_statuses absent)
 unfolding listed codes_below
 solves_absent = solved_by two_statuses Initial [] absent (refl, (refl, (refl, (refl, (refl, (refl, (refl, (refl, (refl, tt)))))))))
 

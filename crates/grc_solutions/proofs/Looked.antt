@@ -1,8 +1,8 @@
 -- The statement with a number, and the statements of the live instances.
 use Rattle.std.proofs.Common.{◌≡◌, ℕ, ◌+◌, ◌<◌, ◌≤◌, ◌==◌, cond, ltb, List, [], ◌∷◌, map, refl, ◌∙◌, arith}
 use Rattle.std.proofs.lemmas.Bool.{eq-eqb, ne_eqb, cond-true, cond-false, lt-ltb}
-use Rattle.facts.proofs.Lists.{Every, every-append}
-use Rattle.facts.proofs.Tests.{ltb-not}
+use Rattle.base_facts.proofs.Lists.{Every, every-append}
+use Rattle.base_facts.proofs.Tests.{ltb-not}
 use Rattle.est_kernel.specs.Terms.{Term, Emit, Exit, Present, Suspend, Seq, Loop, Par, Trap, Local, Awake}
 use Rattle.est_kernel.specs.Preorder.{statement_count}
 use Rattle.grc_graph.specs.Layers.{Layer}

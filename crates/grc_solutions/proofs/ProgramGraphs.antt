@@ -5,7 +5,7 @@ use Rattle.std.specs.Prelude.{Contains}
 use Rattle.std.specs.List.{flat_map, range_with_len}
 use Rattle.std.proofs.lemmas.Bool.{cases_lt, cond_both, ltb-true, ltb-false, false≢true}
 use Rattle.std.proofs.lemmas.List.Elements.{Contains-append_left, Contains-append_right}
-use Rattle.facts.proofs.Lists.{Every, all-of-every, contains-flat_map, contains-map, every-append}
+use Rattle.base_facts.proofs.Lists.{Every, all-of-every, contains-flat_map, contains-map, every-append}
 use Rattle.est_kernel.specs.Plain.{Program, interface_of, interface_count, outgoing_count, given_count}
 use Rattle.est_kernel.specs.Terms.{Term, Emit, Par, Local}
 use Rattle.est_kernel.specs.Preorder.{statement_count}

@@ -5,14 +5,14 @@ use Rattle.std.specs.Prelude.{Contains}
 use Rattle.std.proofs.lemmas.Bool.{cond_both, cases_Bool, cond-true, cond-false, or_parts}
 use Rattle.std.proofs.lemmas.List.{length-map, get_or-map}
 use Rattle.std.proofs.lemmas.List.Elements.{All-contains, Contains-get_or}
-use Rattle.est_base.specs.Codes.{upto}
+use Rattle.base_types.specs.Codes.{upto}
 use Rattle.grc_graph.specs.Wires.{Wire, End, same_wire}
 use Rattle.grc_graph.specs.Formulas.{Formula, Value, Upto, Kept, Held, Negation, Conjunction, Disjunction}
 use Rattle.grc_graph.specs.Equations.{Equation}
 use Rattle.grc_graph.specs.Reads.{ReadsOnly}
 use Rattle.grc_graph.specs.Walk.{State}
 use Rattle.grc_graph.specs.Readings.{Valuation}
-use Rattle.grc_graph.specs.GraphRuns.{PlainGraph, Solves, formula_value}
+use Rattle.grc_graph.specs.GraphRuns.{PlainGraph, SolvesGraph, formula_value}
 use Rattle.grc_graph.proofs.Exports.{same_wire-self, same_wire-true}
 use Rattle.grc_solutions.specs.GraphWires.{equation_wires, Differ}
 use Rattle.grc_solutions.specs.Solutions.{ReadUp, OneSolution}
@@ -119,11 +119,12 @@ module _ (g : PlainGraph) (q : State) (event : List Bool) where
         step_agree (turns (suc i)) (turns i) g.equations w
         (λ e c s. formula_agrees (turns (suc i)) (turns i) i (turns_off (suc i)) (turns_off i) (stable i) e c (subst (λ x. rank x < suc i) s l))
 
-    same_next : (V W : Valuation) → Solves g q event V → Solves g q event W → (i : ℕ) → ((u : Wire) → rank u < i → V u ≡ W u) → (w : Wire) → rank w < suc i →
+    same_next : (V W : Valuation) → SolvesGraph g q event V → SolvesGraph g q event W → (i : ℕ) → ((u : Wire) → rank u < i → V u ≡ W u) → (w : Wire)
+        → rank w < suc i →
         V w ≡ W w
     same_next V W s r i below w l = agree_on V W g.equations s.others r.others w (λ c. at (equation_of g.equations w c))
       where
-        met : (U : Valuation) → Solves g q event U → (e : Equation) → Contains g.equations e → U e.wire ≡ value U e.formula
+        met : (U : Valuation) → SolvesGraph g q event U → (e : Equation) → Contains g.equations e → U e.wire ≡ value U e.formula
         met U h e c = All-contains (λ x. U x.wire ≡ value U x.formula) g.equations e h.met c
 
         at : (e : Equation) × Contains g.equations e × (e.wire ≡ w) → V w ≡ W w
@@ -133,7 +134,7 @@ module _ (g : PlainGraph) (q : State) (event : List Bool) where
             ∙ formula_agrees V W i s.others r.others below c.0 c.1 (subst (λ x. rank x < suc i) (sym c.2) l)
             ∙ sym (met W r c.0 c.1))
 
-    same_below : (V W : Valuation) → Solves g q event V → Solves g q event W → (i : ℕ) (w : Wire) → rank w < i → V w ≡ W w
+    same_below : (V W : Valuation) → SolvesGraph g q event V → SolvesGraph g q event W → (i : ℕ) (w : Wire) → rank w < i → V w ≡ W w
     same_below V W s r zero w l = absurd (omega arith)
     same_below V W s r (suc i) w l = same_next V W s r i (same_below V W s r i) w l
 
@@ -151,7 +152,7 @@ module _ (g : PlainGraph) (q : State) (event : List Bool) where
         go (suc k) l h r = omega (arith, r (k, omega arith, h))
 
     -- what is reached after more turns than the greatest rank
-    solved : Differ (equation_wires g.equations) → Solves g q event (turns (suc (most g.equations)))
+    solved : Differ (equation_wires g.equations) → SolvesGraph g q event (turns (suc (most g.equations)))
     unfolding turns
     solved d = record {
       met = λ k x l.

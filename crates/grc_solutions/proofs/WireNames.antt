@@ -4,7 +4,7 @@ use Rattle.std.specs.Prelude.{◌≢◌}
 use Rattle.std.specs.List.{flat_map, range_with_len}
 use Rattle.std.proofs.lemmas.List.{map-append}
 use Rattle.std.proofs.lemmas.Simd.{map-map}
-use Rattle.facts.proofs.Lists.{Every, every-append}
+use Rattle.base_facts.proofs.Lists.{Every, every-append}
 use Rattle.est_kernel.specs.Plain.{interface_count, outgoing_count, given_count}
 use Rattle.est_kernel.specs.Terms.{Term, Nothing, Present, Suspend, Seq, Loop, Par, Trap, Local, Awake}
 use Rattle.est_kernel.specs.Preorder.{statement_count}

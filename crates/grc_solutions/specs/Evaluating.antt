@@ -1,6 +1,6 @@
 -- Inner: how far an evaluation along an order has come.
 use Rattle.std.specs.Prelude.{◌≡◌, ℕ, ◌<◌, Bool, false, List, length, slice_index_or}
-use Rattle.est_base.specs.declared.indices.WireId.{WireId}
+use Rattle.base_types.specs.declared.indices.WireId.{WireId}
 use Rattle.grc_graph.specs.Formulas.{Formula}
 use Rattle.grc_graph.specs.WireOrders.{wire_at}
 use Rattle.grc_graph.specs.Walk.{State}

@@ -1,7 +1,7 @@
 -- Contract: the graph of a program by the numbers of its wires: evaluation orders, ranks, and walks that close.
 use Rattle.std.specs.Prelude.{◌≡◌, ℕ, ◌<◌, List, length, map, slice_index}
-use Rattle.digraph.specs.Walks.{IsClosedWalk}
-use Rattle.est_base.specs.declared.indices.WireId.{WireId}
+use Rattle.base_digraph.specs.Walks.{IsClosedWalk}
+use Rattle.base_types.specs.declared.indices.WireId.{WireId}
 use Rattle.est_kernel.specs.Plain.{Program}
 use Rattle.grc_graph.specs.Wires.{Wire}
 use Rattle.grc_graph.specs.Formulas.{Formula}

@@ -1,6 +1,6 @@
 -- Contract: when the equations of a graph have one solution in each instant, and the graph one run.
 use Rattle.std.specs.Prelude.{◌≡◌, ℕ, ◌<◌, Bool, List, All, Contains}
-use Rattle.est_base.specs.Items.{Item}
+use Rattle.base_types.specs.Items.{Item}
 use Rattle.est_kernel.specs.Plain.{Program}
 use Rattle.grc_graph.specs.Wires.{Wire}
 use Rattle.grc_graph.specs.Equations.{Equation}
@@ -9,7 +9,7 @@ use Rattle.grc_graph.specs.Reads.{ReadsOnly}
 use Rattle.grc_graph.specs.Selected.{HasExitCodes}
 use Rattle.grc_graph.specs.Walk.{State}
 use Rattle.grc_graph.specs.Readings.{Valuation}
-use Rattle.grc_graph.specs.GraphRuns.{PlainGraph, Solves, IsGraphRun, graph_of}
+use Rattle.grc_graph.specs.GraphRuns.{PlainGraph, SolvesGraph, IsGraphRun, graph_of}
 use Rattle.grc_solutions.specs.GraphWires.{equation_wires, Differ, program_edges}
 
 -- Of the wires that an equation reads, each that has an equation has a lower rank than the equation's own wire.
@@ -21,8 +21,8 @@ ReadUp rank es =
 abbrev pub HasOneSolution : PlainGraph → Type 0
 HasOneSolution g =
     (q : State) (event : List Bool)
-    → ((V : Valuation) × Solves g q event V)
-    × ((V W : Valuation) → Solves g q event V → Solves g q event W → (w : Wire) → V w ≡ W w)
+    → ((V : Valuation) × SolvesGraph g q event V)
+    × ((V W : Valuation) → SolvesGraph g q event V → SolvesGraph g q event W → (w : Wire) → V w ≡ W w)
 
 -- From each state there is a run over each list of items, and any two such runs are the same.
 abbrev pub HasOneRun : PlainGraph → Type 0

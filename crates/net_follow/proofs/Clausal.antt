@@ -10,7 +10,7 @@ use Rattle.net_follow.specs.declared.literals.Clause.{Clause}
 use Rattle.net_follow.specs.declared.proving.Prover.{Prover}
 use Rattle.net_follow.specs.Literals.{IsSteady, holds, opposite, constant, AllHold, MeetsClauses, MeetsAll, Meets, meets_clause, from_parts, to_left, to_right}
 use Rattle.net_follow.specs.Knowledge.{Grows, Tries}
-use Rattle.net_follow.specs.Proving.{Models, Keeps, Shown, Sees, Denies, Denied, Begins, Noted, Entails}
+use Rattle.net_follow.specs.Proving.{Models, KeepsProof, Shown, Sees, Denies, Denied, Begins, Noted, Entails}
 use Rattle.net_follow.proofs.Knowledge.{opposite-value, grows-when}
 
 -- ---- the clauses of an equation
@@ -124,14 +124,14 @@ grows-third c l old new clash is grows =
 
 pub keeps-twice : (One Other Given : (Bool → Side → ℕ → Bool) → Type 0) (old mid new : Prover)
     → ((V : Bool → Side → ℕ → Bool) → IsSteady V → Given V → One V) → ((V : Bool → Side → ℕ → Bool) → IsSteady V → Given V → Other V)
-    → Keeps One old mid → Keeps Other mid new → Keeps Given old new
+    → KeepsProof One old mid → KeepsProof Other mid new → KeepsProof Given old new
 keeps-twice One Other Given old mid new one other a b = record {
   stays = λ V given models. b.stays V (other V models.steady given) (a.stays V (one V models.steady given) models);
 }
 
 -- a clause is added, and what it forces
 pub keeps-added : (c : Clause) (old new : Prover) (clash : Bool) → new.clauses.clauses.items ≡ old.clauses.clauses.items ++ c ∷ []
-    → Grows (λ V. meets_clause V c ≡ true) old.trail.known.items new.trail.known.items clash → Keeps (λ V. meets_clause V c ≡ true) old new
+    → Grows (λ V. meets_clause V c ≡ true) old.trail.known.items new.trail.known.items clash → KeepsProof (λ V. meets_clause V c ≡ true) old new
 keeps-added c old new clash is grows = record {
   stays = λ V given models. record {
     steady = models.steady;
@@ -142,8 +142,8 @@ keeps-added c old new clash is grows = record {
 
 -- the three clauses of an equation are added
 pub keeps-equation : (e : Equation) (p q r : Clause) (old one two new : Prover) → p ≡ from_parts e → q ≡ to_left e → r ≡ to_right e
-    → Keeps (λ V. meets_clause V p ≡ true) old one → Keeps (λ V. meets_clause V q ≡ true) one two → Keeps (λ V. meets_clause V r ≡ true) two new
-    → Keeps (λ V. Meets V e) old new
+    → KeepsProof (λ V. meets_clause V p ≡ true) old one → KeepsProof (λ V. meets_clause V q ≡ true) one two → KeepsProof (λ V. meets_clause V r ≡ true) two new
+    → KeepsProof (λ V. Meets V e) old new
 keeps-equation e p q r old one two new p_is q_is r_is a b c = record {
   stays = λ V meets models.
       let steady = models.steady in
@@ -180,7 +180,7 @@ pub sees-same : (c : Clause) (old new : Prover) (seen : Bool) → new.clauses.cl
 sees-same c old new seen clauses known sees = record { claims = λ h V m. sees.claims h V (models-same V old new clauses known m) }
 
 -- a clause that was seen to follow is added
-pub shown-added : (c : Clause) (old mid cut new : Prover) → Keeps (λ V. meets_clause V c ≡ true) cut new → Keeps (λ V. ⊤) old mid → Sees mid c true
+pub shown-added : (c : Clause) (old mid cut new : Prover) → KeepsProof (λ V. meets_clause V c ≡ true) cut new → KeepsProof (λ V. ⊤) old mid → Sees mid c true
     → cut.clauses.clauses.items ≡ mid.clauses.clauses.items → cut.trail.known.items ≡ mid.trail.known.items
     → Shown (λ V. meets_clause V c ≡ true) old new true
 shown-added c old mid cut new keeps settled sees clauses known = record {
@@ -244,7 +244,7 @@ begins-none p clauses known = record {
 }
 
 pub begins-more : (done more : List Equation) (e : Equation) (old new : Prover) → more ≡ done ++ e ∷ [] → Begins done old
-    → Keeps (λ V. Meets V e) old new → Begins more new
+    → KeepsProof (λ V. Meets V e) old new → Begins more new
 begins-more done more e old new is begins keeps = record {
   models = λ V steady all.
       let both : MeetsAll V (done ++ e ∷ []) = subst (MeetsAll V) is all in

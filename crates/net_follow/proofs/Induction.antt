@@ -2,9 +2,9 @@
 use Rattle.std.proofs.Common.{◌≡◌, ℕ, suc, Bool, true, false, ◌&&◌, List, [], ◌∷◌, ◌++◌, length, map, refl, sym, subst, arith, All}
 use Rattle.std.proofs.lemmas.List.{length-map, get_or_append_left}
 use Rattle.std.proofs.Common.{length-append}
-use Rattle.est_base.specs.Items.{Item, Event, EachEvent}
-use Rattle.machines.specs.Machines.{Follows}
-use Rattle.machines.proofs.Exports.{shows-through, shows-computed, computed-shows}
+use Rattle.base_types.specs.Items.{Item, Event, EachEvent}
+use Rattle.base_machines.specs.Machines.{Follows}
+use Rattle.base_machines.proofs.Exports.{shows-through, shows-computed, computed-shows}
 use Rattle.net_ir.specs.declared.netlist.Latch.{Latch}
 use Rattle.net_ir.specs.declared.netlist.NetOut.{NetOut}
 use Rattle.net_ir.specs.Gates.{value_in}

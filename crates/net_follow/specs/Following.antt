@@ -1,7 +1,7 @@
 -- Contract: what it means that one netlist follows another.
 use Rattle.std.specs.Prelude.{◌≡◌, Bool, List, length, map}
-use Rattle.est_base.specs.Items.{Item, EachEvent}
-use Rattle.machines.specs.Machines.{Follows}
+use Rattle.base_types.specs.Items.{Item, EachEvent}
+use Rattle.base_machines.specs.Machines.{Follows}
 use Rattle.net_ir.specs.Netlists.{Netlist}
 use Rattle.net_ir.specs.Runs.{net_machine, net_run, shown, values_from}
 

@@ -14,7 +14,7 @@ pub record Models (V : Bool → Side → ℕ → Bool) (p : Prover) : Type 0 whe
   pub known : AllHold V p.trail.known.items
 
 -- values that meet what was assumed, and the premise, meet what is assumed now
-pub record Keeps (Given : (Bool → Side → ℕ → Bool) → Type 0) (old new : Prover) : Type 0 where
+pub record KeepsProof (Given : (Bool → Side → ℕ → Bool) → Type 0) (old new : Prover) : Type 0 where
   pub stays : (V : Bool → Side → ℕ → Bool) → Given V → Models V old → Models V new
 
 -- where it is shown, values that meet what was assumed meet what is assumed now, and the claim

@@ -14,7 +14,7 @@ use crate::frames::{
 };
 use crate::literals::{Equation, Side};
 use crate::proving::unshown_claims;
-use est_base::NoMemory;
+use base_types::NoMemory;
 use net_ir::Net;
 use std::alloc::Global;
 

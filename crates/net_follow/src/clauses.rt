@@ -5,7 +5,7 @@ ghost use Rattle.net_follow.specs.Knowledge.{StandsIn};
 
 use crate::literals::{Clause, Literal, Side};
 use crate::trails::variable_index;
-use est_base::NoMemory;
+use base_types::NoMemory;
 use std::alloc::Global;
 
 /// Clauses, with a chain of links for each literal: each link is a place of the literal in a clause, and names the next

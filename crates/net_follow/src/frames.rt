@@ -8,7 +8,7 @@ ghost use Rattle.net_follow.specs.Frames.{gate_equations, input_equations, init_
 ghost use Rattle.net_follow.specs.Frames.{shows_equation, output_equations};
 
 use crate::literals::{Equation, Literal, Side, constant, moved_equation, opposite};
-use est_base::{NoMemory, Text};
+use base_types::{NoMemory, Text};
 use net_ir::{Gate, Latch, NetOut, Op};
 
 /// A net of a netlist, in an instant or in the next one.

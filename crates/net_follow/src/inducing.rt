@@ -9,7 +9,7 @@ ghost use Rattle.net_follow.specs.Inducing.{own_equations, is_late};
 use crate::frames::{push_gates, push_inits, push_links, push_moved};
 use crate::literals::{Equation, Literal, Side, constant, opposite};
 use crate::proving::{Prover, assuming};
-use est_base::NoMemory;
+use base_types::NoMemory;
 use net_ir::Net;
 use std::alloc::Global;
 

@@ -2,14 +2,14 @@
 
 ghost use Rattle.std.specs.Prelude.{⊤, ◌≡◌, [], true, IfOk, OnOk};
 ghost use Rattle.net_follow.specs.Literals.{meets_clause, Meets, from_parts, to_left, to_right};
-ghost use Rattle.net_follow.specs.Proving.{Keeps, Shown, Sees, Denies, Denied, Begins, Noted, Entails};
+ghost use Rattle.net_follow.specs.Proving.{KeepsProof, Shown, Sees, Denies, Denied, Begins, Noted, Entails};
 ghost use Rattle.net_follow.specs.Knowledge.{Grows};
 
 use crate::clauses::Clauses;
 use crate::literals::{Clause, Equation, constant, opposite};
 use crate::refuting::{look_at, propagate, refutes};
 use crate::trails::Trail;
-use est_base::NoMemory;
+use base_types::NoMemory;
 use std::alloc::Global;
 
 // How many literals are tried in one another.
@@ -103,7 +103,7 @@ impl Prover {
 
     // Assumes a clause.
     fn add(&mut self, clause: Clause) -> Result<(), NoMemory>
-        ensures { OnOk result (Keeps (λ V. meets_clause V clause ≡ true) self.old self.new) }
+        ensures { OnOk result (KeepsProof (λ V. meets_clause V clause ≡ true) self.old self.new) }
     {
         self.clauses.add(clause)?;
         let _clash = look_at(&mut self.trail, clause)?;
@@ -112,7 +112,7 @@ impl Prover {
 
     // Assumes an equation.
     fn assume(&mut self, equation: Equation) -> Result<(), NoMemory>
-        ensures { OnOk result (Keeps (λ V. Meets V equation) self.old self.new) }
+        ensures { OnOk result (KeepsProof (λ V. Meets V equation) self.old self.new) }
     {
         self.add(from_parts(equation))?;
         self.add(to_left(equation))?;
@@ -123,7 +123,7 @@ impl Prover {
     // Follows up what is known.
     fn settle(&mut self) -> Result<(), NoMemory>
         ensures clauses { OnOk result (self.new.clauses ≡ self.old.clauses) }
-        ensures keeps { OnOk result (Keeps (λ V. ⊤) self.old self.new) }
+        ensures keeps { OnOk result (KeepsProof (λ V. ⊤) self.old self.new) }
     {
         self.trail.effort = u64::MAX;
         self.trail.reach = u64::MAX;

@@ -7,7 +7,7 @@ ghost use Rattle.net_follow.specs.Knowledge.{Grows, Tries};
 use crate::clauses::Clauses;
 use crate::literals::{Clause, Literal, opposite};
 use crate::trails::Trail;
-use est_base::NoMemory;
+use base_types::NoMemory;
 
 // How often what is known is looked at again.
 const ROUNDS: u64 = 6;

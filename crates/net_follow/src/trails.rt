@@ -5,7 +5,7 @@ ghost use Rattle.net_follow.specs.Literals.{holds};
 ghost use Rattle.net_follow.specs.Knowledge.{Tells, HasValue, Grows};
 
 use crate::literals::{Literal, Side};
-use est_base::NoMemory;
+use base_types::NoMemory;
 use std::alloc::Global;
 
 /// The literals that are known, and for each net where it may stand among them: what a slot says is looked up there, so

@@ -2,16 +2,16 @@
 use Rattle.std.proofs.Common.{◌≡◌, ℕ, ◌+◌, ◌<◌, ◌≤◌, List, [], ◌∷◌, ◌++◌, length, map, take, slice_index_or, refl, sym, ap, ◌∙◌, subst, arith}
 use Rattle.std.specs.List.{sum_by}
 use Rattle.std.proofs.lemmas.List.{take_all}
-use Rattle.est_base.specs.declared.indices.NetId.{NetId}
-use Rattle.est_base.specs.declared.indices.WireId.{WireId}
+use Rattle.base_types.specs.declared.indices.NetId.{NetId}
+use Rattle.base_types.specs.declared.indices.WireId.{WireId}
 use Rattle.grc_graph.specs.Formulas.{Formula}
 use Rattle.grc_graph.specs.declared.graph.Graph.{Graph}
 use Rattle.grc_graph.specs.PlainGraphs.{names_of}
 use Rattle.grc_graph.specs.Reads.{IsReadingOrder}
 use Rattle.grc_graph.specs.WireOrders.{wire_at}
 use Rattle.grc_graph.proofs.Exports.{length-names, place-of}
-use Rattle.grc_words.specs.declared.table.Words.{Words}
-use Rattle.grc_words.specs.WordLaws.{AreWordsOf}
+use Rattle.grc_formulas.specs.declared.table.Words.{Words}
+use Rattle.grc_formulas.specs.WordLaws.{AreWordsOf}
 use Rattle.net_ir.specs.Gates.{carried}
 use Rattle.net_gen.specs.Costs.{wire_cost, gates_at_most}
 use Rattle.grc_graph.specs.GateCosts.{cost_of}

@@ -5,13 +5,13 @@ use Rattle.std.specs.List.{prefix_len, sum_by}
 use Rattle.std.proofs.lemmas.Bool.{and_parts, eqb-true, cases_lt}
 use Rattle.std.proofs.lemmas.List.{get_or-set_same, get_or-set_other, get_or-drop, length-set, length_push}
 use Rattle.std.proofs.lemmas.List.Sums.{prefix_len_passes, sum_by-set}
-use Rattle.est_base.specs.declared.indices.NetId.{NetId}
-use Rattle.est_base.specs.declared.indices.WireId.{WireId}
+use Rattle.base_types.specs.declared.indices.NetId.{NetId}
+use Rattle.base_types.specs.declared.indices.WireId.{WireId}
 use Rattle.grc_graph.specs.declared.graph.Graph.{Graph}
 use Rattle.grc_graph.specs.declared.wires.Wire.{Wire}
 use Rattle.grc_graph.specs.declared.wires.Wire.TheVariants as wires
-use Rattle.grc_words.specs.declared.table.Words.{Words}
-use Rattle.grc_words.specs.WordLaws.{any_from, is_end_upto, first_end, ends_upto}
+use Rattle.grc_formulas.specs.declared.table.Words.{Words}
+use Rattle.grc_formulas.specs.WordLaws.{any_from, is_end_upto, first_end, ends_upto}
 use Rattle.net_ir.specs.declared.netlist.Op.{Op}
 use Rattle.net_ir.specs.declared.netlist.Op.TheVariants.{Copy, Or}
 use Rattle.net_gen.specs.Drawings.{Drawing, next_number, net_at, Placed, with_gate, with_run, noted_run, noted_number, NotedFits, with_run_once}

@@ -13,12 +13,12 @@ use Rattle.grc_graph.specs.Layers.{Resumed}
 use Rattle.grc_graph.specs.PlainGraphs.{formula_of, instances_of, names_of, equations_of, plain_graph, wire_at}
 use Rattle.grc_graph.specs.Wires.{Wire, Go, same_wire}
 use Rattle.grc_graph.proofs.Exports.{equations-all, length-names}
-use Rattle.grc_words.specs.declared.table.Row.{Row}
-use Rattle.grc_words.specs.declared.table.Words.{Words}
-use Rattle.grc_words.specs.Occasions.{Occasion, FalseOffWires, state_in, surroundings}
-use Rattle.grc_words.specs.Rows.{row_value, row_values}
-use Rattle.grc_words.specs.WordLaws.{WordsFit, late_bounds}
-use Rattle.grc_words.proofs.Exports.{rows-met}
+use Rattle.grc_formulas.specs.declared.table.Row.{Row}
+use Rattle.grc_formulas.specs.declared.table.Words.{Words}
+use Rattle.grc_formulas.specs.Occasions.{Occasion, FalseOffWires, state_in, surroundings}
+use Rattle.grc_formulas.specs.Rows.{row_value, row_values}
+use Rattle.grc_formulas.specs.WordLaws.{WordsFit, late_bounds}
+use Rattle.grc_formulas.proofs.Exports.{rows-met}
 use Rattle.net_gen.specs.Senses.{Instant, form_sense, wire_sense}
 
 any-equations : (w : Wire) (insts : List Instance) (all names : List Wire) (forms : List Formula) → length forms ≡ length names

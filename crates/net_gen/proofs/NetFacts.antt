@@ -4,25 +4,25 @@ use Rattle.std.proofs.Common.{slice_index_or, refl, sym, ap, ◌∙◌, subst, a
 use Rattle.std.proofs.lemmas.Bool.{and_parts}
 use Rattle.std.proofs.lemmas.List.{length-map, get_or-map, get_or_default, take-append-drop, take-take, drop-take, length-take-le}
 use Rattle.std.proofs.lemmas.List.Elements.{All-take, All-drop}
-use Rattle.est_base.specs.Distinct.{all_differ, none_shared}
-use Rattle.est_base.specs.Names.{is_name, is_same_name}
-use Rattle.est_base.specs.declared.indices.NetId.{NetId}
-use Rattle.est_base.specs.declared.indices.WireId.{WireId}
+use Rattle.base_types.specs.Distinct.{all_differ, none_shared}
+use Rattle.base_types.specs.Names.{is_name, is_same_name}
+use Rattle.base_types.specs.declared.indices.NetId.{NetId}
+use Rattle.base_types.specs.declared.indices.WireId.{WireId}
 use Rattle.est_kernel.specs.Plain.{Program, program_of, interface_count, given_count, outgoing_count, given_names, outgoing_names}
 use Rattle.est_kernel.specs.WellFormed.{HasNames}
 use Rattle.grc_graph.specs.declared.formulas.Formula.{Formula}
 use Rattle.grc_graph.specs.declared.formulas.Formula.TheVariants as formulas
 use Rattle.grc_graph.specs.declared.graph.Graph.{Graph}
 use Rattle.grc_graph.specs.Formulas as plain
-use Rattle.grc_graph.specs.GraphRuns.{Solves, formula_value}
+use Rattle.grc_graph.specs.GraphRuns.{SolvesGraph, formula_value}
 use Rattle.grc_graph.specs.GraphRuns as graphs
 use Rattle.grc_graph.specs.PlainGraphs.{formula_of, instances_of, names_of, plain_graph, wire_at}
 use Rattle.grc_graph.specs.Reads.{IsReadingOrder}
-use Rattle.grc_words.specs.declared.table.Source.{Source}
-use Rattle.grc_words.specs.declared.table.Source.TheVariants as sources
-use Rattle.grc_words.specs.declared.table.Words.{Words}
-use Rattle.grc_words.specs.Occasions.{Occasion, state_in}
-use Rattle.grc_words.specs.WordLaws.{AreWordsOf, value_of}
+use Rattle.grc_formulas.specs.declared.table.Source.{Source}
+use Rattle.grc_formulas.specs.declared.table.Source.TheVariants as sources
+use Rattle.grc_formulas.specs.declared.table.Words.{Words}
+use Rattle.grc_formulas.specs.Occasions.{Occasion, state_in}
+use Rattle.grc_formulas.specs.WordLaws.{AreWordsOf, value_of}
 use Rattle.net_ir.specs.declared.netlist.Gate.{Gate}
 use Rattle.net_ir.specs.declared.netlist.Latch.{Latch}
 use Rattle.net_ir.specs.declared.netlist.NetOut.{NetOut}

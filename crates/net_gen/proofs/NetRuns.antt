@@ -3,7 +3,7 @@ use Rattle.std.proofs.Common.{◌≡◌, ℕ, ◌+◌, Bool, true, false, List, 
 use Rattle.std.specs.Bool.{⊤}
 use Rattle.std.proofs.lemmas.Bool.{false≢true}
 use Rattle.std.proofs.lemmas.List.{length-map, get_or-map}
-use Rattle.est_base.specs.Items.{Item, Event, Reset, EachEvent}
+use Rattle.base_types.specs.Items.{Item, Event, Reset, EachEvent}
 use Rattle.est_kernel.specs.Plain.{program_of, given_count}
 use Rattle.grc_graph.specs.declared.formulas.Formula.{Formula}
 use Rattle.grc_graph.specs.declared.formulas.Formula.TheVariants as formulas
@@ -13,7 +13,7 @@ use Rattle.grc_graph.specs.GraphRuns.{IsGraphRun, formula_value}
 use Rattle.grc_graph.specs.GraphRuns as graphs
 use Rattle.grc_graph.specs.PlainGraphs.{formula_of, instances_of, names_of, plain_graph}
 use Rattle.grc_graph.specs.Readings.{Valuation}
-use Rattle.grc_words.specs.Occasions.{Occasion, state_of, state_in}
+use Rattle.grc_formulas.specs.Occasions.{Occasion, state_of, state_in}
 use Rattle.net_ir.specs.Netlists.{Netlist}
 use Rattle.net_ir.specs.Runs.{Shown, shown, net_values, initial_latches, next_latches, values_from}
 use Rattle.net_gen.specs.Generated.{HasInterfaceOf, Carries, ReactsAs, FollowsInstants, FollowsRun, FollowsRuns, EachInstant, shown_as}

@@ -6,7 +6,7 @@ use Rattle.std.proofs.lemmas.Bool.{and_parts, ltb-true, leb-true, eqb-true}
 use Rattle.std.proofs.lemmas.List.{get_or_default, get_or-map}
 use Rattle.std.proofs.Common.{drop, length-drop}
 use Rattle.std.proofs.lemmas.List.Sums.{AllPass-from_list_all, prefix_len-le-length}
-use Rattle.est_base.specs.declared.indices.WireId.{WireId}
+use Rattle.base_types.specs.declared.indices.WireId.{WireId}
 use Rattle.grc_graph.specs.declared.formulas.Formula.{Formula}
 use Rattle.grc_graph.specs.declared.formulas.Formula.TheVariants as formulas
 use Rattle.grc_graph.specs.declared.graph.Graph.{Graph}
@@ -18,13 +18,13 @@ use Rattle.grc_graph.specs.Layers.{Resumed}
 use Rattle.grc_graph.specs.PlainGraphs.{formula_of, wire_of, instances_of, instance_at, names_of, wire_at}
 use Rattle.grc_graph.specs.Reads.{ReadsOnly}
 use Rattle.grc_graph.specs.Wires as plain_wires
-use Rattle.grc_words.specs.declared.table.Source.{Source}
-use Rattle.grc_words.specs.declared.table.Source.TheVariants as sources
-use Rattle.grc_words.specs.declared.table.Row.{Row}
-use Rattle.grc_words.specs.declared.table.Row.TheVariants as rows
-use Rattle.grc_words.specs.declared.table.Words.{Words}
-use Rattle.grc_words.specs.Rows.{Bounds, source_fits, row_fits}
-use Rattle.grc_words.specs.WordLaws.{AreWordsOf, WordsFit, early_bounds, late_bounds, selected_source, is_end_upto, first_end, ends_upto}
+use Rattle.grc_formulas.specs.declared.table.Source.{Source}
+use Rattle.grc_formulas.specs.declared.table.Source.TheVariants as sources
+use Rattle.grc_formulas.specs.declared.table.Row.{Row}
+use Rattle.grc_formulas.specs.declared.table.Row.TheVariants as rows
+use Rattle.grc_formulas.specs.declared.table.Words.{Words}
+use Rattle.grc_formulas.specs.Rows.{Bounds, source_fits, row_fits}
+use Rattle.grc_formulas.specs.WordLaws.{AreWordsOf, WordsFit, early_bounds, late_bounds, selected_source, is_end_upto, first_end, ends_upto}
 use Rattle.net_gen.specs.Drawings.{Drawing, Placed}
 use Rattle.net_gen.specs.Readiness.{SourceReady, FormulaReady, EndsReady, SourceReads, RowReads, RowsReady, RowsPlaced, WiresPlaced, kept_source, held_source}
 use Rattle.net_gen.specs.Senses.{Sound, first_of}

@@ -3,13 +3,13 @@ use Rattle.std.proofs.Common.{◌≡◌, ℕ, ◌+◌, ◌-◌, ◌<◌, ◌≤�
 use Rattle.std.specs.List.{sum_by}
 use Rattle.std.proofs.lemmas.List.{length-take-le, take_all}
 use Rattle.std.proofs.lemmas.List.Sums.{sum_by_more_le}
-use Rattle.est_base.specs.declared.indices.NetId.{NetId}
-use Rattle.est_base.specs.declared.indices.WireId.{WireId}
+use Rattle.base_types.specs.declared.indices.NetId.{NetId}
+use Rattle.base_types.specs.declared.indices.WireId.{WireId}
 use Rattle.grc_graph.specs.declared.formulas.Formula.{Formula}
 use Rattle.grc_graph.specs.declared.formulas.Formula.TheVariants as formulas
 use Rattle.grc_graph.specs.declared.graph.Graph.{Graph}
 use Rattle.grc_graph.specs.GateCosts.{any_cost, cost_of}
-use Rattle.grc_words.specs.declared.table.Words.{Words}
+use Rattle.grc_formulas.specs.declared.table.Words.{Words}
 use Rattle.net_ir.specs.declared.netlist.Op.{Op}
 use Rattle.net_gen.specs.Costs.{gates_at_most, wire_cost}
 use Rattle.net_gen.specs.Drawings.{Drawing, gates_for, next_number}

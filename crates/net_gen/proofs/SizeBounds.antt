@@ -3,7 +3,7 @@ use Rattle.std.proofs.Common.{◌≡◌, ℕ, ◌+◌, ◌*◌, ◌<◌, ◌≤�
 use Rattle.std.specs.List.{sum_by}
 use Rattle.std.proofs.lemmas.List.{length-map, take_all}
 use Rattle.std.proofs.lemmas.List.Sums.{sum_by-cons}
-use Rattle.est_base.specs.declared.indices.WireId.{WireId}
+use Rattle.base_types.specs.declared.indices.WireId.{WireId}
 use Rattle.est_kernel.specs.Plain.{program_of}
 use Rattle.grc_graph.specs.declared.formulas.Formula as declared
 use Rattle.grc_graph.specs.declared.formulas.Formula.TheVariants as formulas
@@ -13,8 +13,8 @@ use Rattle.grc_graph.specs.GateCosts.{cost_of}
 use Rattle.grc_graph.specs.GraphSizes.{graph_size}
 use Rattle.grc_graph.specs.PlainGraphs.{instances_of, names_of, wire_of}
 use Rattle.grc_graph.specs.Reads.{IsReadingOrder}
-use Rattle.grc_words.specs.declared.table.Words.{Words}
-use Rattle.grc_words.specs.Sizes.{rows_at_most}
+use Rattle.grc_formulas.specs.declared.table.Words.{Words}
+use Rattle.grc_formulas.specs.Sizes.{rows_at_most}
 use Rattle.net_gen.specs.Costs.{wire_cost, gates_at_most}
 use Rattle.net_gen.specs.Senses.{first_of}
 use Rattle.net_gen.proofs.FirstNumbers.{numbers_are_few}

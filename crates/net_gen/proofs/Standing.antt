@@ -4,8 +4,8 @@ use Rattle.std.proofs.Common.{slice_index_or, refl, sym, ap, ◌∙◌, subst, a
 use Rattle.std.specs.List.{list_any}
 use Rattle.std.proofs.lemmas.Bool.{ne_eqb, eq-eqb}
 use Rattle.std.proofs.lemmas.List.Sums.{sum_by-cons}
-use Rattle.est_base.specs.Distinct.{all_differ}
-use Rattle.est_base.specs.declared.indices.WireId.{WireId}
+use Rattle.base_types.specs.Distinct.{all_differ}
+use Rattle.base_types.specs.declared.indices.WireId.{WireId}
 use Rattle.grc_graph.specs.WireOrders.{times}
 use Rattle.net_gen.proofs.Tables.{same-or-other}
 

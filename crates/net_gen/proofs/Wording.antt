@@ -5,11 +5,11 @@ use Rattle.std.specs.List.{list_any}
 use Rattle.std.proofs.lemmas.Bool.{cases_lt, lt-ltb, le-ltb}
 use Rattle.std.proofs.lemmas.List.{get_or_append_left, get_or-append-add}
 use Rattle.std.proofs.Math.ListN.{get_or-eq_default}
-use Rattle.est_base.specs.declared.indices.NetId.{NetId}
-use Rattle.est_base.specs.declared.indices.WireId.{WireId}
-use Rattle.est_base.specs.declared.indices.SigId.{SigId}
-use Rattle.est_base.specs.declared.indices.InstId.{InstId}
-use Rattle.est_base.specs.declared.indices.PathId.{PathId}
+use Rattle.base_types.specs.declared.indices.NetId.{NetId}
+use Rattle.base_types.specs.declared.indices.WireId.{WireId}
+use Rattle.base_types.specs.declared.indices.SigId.{SigId}
+use Rattle.base_types.specs.declared.indices.InstId.{InstId}
+use Rattle.base_types.specs.declared.indices.PathId.{PathId}
 use Rattle.grc_graph.specs.declared.formulas.Formula.{Formula}
 use Rattle.grc_graph.specs.declared.formulas.Formula.TheVariants as formulas
 use Rattle.grc_graph.specs.declared.graph.Graph.{Graph}
@@ -19,11 +19,11 @@ use Rattle.grc_graph.specs.PlainGraphs.{formula_of, instances_of, names_of, plai
 use Rattle.grc_graph.specs.Readings.{boolean_interpretation}
 use Rattle.grc_graph.specs.Walk.{is_initial}
 use Rattle.grc_graph.specs.Wires.{Wire}
-use Rattle.grc_words.specs.declared.table.Source.{Source}
-use Rattle.grc_words.specs.declared.table.Source.TheVariants as sources
-use Rattle.grc_words.specs.declared.table.Words.{Words}
-use Rattle.grc_words.specs.Occasions.{Occasion, state_of, state_in}
-use Rattle.grc_words.specs.WordLaws.{AreWordsOf, selected_source, first_end, ends_upto}
+use Rattle.grc_formulas.specs.declared.table.Source.{Source}
+use Rattle.grc_formulas.specs.declared.table.Source.TheVariants as sources
+use Rattle.grc_formulas.specs.declared.table.Words.{Words}
+use Rattle.grc_formulas.specs.Occasions.{Occasion, state_of, state_in}
+use Rattle.grc_formulas.specs.WordLaws.{AreWordsOf, selected_source, first_end, ends_upto}
 use Rattle.net_ir.specs.declared.netlist.Op.{Op}
 use Rattle.net_ir.specs.declared.netlist.Op.TheVariants.{Const, Copy, Not, And, Or}
 use Rattle.net_ir.specs.Gates.{value_in, gate_values}

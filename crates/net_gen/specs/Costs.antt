@@ -1,7 +1,7 @@
 -- To believe: the greatest number of gates that a netlist needs.
 use Rattle.std.specs.Prelude.{ℕ, ◌+◌, ◌*◌, true, List, length, slice_index_or}
 use Rattle.std.specs.List.{sum_by}
-use Rattle.est_base.specs.declared.indices.WireId.{WireId}
+use Rattle.base_types.specs.declared.indices.WireId.{WireId}
 use Rattle.est_kernel.specs.Plain.{Program}
 use Rattle.grc_graph.specs.declared.formulas.Formula.TheVariants as formulas
 use Rattle.grc_graph.specs.declared.graph.Graph.{Graph}

@@ -1,15 +1,15 @@
 -- Contract: that a netlist stands for a graph, in each instant and over items.
 use Rattle.std.specs.Prelude.{◌≡◌, ℕ, ◌+◌, ◌<◌, Bool, true, false, Some, List, [], ◌∷◌, length, map, slice_index_or, ⊤}
-use Rattle.est_base.specs.Items.{Item, EachEvent}
-use Rattle.est_base.specs.declared.indices.WireId.{WireId}
+use Rattle.base_types.specs.Items.{Item, EachEvent}
+use Rattle.base_types.specs.declared.indices.WireId.{WireId}
 use Rattle.est_kernel.specs.Plain.{program_of, given_count, given_names, outgoing_names}
 use Rattle.grc_graph.specs.declared.graph.Graph.{Graph}
-use Rattle.grc_graph.specs.GraphRuns.{Solves, IsGraphRun, formula_value}
+use Rattle.grc_graph.specs.GraphRuns.{SolvesGraph, IsGraphRun, formula_value}
 use Rattle.grc_graph.specs.GraphRuns as graphs
 use Rattle.grc_graph.specs.PlainGraphs.{names_of, plain_graph, wire_at}
 use Rattle.grc_graph.specs.Readings.{Valuation}
 use Rattle.grc_graph.specs.Walk.{Initial}
-use Rattle.grc_words.specs.Occasions.{Occasion, state_in}
+use Rattle.grc_formulas.specs.Occasions.{Occasion, state_in}
 use Rattle.net_ir.specs.declared.netlist.Gate.{Gate}
 use Rattle.net_ir.specs.Gates.{value_in}
 use Rattle.net_ir.specs.Netlists.{Netlist, first_gate, output_names}
@@ -30,7 +30,7 @@ Carries g net values V = (k : ℕ) (x : Gate) (v : WireId) → k < length net.ga
     → value_in values (first_gate net + k) ≡ V (wire_at (names_of g) v.0)
 
 -- what a net shows where a graph shows this
-abbrev pub shown_as : graphs.Shown → Shown
+abbrev pub shown_as : graphs.ShownInstant → Shown
 shown_as s = record { outputs = s.outputs; paused = s.paused }
 
 -- What the nets' values are on an occasion: gates carry their wires' values, the net shows what the graph does, and the
@@ -43,7 +43,7 @@ pub record ReactsAs (g : Graph) (net : Netlist) (t : Occasion g) (values : List 
 
 -- on every occasion on which the wires solve the graph's equations
 abbrev pub FollowsInstants : Graph → Netlist → Type 0
-FollowsInstants g net = (t : Occasion g) → Solves (plain_graph g) (state_in g t) t.event t.valuation
+FollowsInstants g net = (t : Occasion g) → SolvesGraph (plain_graph g) (state_in g t) t.event t.valuation
     → ReactsAs g net t (net_values net (t.boot ∷ t.bits) t.event)
 
 -- the same of each instant in two lists of equal length

@@ -1,10 +1,10 @@
 -- Inner: how a circuit grows.
 use Rattle.std.specs.Prelude.{◌≡◌, ℕ, ◌+◌, ◌<◌, ◌≤◌, ◌^◌, Option, Some, None, List, [], length}
 use Rattle.std.specs.List.{sum_by}
-use Rattle.est_base.specs.declared.indices.NetId.{NetId}
-use Rattle.est_base.specs.declared.indices.WireId.{WireId}
+use Rattle.base_types.specs.declared.indices.NetId.{NetId}
+use Rattle.base_types.specs.declared.indices.WireId.{WireId}
 use Rattle.grc_graph.specs.declared.graph.Graph.{Graph}
-use Rattle.grc_words.specs.declared.table.Words.{Words}
+use Rattle.grc_formulas.specs.declared.table.Words.{Words}
 use Rattle.net_ir.specs.declared.netlist.Op.{Op}
 use Rattle.net_ir.specs.Gates.{carried}
 use Rattle.net_gen.specs.Drawings.{Drawing, gates_for}

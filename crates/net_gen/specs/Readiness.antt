@@ -1,16 +1,16 @@
 -- Inner: that a circuit has the nets that a source, a row or a formula reads.
 use Rattle.std.specs.Prelude.{◌≡◌, ℕ, ◌+◌, ◌<◌, ◌≤◌, false, Option, List, length, slice_index_or, All, ⊤}
-use Rattle.est_base.specs.declared.indices.NetId.{NetId}
+use Rattle.base_types.specs.declared.indices.NetId.{NetId}
 use Rattle.est_kernel.specs.Plain.{program_of, given_count}
 use Rattle.grc_graph.specs.declared.formulas.Formula.{Formula}
 use Rattle.grc_graph.specs.declared.formulas.Formula.TheVariants as formulas
 use Rattle.grc_graph.specs.declared.graph.Graph.{Graph}
-use Rattle.grc_words.specs.declared.table.Source.{Source}
-use Rattle.grc_words.specs.declared.table.Source.TheVariants as sources
-use Rattle.grc_words.specs.declared.table.Row.{Row}
-use Rattle.grc_words.specs.declared.table.Row.TheVariants as rows
-use Rattle.grc_words.specs.declared.table.Words.{Words}
-use Rattle.grc_words.specs.WordLaws.{selected_source, first_end, ends_upto}
+use Rattle.grc_formulas.specs.declared.table.Source.{Source}
+use Rattle.grc_formulas.specs.declared.table.Source.TheVariants as sources
+use Rattle.grc_formulas.specs.declared.table.Row.{Row}
+use Rattle.grc_formulas.specs.declared.table.Row.TheVariants as rows
+use Rattle.grc_formulas.specs.declared.table.Words.{Words}
+use Rattle.grc_formulas.specs.WordLaws.{selected_source, first_end, ends_upto}
 use Rattle.net_ir.specs.declared.netlist.Op.{Op}
 use Rattle.net_ir.specs.declared.netlist.Op.TheVariants as ops
 use Rattle.net_gen.specs.Drawings.{Drawing, Placed, net_at, constant_net}

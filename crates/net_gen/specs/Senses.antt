@@ -3,20 +3,20 @@
 use Rattle.std.specs.Prelude.{◌≡◌, ℕ, ◌+◌, ◌-◌, ◌<◌, ◌≤◌, ◌^◌, Bool, true, false, ◌||◌, Option, Some, None, List, []}
 use Rattle.std.specs.Prelude.{◌∷◌, ◌++◌, length, slice_index_or}
 use Rattle.std.specs.List.{list_any}
-use Rattle.est_base.specs.declared.indices.NetId.{NetId}
-use Rattle.est_base.specs.declared.indices.WireId.{WireId}
+use Rattle.base_types.specs.declared.indices.NetId.{NetId}
+use Rattle.base_types.specs.declared.indices.WireId.{WireId}
 use Rattle.est_kernel.specs.Plain.{program_of, given_count}
 use Rattle.grc_graph.specs.declared.formulas.Formula.{Formula}
 use Rattle.grc_graph.specs.declared.graph.Graph.{Graph}
 use Rattle.grc_graph.specs.declared.wires.Wire.{Wire}
 use Rattle.grc_graph.specs.declared.wires.Wire.TheVariants as wires
-use Rattle.grc_graph.specs.GraphRuns.{Solves, formula_value}
+use Rattle.grc_graph.specs.GraphRuns.{SolvesGraph, formula_value}
 use Rattle.grc_graph.specs.PlainGraphs.{formula_of, instances_of, names_of, plain_graph, wire_at}
-use Rattle.grc_words.specs.declared.table.Source.{Source}
-use Rattle.grc_words.specs.declared.table.Words.{Words}
-use Rattle.grc_words.specs.Occasions.{Occasion, state_in, surroundings}
-use Rattle.grc_words.specs.Rows.{source_value, row_values}
-use Rattle.grc_words.specs.WordLaws.{any_from, first_end}
+use Rattle.grc_formulas.specs.declared.table.Source.{Source}
+use Rattle.grc_formulas.specs.declared.table.Words.{Words}
+use Rattle.grc_formulas.specs.Occasions.{Occasion, state_in, surroundings}
+use Rattle.grc_formulas.specs.Rows.{source_value, row_values}
+use Rattle.grc_formulas.specs.WordLaws.{any_from, first_end}
 use Rattle.net_ir.specs.declared.netlist.Gate.{Gate}
 use Rattle.net_ir.specs.declared.netlist.Op.{Op}
 use Rattle.net_ir.specs.Gates.{ReadsLower, operand_end, op_value, value_in, gate_values}
@@ -25,7 +25,7 @@ use Rattle.net_gen.specs.Drawings.{Drawing, next_number}
 -- an occasion on which the wires solve the graph's equations
 pub record Instant (g : Graph) : Type 0 where
   pub occasion : Occasion g
-  pub solves : Solves (plain_graph g) (state_in g occasion) occasion.event occasion.valuation
+  pub solves : SolvesGraph (plain_graph g) (state_in g occasion) occasion.event occasion.valuation
 
 abbrev pub Sense : Graph → Type 0
 Sense g = Instant g → Bool

@@ -5,7 +5,7 @@ ghost use Rattle.est_kernel.specs.Plain.{program_of, interface_count};
 ghost use Rattle.est_kernel.specs.WellFormed.{HasNames};
 ghost use Rattle.grc_graph.specs.PlainGraphs.{formula_of, instances_of, names_of};
 ghost use Rattle.grc_graph.specs.Reads.{IsReadingOrder};
-ghost use Rattle.grc_words.specs.WordLaws.{AreWordsOf};
+ghost use Rattle.grc_formulas.specs.WordLaws.{AreWordsOf};
 ghost use Rattle.net_ir.specs.Gates.{carried};
 ghost use Rattle.net_ir.specs.Runs.{netlist_of};
 ghost use Rattle.net_gen.specs.Assembled.{IsNetOf, boot_latch, leaf_latch};
@@ -13,9 +13,9 @@ ghost use Rattle.net_gen.specs.Costs.{gates_at_most};
 
 use crate::names::{input_names, outputs_of};
 use crate::whole::{Whole, make_circuit};
-use est_base::{NetId, NoMemory, Text};
+use base_types::{NetId, NoMemory, Text};
+use grc_formulas::Words;
 use grc_graph::{Graph, Order};
-use grc_words::Words;
 use net_ir::{Latch, Net};
 use std::alloc::Global;
 

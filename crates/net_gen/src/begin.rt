@@ -7,9 +7,9 @@ ghost use Rattle.net_gen.specs.Making.{Begun};
 ghost use Rattle.net_gen.specs.Senses.{first_of};
 
 use crate::circuit::Draft;
-use est_base::{NetId, NoMemory};
+use base_types::{NetId, NoMemory};
+use grc_formulas::Words;
 use grc_graph::Graph;
-use grc_words::Words;
 use net_ir::{Gate, Op};
 use std::alloc::Global;
 

@@ -6,8 +6,8 @@ ghost use Rattle.net_gen.specs.Drawings.{with_run_once, run_number_once, with_jo
 ghost use Rattle.net_gen.specs.Drawings.{constant_net, input_net, with_row, Placed};
 ghost use Rattle.net_gen.specs.Readiness.{SourceReady, RowReady, source_net, row_op};
 
-use est_base::{NetId, NoMemory, SigId, WireId};
-use grc_words::{Row, Source};
+use base_types::{NetId, NoMemory, SigId, WireId};
+use grc_formulas::{Row, Source};
 use net_ir::{Gate, Op};
 
 /// The gates so far, and which nets say what the wires and the rows of the graph say, as far as they

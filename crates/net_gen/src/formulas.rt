@@ -2,7 +2,7 @@
 
 ghost use Rattle.std.specs.Prelude.{◌≡◌, ◌+◌, ◌<◌, ◌≤◌, length, drop, IfOk, All};
 ghost use Rattle.std.specs.List.{prefix_len};
-ghost use Rattle.grc_words.specs.WordLaws.{AreWordsOf, is_end_upto, first_end, ends_upto};
+ghost use Rattle.grc_formulas.specs.WordLaws.{AreWordsOf, is_end_upto, first_end, ends_upto};
 ghost use Rattle.grc_graph.specs.GateCosts.{cost_of, any_cost};
 ghost use Rattle.net_gen.specs.Drawings.{drawing_of, Placed};
 ghost use Rattle.net_gen.specs.Growing.{HasRoom, Lowers};
@@ -10,9 +10,9 @@ ghost use Rattle.net_gen.specs.Readiness.{FormulaReady, EndsReady};
 ghost use Rattle.net_gen.specs.Senses.{Sound, form_sense, run_sense, any_sense};
 
 use crate::circuit::{Draft, entry};
-use est_base::{InstId, NetId, NoMemory, WireId};
+use base_types::{InstId, NetId, NoMemory, WireId};
+use grc_formulas::{Words, is_end_upto, selected_source};
 use grc_graph::{Formula, Graph, Wire};
-use grc_words::{Words, is_end_upto, selected_source};
 use net_ir::Op;
 
 /// A formula as an operator. Only its parts are made here, so that a wire's own gate can carry it.

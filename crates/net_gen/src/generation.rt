@@ -7,14 +7,14 @@ ghost use Rattle.grc_graph.specs.PlainGraphs.{formula_of, instances_of, names_of
 ghost use Rattle.grc_graph.specs.Reads.{IsReadingOrder};
 ghost use Rattle.net_ir.specs.Gates.{carried};
 ghost use Rattle.net_ir.specs.Runs.{netlist_of};
-ghost use Rattle.grc_words.specs.Sizes.{rows_at_most};
+ghost use Rattle.grc_formulas.specs.Sizes.{rows_at_most};
 ghost use Rattle.net_gen.specs.Costs.{gates_at_most, linear_bound};
 ghost use Rattle.net_gen.specs.Generated.{HasInterfaceOf, FollowsInstants, FollowsRuns};
 
 use crate::assembly::net_over;
-use est_base::NoMemory;
+use base_types::NoMemory;
+use grc_formulas::words;
 use grc_graph::{Graph, Order};
-use grc_words::words;
 use net_ir::Net;
 use std::alloc::Global;
 

@@ -4,7 +4,7 @@ ghost use Rattle.std.specs.Prelude.{◌≡◌, ◌+◌, ◌-◌, ◌<◌, ◌≤
 ghost use Rattle.std.specs.List.{sum_by};
 ghost use Rattle.grc_graph.specs.PlainGraphs.{formula_of, instances_of, names_of};
 ghost use Rattle.grc_graph.specs.Reads.{IsReadingOrder};
-ghost use Rattle.grc_words.specs.WordLaws.{AreWordsOf};
+ghost use Rattle.grc_formulas.specs.WordLaws.{AreWordsOf};
 ghost use Rattle.grc_graph.specs.GateCosts.{cost_of};
 ghost use Rattle.net_gen.specs.Costs.{wire_cost};
 ghost use Rattle.net_gen.specs.Drawings.{drawing_of};
@@ -15,9 +15,9 @@ ghost use Rattle.net_gen.specs.Senses.{Sound};
 
 use crate::circuit::Draft;
 use crate::formulas::lower;
-use est_base::{NetId, NoMemory};
+use base_types::{NetId, NoMemory};
+use grc_formulas::Words;
 use grc_graph::{Graph, Order};
-use grc_words::Words;
 use std::alloc::Global;
 
 /// Makes a gate for each row from one number up to another.

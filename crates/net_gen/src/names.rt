@@ -2,14 +2,14 @@
 
 ghost use Rattle.std.specs.Prelude.{◌≡◌, ◌+◌, ◌<◌, ◌≤◌, Some, length, map, slice_get, IfOk, All};
 ghost use Rattle.est_kernel.specs.Plain.{program_of, interface_count, outgoing_count, given_names, outgoing_names};
-ghost use Rattle.grc_words.specs.declared.table.Source.{Source};
+ghost use Rattle.grc_formulas.specs.declared.table.Source.{Source};
 ghost use Rattle.net_gen.specs.Drawings.{drawing_of};
 ghost use Rattle.net_gen.specs.Readiness.{SourceReady, source_net};
 
 use crate::circuit::Draft;
-use est_base::{NoMemory, Text};
+use base_types::{NoMemory, Text};
 use est_kernel::KernelProgram;
-use grc_words::Source;
+use grc_formulas::Source;
 use net_ir::NetOut;
 use std::alloc::Global;
 

@@ -3,7 +3,7 @@
 ghost use Rattle.std.specs.Prelude.{◌+◌, ◌<◌, ◌^◌, length, map, IfOk};
 ghost use Rattle.grc_graph.specs.PlainGraphs.{formula_of, instances_of, names_of};
 ghost use Rattle.grc_graph.specs.Reads.{IsReadingOrder};
-ghost use Rattle.grc_words.specs.WordLaws.{AreWordsOf};
+ghost use Rattle.grc_formulas.specs.WordLaws.{AreWordsOf};
 ghost use Rattle.net_gen.specs.Costs.{gates_at_most};
 ghost use Rattle.net_gen.specs.Drawings.{drawing_of};
 ghost use Rattle.net_gen.specs.Making.{CircuitMade};
@@ -12,9 +12,9 @@ ghost use Rattle.net_gen.specs.Senses.{first_of};
 use crate::begin::begin;
 use crate::circuit::Draft;
 use crate::making::{make_next, make_rows, make_wires};
-use est_base::{NetId, NoMemory};
+use base_types::{NetId, NoMemory};
+use grc_formulas::Words;
 use grc_graph::{Graph, Order};
-use grc_words::Words;
 use std::alloc::Global;
 
 /// A circuit that has a net for each wire and row, and the nets of the leaves' next values.

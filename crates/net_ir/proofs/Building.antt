@@ -8,9 +8,9 @@ use Rattle.std.proofs.lemmas.List.Folds.{list_any-append}
 use Rattle.std.proofs.lemmas.Grind.{elements}
 use Rattle.std.proofs.lemmas.List.Elements.{filter_map-append}
 use Rattle.std.proofs.lemmas.Bool.{ne_eqb}
-use Rattle.est_base.specs.declared.indices.WireId.{WireId}
+use Rattle.base_types.specs.declared.indices.WireId.{WireId}
 use Rattle.net_ir.specs.declared.netlist.Gate.{Gate}
-use Rattle.est_base.specs.Distinct.{all_differ, none_shared}
+use Rattle.base_types.specs.Distinct.{all_differ, none_shared}
 use Rattle.net_ir.specs.Gates.{operand_end, ReadsLower, carried}
 
 and_assoc3 : (a b c d e : Bool) → (not (a || b) && (c && d && e)) ≡ ((not a && c) && (not b && d) && e)

@@ -9,9 +9,9 @@ use Rattle.std.proofs.lemmas.List.{drop_more, take_more, length-map, get_or-map,
 use Rattle.std.proofs.lemmas.List.Folds.{list_any_at, list_any_more}
 use Rattle.std.proofs.lemmas.List.Sums.{prefix_len-le-length, passes_at_first}
 use Rattle.std.proofs.lemmas.Map.Made.{is_member-filter}
-use Rattle.est_base.specs.Names.{is_same_name}
-use Rattle.est_base.specs.Distinct.{all_differ, none_shared}
-use Rattle.est_base.proofs.Exports.{same_name-is}
+use Rattle.base_types.specs.Names.{is_same_name}
+use Rattle.base_types.specs.Distinct.{all_differ, none_shared}
+use Rattle.base_types.proofs.Exports.{same_name-is}
 use Rattle.net_ir.specs.NameLists.{is_among, first_again}
 
 -- ---- names among others

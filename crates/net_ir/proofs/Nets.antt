@@ -4,7 +4,7 @@ use Rattle.std.proofs.Common.{◌∙◌, ◌∷◌, ◌≡◌}
 use Rattle.std.proofs.lemmas.Bool.{cases_lt}
 use Rattle.std.proofs.lemmas.List.{length-drop, length-map}
 use Rattle.std.specs.List.{AllByRecursion}
-use Rattle.est_base.specs.Items.{Event, Item, Reset}
+use Rattle.base_types.specs.Items.{Event, Item, Reset}
 use Rattle.net_ir.proofs.Values.{length-gate_values}
 use Rattle.net_ir.specs.Gates.{value_in}
 use Rattle.net_ir.specs.Netlists.{Netlist, first_gate, net_count}

@@ -2,8 +2,8 @@
 -- instant and in the first one behind a reset, and in every other one the value that its net had one
 -- instant before.
 use Rattle.std.specs.Prelude.{Bool, List, ◌++◌, map}
-use Rattle.est_base.specs.Items.{Item}
-use Rattle.machines.specs.Machines.{Machine, computed, run_from}
+use Rattle.base_types.specs.Items.{Item}
+use Rattle.base_machines.specs.Machines.{Machine, computed, run_from}
 use Rattle.net_ir.specs.declared.netlist.Net.{Net}
 use Rattle.net_ir.specs.Gates.{value_in, gate_values}
 use Rattle.net_ir.specs.Netlists.{Netlist}

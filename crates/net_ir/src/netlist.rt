@@ -4,7 +4,7 @@ ghost use Rattle.std.specs.Prelude.{◌≡◌, ◌+◌, ◌≤◌, ◌↔◌, le
 ghost use Rattle.net_ir.specs.Gates.{operand_end, ReadsLower, op_value, value_in, gate_values, Solves};
 ghost use Rattle.net_ir.specs.Netlists.{IsNet, first_gate, net_count};
 
-use est_base::{NetId, Text, WireId};
+use base_types::{NetId, Text, WireId};
 
 /// What a gate makes of the nets that it reads.
 #[derive(Clone, Copy, Debug, PartialEq)]

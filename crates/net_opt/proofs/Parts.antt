@@ -1,10 +1,10 @@
 -- Netlists of parts.
 use Rattle.std.proofs.Common.{◌≡◌, ℕ, ◌+◌, ◌<◌, ◌≤◌, zero, suc, List, [], ◌∷◌, ◌++◌, length, map, take, get_or, slice_index_or}
 use Rattle.std.proofs.Common.{refl, sym, ap, ◌∙◌, subst, arith, All, IsTrue, nat_eq, Option, None, Some}
-use Rattle.est_base.specs.declared.indices.NetId.{NetId}
-use Rattle.est_base.specs.declared.indices.WireId.{WireId}
-use Rattle.est_base.specs.Distinct.{all_differ}
-use Rattle.est_base.specs.Names.{is_name, is_same_name}
+use Rattle.base_types.specs.declared.indices.NetId.{NetId}
+use Rattle.base_types.specs.declared.indices.WireId.{WireId}
+use Rattle.base_types.specs.Distinct.{all_differ}
+use Rattle.base_types.specs.Names.{is_name, is_same_name}
 use Rattle.net_ir.specs.declared.netlist.Op.{Op}
 use Rattle.net_ir.specs.declared.netlist.Gate.{Gate}
 use Rattle.net_ir.specs.declared.netlist.Latch.{Latch}

@@ -1,7 +1,7 @@
 -- Netlists that replace others, one after another.
 use Rattle.std.proofs.Common.{◌≡◌, Bool, List, [], ◌∷◌, ◌++◌, ◌≤◌, length, map, refl, sym, ap, ◌∙◌, subst, arith}
 use Rattle.std.proofs.lemmas.List.{length-map}
-use Rattle.est_base.specs.Items.{Item, Event, Reset, EachEvent}
+use Rattle.base_types.specs.Items.{Item, Event, Reset, EachEvent}
 use Rattle.net_ir.specs.declared.netlist.Gate.{Gate}
 use Rattle.net_ir.specs.declared.netlist.Latch.{Latch}
 use Rattle.net_ir.specs.Gates.{carried, gate_values, value_in, op_value}

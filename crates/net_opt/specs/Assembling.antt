@@ -1,6 +1,6 @@
 -- Inner: netlists of parts.
 use Rattle.std.specs.Prelude.{◌≡◌, ◌+◌, ◌<◌, ◌≤◌, ◌^◌, List, [], ◌∷◌, length, All}
-use Rattle.est_base.specs.declared.indices.NetId.{NetId}
+use Rattle.base_types.specs.declared.indices.NetId.{NetId}
 use Rattle.net_ir.specs.declared.netlist.NetOut.{NetOut}
 use Rattle.net_ir.specs.Gates.{ReadsLower, carried}
 use Rattle.net_ir.specs.Netlists.{Netlist}

@@ -1,14 +1,14 @@
 // A netlist of parts, with the names of a given one.
 
 ghost use Rattle.std.specs.Prelude.{◌≡◌, ◌+◌, ◌<◌, ◌≤◌, ◌^◌, [], true, length, map, IfOk, IfSome, All};
-ghost use Rattle.est_base.specs.declared.indices.NetId.{NetId};
+ghost use Rattle.base_types.specs.declared.indices.NetId.{NetId};
 ghost use Rattle.net_ir.specs.Gates.{ReadsLower, carried, operand_end};
 ghost use Rattle.net_ir.specs.Netlists.{IsNet};
 ghost use Rattle.net_ir.specs.Runs.{netlist_of};
 ghost use Rattle.net_opt.specs.Optimized.{SameInterface};
 ghost use Rattle.net_opt.specs.Assembling.{named_outputs, net_with, HasParts, Matching};
 
-use est_base::{NetId, NoMemory, Text};
+use base_types::{NetId, NoMemory, Text};
 use net_ir::{Gate, Latch, Net, NetOut, Op};
 use net_simp::copied_names;
 use std::alloc::Global;

@@ -2,7 +2,7 @@
 
 use crate::edges::{Edge, TRUE, edge_at, is_marked, mark, negated, negated_if, straight};
 use crate::graphs::Graph;
-use est_base::{NetId, NoMemory};
+use base_types::{NetId, NoMemory};
 use net_ir::{Net, Op};
 use std::alloc::Global;
 

@@ -2,7 +2,7 @@
 
 use crate::edges::{Edge, TRUE, edge_at, is_marked, number_at, straight};
 use crate::simulating::NetHistories;
-use est_base::NoMemory;
+use base_types::NoMemory;
 use net_follow::{Equation, Literal, Side};
 use net_ir::Net;
 use std::alloc::Global;

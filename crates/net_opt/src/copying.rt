@@ -4,7 +4,7 @@ use crate::building::{Built, place_of};
 use crate::edges::{Edge, UNKNOWN, edge_at, is_marked, mark, named};
 use crate::graphs::Graph;
 use crate::telling::{Told, latch_node, untold};
-use est_base::NoMemory;
+use base_types::NoMemory;
 use net_ir::{Net, Op};
 use std::alloc::Global;
 

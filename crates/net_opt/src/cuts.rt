@@ -4,7 +4,7 @@ use crate::edges::{Edge, negated, number_at, straight, word_at};
 use crate::excluding::Exclusions;
 use crate::graphs::Graph;
 use crate::tables::{Between, variable_table};
-use est_base::NoMemory;
+use base_types::NoMemory;
 use std::alloc::Global;
 
 // How many nodes may lie between a cut and its node.

@@ -3,7 +3,7 @@
 use crate::assembling::Parts;
 use crate::building::Built;
 use crate::edges::{Edge, TRUE, edge_at, is_marked, negated, negated_if, number_at, straight};
-use est_base::{NetId, NoMemory};
+use base_types::{NetId, NoMemory};
 use net_ir::{Gate, Latch, Net, Op};
 use std::alloc::Global;
 

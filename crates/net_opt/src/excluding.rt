@@ -4,7 +4,7 @@ use crate::classes::literal;
 use crate::edges::{Edge, TRUE, is_marked, mark, negated};
 use crate::simulating::unseen_pairs;
 use crate::telling::latch_node;
-use est_base::NoMemory;
+use base_types::NoMemory;
 use net_follow::{Equation, Instant, Literal, Side, inductive_claims};
 use net_ir::Net;
 use std::alloc::Global;

@@ -1,7 +1,7 @@
 // And-inverter graphs with one node for each pair of edges.
 
 use crate::edges::{Edge, TRUE, edge_at, negated, number_at, straight};
-use est_base::NoMemory;
+use base_types::NoMemory;
 use std::alloc::Global;
 
 // How often a pair is made shorter before it is taken as it is.

@@ -10,7 +10,7 @@ ghost use Rattle.net_opt.specs.Keeping.{kept, kept_gate, kept_output, AreRanked,
 ghost use Rattle.net_opt.specs.Optimized.{Optimizes};
 
 use crate::assembling::{Parts, joined_net, names_of};
-use est_base::{NetId, NoMemory};
+use base_types::{NetId, NoMemory};
 use net_ir::{Gate, Latch, Net, NetOut};
 use net_simp::{renamed_op, stand_in};
 use std::alloc::Global;

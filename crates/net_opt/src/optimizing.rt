@@ -13,7 +13,7 @@ use crate::showing::shown_part;
 use crate::silencing::silent_copy;
 use crate::simulating::histories;
 use crate::trying::{Change, tried_classes};
-use est_base::NoMemory;
+use base_types::NoMemory;
 use net_follow::{Instant, inductive_claims};
 use net_ir::Net;
 use net_simp::simplify;

@@ -4,7 +4,7 @@ use crate::edges::{Edge, TRUE, edge_at, negated, negated_if, straight};
 use crate::tables::{
     Between, depends_on, has, is_possible, narrowed, restricted, variable_table, width,
 };
-use est_base::NoMemory;
+use base_types::NoMemory;
 use std::alloc::Global;
 
 /// How many variables there are; their nodes follow what is always true.

@@ -6,7 +6,7 @@ use crate::edges::{Edge, TRUE, UNKNOWN, edge_at, is_marked, named, straight};
 use crate::excluding::Exclusions;
 use crate::graphs::Graph;
 use crate::plans::{Plan, VARIABLES, planned};
-use est_base::NoMemory;
+use base_types::NoMemory;
 use net_ir::Net;
 use std::alloc::Global;
 

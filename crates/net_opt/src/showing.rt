@@ -9,7 +9,7 @@ ghost use Rattle.net_opt.specs.Shown.{EachIsShown, IsClosed, IsRead};
 ghost use Rattle.net_opt.specs.Showing.{marked, AllAre, Grows, IsPart, ReadsMarked};
 
 use crate::keeping::kept_net;
-use est_base::{NetId, NoMemory};
+use base_types::{NetId, NoMemory};
 use net_ir::{Net, Op};
 use std::alloc::Global;
 

@@ -5,7 +5,7 @@ ghost use Rattle.net_ir.specs.Runs.{netlist_of};
 ghost use Rattle.net_opt.specs.Silencing.{silent_gate, silent_net, IsSilent};
 
 use crate::assembling::{Parts, joined_net, names_of};
-use est_base::{NetId, NoMemory};
+use base_types::{NetId, NoMemory};
 use net_ir::{Gate, Net, NetOut};
 use std::alloc::Global;
 

@@ -1,7 +1,7 @@
 // Values of a netlist over instants with drawn inputs, 64 runs at a time.
 
 use crate::edges::word_at;
-use est_base::{NetId, NoMemory};
+use base_types::{NetId, NoMemory};
 use net_ir::{Net, Op};
 use std::alloc::Global;
 

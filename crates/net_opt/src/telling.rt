@@ -4,7 +4,7 @@ use crate::building::{Built, marked_nodes, reader_counts};
 use crate::classes::Classes;
 use crate::edges::{Edge, edge_at, is_marked, negated_if, number_at, straight};
 use crate::graphs::Graph;
-use est_base::NoMemory;
+use base_types::NoMemory;
 use net_ir::Net;
 use std::alloc::Global;
 

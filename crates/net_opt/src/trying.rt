@@ -14,7 +14,7 @@ use crate::emitting::{Emitted, emitted_parts, parts_of};
 use crate::excluding::Exclusions;
 use crate::rewriting::rewritten;
 use crate::telling::{told_latches, untold};
-use est_base::NoMemory;
+use base_types::NoMemory;
 use net_follow::{Equation, Side, unshown_places};
 use net_ir::Net;
 use std::alloc::Global;

@@ -5,8 +5,8 @@ use Rattle.std.proofs.lemmas.List.{get_or_append_left, get_or_push, length_push}
 use Rattle.std.proofs.lemmas.List.Elements.{All-push}
 use Rattle.std.proofs.lemmas.Bool.{cases_lt, cases_Bool, lt-ltb}
 use Rattle.std.specs.Prelude.{nat_lt, ◌⊎◌}
-use Rattle.est_base.specs.declared.indices.NetId.{NetId}
-use Rattle.est_base.specs.declared.indices.WireId.{WireId}
+use Rattle.base_types.specs.declared.indices.NetId.{NetId}
+use Rattle.base_types.specs.declared.indices.WireId.{WireId}
 use Rattle.net_ir.specs.declared.netlist.Op.{Op}
 use Rattle.net_ir.specs.declared.netlist.Op.TheVariants.{Const, Copy, Not, And, Or}
 use Rattle.net_ir.specs.declared.netlist.Gate.{Gate}
@@ -16,10 +16,10 @@ use Rattle.net_simp.specs.SimpleNets.{reads, IsNoCopy}
 use Rattle.net_simp.specs.Renaming.{stand_in, renamed_op, OwnNames}
 use Rattle.net_simp.specs.Rules.{op_at, reduced_op}
 use Rattle.net_simp.specs.Forms.{form_of}
-use Rattle.net_simp.specs.Keeping.{Keeps, Any}
+use Rattle.net_simp.specs.Keeping.{KeepsValues, Any}
 use Rattle.std.specs.Map.{lookup}
 use Rattle.indexmap.specs.IndexMap.{IndexMap, IsEmpty}
-use Rattle.facts.proofs.Tests.{if-false, if-true}
+use Rattle.base_facts.proofs.Tests.{if-false, if-true}
 use Rattle.net_simp.specs.Drafts.{form_in, same_form, found_by, found_op, InRange, told, with_gate, name_of, set_form, with_form, no_copy, computes, Settled}
 use Rattle.net_simp.specs.Drafts.{outright_op}
 use Rattle.net_simp.specs.Drafts.{Finds, Settles, Drafted, FormsOnce, Folded}

@@ -5,12 +5,12 @@ use Rattle.std.proofs.lemmas.List.{get_or_append_left, get_or_push, length_push,
 use Rattle.std.proofs.lemmas.List.Elements.{filter_map-append}
 use Rattle.std.proofs.lemmas.Bool.{cases_lt}
 use Rattle.std.specs.Option.{option_map}
-use Rattle.est_base.specs.declared.indices.WireId.{WireId}
+use Rattle.base_types.specs.declared.indices.WireId.{WireId}
 use Rattle.net_ir.specs.declared.netlist.Gate.{Gate}
 use Rattle.net_ir.specs.Gates.{operand_end, op_value, value_in, gate_values, carried}
 use Rattle.net_ir.proofs.Exports.{ReadsLower-push, carried-silent, gate_values-append, length-gate_values}
 use Rattle.net_simp.specs.SameRuns.{carried_value, carried_values}
-use Rattle.net_simp.specs.Keeping.{Keeps, Any}
+use Rattle.net_simp.specs.Keeping.{KeepsValues, Any}
 
 gate_values-push : (v : List Bool) (gates : List Gate) (g : Gate)
     → gate_values v (gates ++ g ∷ []) ≡ gate_values v gates ++ op_value (value_in (gate_values v gates)) g.op ∷ []
@@ -69,7 +69,7 @@ carried-step first v gates g len =
     ∙ ap (λ b. carried_values first gates V ++ carried_value g.wire b) last
 
 -- no gate yet
-pub keeps-start : (first : ℕ) (f : ℕ → ℕ) (Asked : ℕ → Type 0) → ((n : ℕ) → n < first → f n ≡ n) → Keeps first [] [] f Asked
+pub keeps-start : (first : ℕ) (f : ℕ → ℕ) (Asked : ℕ → Type 0) → ((n : ℕ) → n < first → f n ≡ n) → KeepsValues first [] [] f Asked
 keeps-start first f Asked own = record {
   low = λ n h asked. let e = own n (omega arith) in omega arith;
   same = λ v n len h asked. ap (value_in v) (own n (omega arith));
@@ -79,7 +79,7 @@ keeps-start first f Asked own = record {
   fewer = omega arith;
 }
 
-low-step : (first : ℕ) (old new more : List Gate) (f h : ℕ → ℕ) (Asked : ℕ → Type 0) (g : Gate) → Keeps first old new f Asked
+low-step : (first : ℕ) (old new more : List Gate) (f h : ℕ → ℕ) (Asked : ℕ → Type 0) (g : Gate) → KeepsValues first old new f Asked
     → length new ≤ length more
     → ((n : ℕ) → n < first + length old → Asked n → h n ≡ f n)
     → (Asked (first + length old) → h (first + length old) < first + length more)
@@ -91,7 +91,7 @@ low-step first old new more f h Asked g k grows agree last n low asked = elim (c
       subst (λ m. h m < first + length more) (sym e) (last (subst Asked e asked))
 ]
 
-same-step : (first : ℕ) (old new more : List Gate) (f h : ℕ → ℕ) (Asked : ℕ → Type 0) (g : Gate) → Keeps first old new f Asked
+same-step : (first : ℕ) (old new more : List Gate) (f h : ℕ → ℕ) (Asked : ℕ → Type 0) (g : Gate) → KeepsValues first old new f Asked
     → ((v : List Bool) (n : ℕ) → length v ≡ first → n < first + length new → value_in (gate_values v more) n ≡ value_in (gate_values v new) n)
     → ((n : ℕ) → n < first + length old → Asked n → h n ≡ f n)
     → (Asked (first + length old) → (v : List Bool) → length v ≡ first
@@ -108,13 +108,13 @@ same-step first old new more f h Asked g k stays agree last v n len low asked = 
 ]
 
 -- one more old gate, without a new one
-pub keeps-skip : (first : ℕ) (old new : List Gate) (f h : ℕ → ℕ) (Asked : ℕ → Type 0) (g : Gate) → Keeps first old new f Asked
+pub keeps-skip : (first : ℕ) (old new : List Gate) (f h : ℕ → ℕ) (Asked : ℕ → Type 0) (g : Gate) → KeepsValues first old new f Asked
     → g.wire ≡ None
     → ((n : ℕ) → n < first + length old → Asked n → h n ≡ f n)
     → (Asked (first + length old) → h (first + length old) < first + length new)
     → (Asked (first + length old) → (v : List Bool) → length v ≡ first
     → value_in (gate_values v new) (h (first + length old)) ≡ op_value (value_in (gate_values v old)) g.op)
-    → Keeps first (old ++ g ∷ []) new h Asked
+    → KeepsValues first (old ++ g ∷ []) new h Asked
 keeps-skip first old new f h Asked g k silent agree low last =
     let longer = length_push old g in
     record {
@@ -130,7 +130,7 @@ keeps-skip first old new f h Asked g k silent agree low last =
     }
 
 -- one more old gate and one more new one, of its value and with its wire
-pub keeps-push : (first : ℕ) (old new : List Gate) (f h : ℕ → ℕ) (Asked : ℕ → Type 0) (g x : Gate) → Keeps first old new f Asked
+pub keeps-push : (first : ℕ) (old new : List Gate) (f h : ℕ → ℕ) (Asked : ℕ → Type 0) (g x : Gate) → KeepsValues first old new f Asked
     → x.wire ≡ g.wire
     → operand_end x.op ≤ first + length new
     → ((v : List Bool) → length v ≡ first → op_value (value_in (gate_values v new)) x.op ≡ op_value (value_in (gate_values v old)) g.op)
@@ -138,7 +138,7 @@ pub keeps-push : (first : ℕ) (old new : List Gate) (f h : ℕ → ℕ) (Asked 
     → (Asked (first + length old) → h (first + length old) < first + length new + 1)
     → (Asked (first + length old) → (v : List Bool) → length v ≡ first
     → value_in (gate_values v (new ++ x ∷ [])) (h (first + length old)) ≡ op_value (value_in (gate_values v new)) x.op)
-    → Keeps first (old ++ g ∷ []) (new ++ x ∷ []) h Asked
+    → KeepsValues first (old ++ g ∷ []) (new ++ x ∷ []) h Asked
 keeps-push first old new f h Asked g x k wires low says agree fits last =
     let wire_of = λ (y : Gate). option_map (λ (w : WireId). w.0) y.wire in
     let longer = length_push old g in
@@ -161,7 +161,7 @@ keeps-push first old new f h Asked g x k wires low says agree fits last =
 
 -- one pass and then another
 pub keeps-trans : (first : ℕ) (old mid new : List Gate) (f h : ℕ → ℕ) (Asked : ℕ → Type 0)
-    → Keeps first old mid f Any → Keeps first mid new h Asked → Keeps first old new (λ n. h (f n)) (λ n. Asked (f n))
+    → KeepsValues first old mid f Any → KeepsValues first mid new h Asked → KeepsValues first old new (λ n. h (f n)) (λ n. Asked (f n))
 keeps-trans first old mid new f h Asked a b = record {
   low = λ n low asked. b.low (f n) (a.low n low tt) asked;
   same = λ v n len low asked. b.same v (f n) len (a.low n low tt) asked ∙ a.same v n len low tt;

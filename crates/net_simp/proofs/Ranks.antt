@@ -4,15 +4,15 @@ use Rattle.std.proofs.Common.{if◌then◌else◌, refl, sym, ap, subst, ◌∙�
 use Rattle.std.specs.Prelude.{is_some}
 use Rattle.std.proofs.lemmas.List.{get_or_append_left, get_or_push, length_push, take_more, length-take-le, get_or-take}
 use Rattle.std.proofs.lemmas.Bool.{cases_lt, cases_eq, cases_order, both_ways}
-use Rattle.est_base.specs.declared.indices.NetId.{NetId}
-use Rattle.est_base.specs.declared.indices.WireId.{WireId}
+use Rattle.base_types.specs.declared.indices.NetId.{NetId}
+use Rattle.base_types.specs.declared.indices.WireId.{WireId}
 use Rattle.net_ir.specs.declared.netlist.Op.{Op}
 use Rattle.net_ir.specs.declared.netlist.Op.TheVariants.{Const, Copy, Not, And, Or}
 use Rattle.net_ir.specs.declared.netlist.Gate.{Gate}
 use Rattle.net_ir.specs.Gates.{operand_end, ReadsLower, op_value, value_in, gate_values}
 use Rattle.net_simp.specs.SimpleNets.{reads}
 use Rattle.net_simp.specs.Renaming.{stand_in, renamed_op, OwnNames}
-use Rattle.net_simp.specs.Keeping.{Keeps}
+use Rattle.net_simp.specs.Keeping.{KeepsValues}
 use Rattle.net_simp.specs.Needs.{marked, Closed}
 use Rattle.net_simp.specs.Packing.{rank, ComesFrom, Packed}
 use Rattle.net_simp.proofs.Keeping.{value-new, keeps-start, keeps-skip, keeps-push}

@@ -5,7 +5,7 @@ use Rattle.std.specs.Prelude.{◌⊎◌, is_some}
 use Rattle.std.specs.List.{list_any}
 use Rattle.std.proofs.lemmas.List.Folds.{list_any_at}
 use Rattle.std.proofs.lemmas.Bool.{eqb-true, eq-eqb, or_cases, or_left, or_right, both_ways}
-use Rattle.est_base.specs.declared.indices.NetId.{NetId}
+use Rattle.base_types.specs.declared.indices.NetId.{NetId}
 use Rattle.net_ir.specs.declared.netlist.Op.{Op}
 use Rattle.net_ir.specs.declared.netlist.Op.TheVariants.{Const, Copy, Not, And, Or}
 use Rattle.net_ir.specs.declared.netlist.Gate.{Gate}
@@ -20,7 +20,7 @@ use Rattle.net_simp.specs.Simplified.{Simplified}
 use Rattle.net_simp.specs.Renaming.{stand_in, through, renamed_op, renamed_out, renamed_latch, renamed_net}
 use Rattle.net_simp.specs.Rules.{op_at, reduced_op}
 use Rattle.net_simp.specs.Forms.{form_of}
-use Rattle.net_simp.specs.Keeping.{Keeps, Any}
+use Rattle.net_simp.specs.Keeping.{KeepsValues, Any}
 use Rattle.net_simp.specs.Drafts.{computes, Settled, Settles, FormsOnce, Folded}
 use Rattle.net_simp.specs.Needs.{marked, ReadFrom, NeedsMet, RootMarks, Needed, Closed}
 use Rattle.net_simp.specs.Packing.{rank, ComesFrom, Packed}
@@ -124,8 +124,8 @@ asks-for net draft kept mid new before marks p =
           (list_any_at (λ (l : Latch). stand_in draft l.from.0 == n) net.latches k d h (eq-eqb n n refl))));
     }
 
-keeps-same : (first : ℕ) (old new : List Gate) (f h : ℕ → ℕ) (Asked : ℕ → Type 0) → Keeps first old new f Asked
-    → ((n : ℕ) → n < first + length old → Asked n → h n ≡ f n) → Keeps first old new h Asked
+keeps-same : (first : ℕ) (old new : List Gate) (f h : ℕ → ℕ) (Asked : ℕ → Type 0) → KeepsValues first old new f Asked
+    → ((n : ℕ) → n < first + length old → Asked n → h n ≡ f n) → KeepsValues first old new h Asked
 keeps-same first old new f h Asked k same = record {
   low = λ n low asked. let e = same n low asked in let b = k.low n low asked in omega arith;
   same = λ v n len low asked. ap (λ m. value_in (gate_values v new) m) (same n low asked) ∙ k.same v n len low asked;
@@ -137,7 +137,7 @@ keeps-same first old new f h Asked k same = record {
 
 -- the passes together
 keeps : (net : Netlist) (draft kept : List NetId) (mid new : List Gate) (before marks : List Bool) → Passes net draft kept mid new before marks
-    → Keeps (first_gate net) net.gates new (through draft kept) (λ n. IsTrue (marked marks (stand_in draft n)))
+    → KeepsValues (first_gate net) net.gates new (through draft kept) (λ n. IsTrue (marked marks (stand_in draft n)))
 keeps net draft kept mid new before marks p =
     let first = first_gate net in
     keeps-same first net.gates new (λ n. rank marks (stand_in draft n)) (through draft kept) (λ n. IsTrue (marked marks (stand_in draft n)))

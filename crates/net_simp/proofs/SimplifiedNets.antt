@@ -4,10 +4,10 @@ use Rattle.std.proofs.Common.{All, nat_eq, length-append}
 use Rattle.std.proofs.lemmas.List.{length-map}
 use Rattle.std.proofs.lemmas.List.Elements.{All-map}
 use Rattle.std.proofs.lemmas.Simd.{map-map}
-use Rattle.facts.proofs.Lists.{map-equal}
-use Rattle.est_base.specs.Distinct.{all_differ}
-use Rattle.est_base.specs.Items.{Item, Event, Reset, EachEvent}
-use Rattle.est_base.specs.Names.{is_name, is_same_name}
+use Rattle.base_facts.proofs.Lists.{map-equal}
+use Rattle.base_types.specs.Distinct.{all_differ}
+use Rattle.base_types.specs.Items.{Item, Event, Reset, EachEvent}
+use Rattle.base_types.specs.Names.{is_name, is_same_name}
 use Rattle.net_ir.specs.declared.netlist.Gate.{Gate}
 use Rattle.net_ir.specs.declared.netlist.Latch.{Latch}
 use Rattle.net_ir.specs.declared.netlist.NetOut.{NetOut}
@@ -16,7 +16,7 @@ use Rattle.net_ir.specs.Netlists.{Netlist, IsNet, first_gate, net_count, output_
 use Rattle.net_ir.specs.Runs.{shown, net_values, initial_latches, next_latches, values_from}
 use Rattle.net_simp.specs.Renaming.{renamed_out, renamed_latch, renamed_net}
 use Rattle.net_simp.specs.SameRuns.{carried_values, SameParts, SameInstant, SameInstants, SameRuns}
-use Rattle.net_simp.specs.Keeping.{Keeps}
+use Rattle.net_simp.specs.Keeping.{KeepsValues}
 
 -- the nets that outputs, `paused` and latches show are asked for
 pub record AsksFor (net : Netlist) (Asked : ℕ → Type 0) : Type 0 where
@@ -33,7 +33,7 @@ names-same net f gates = map-map (λ (o : NetOut). o.name) (renamed_out f) net.o
 inits-same : (net : Netlist) (f : ℕ → ℕ) (gates : List Gate) → initial_latches (renamed_net net f gates) ≡ initial_latches net
 inits-same net f gates = map-map (λ (l : Latch). l.init) (renamed_latch f) net.latches
 
-pub is-net : (net : Netlist) (f : ℕ → ℕ) (Asked : ℕ → Type 0) (gates : List Gate) → IsNet net → Keeps (first_gate net) net.gates gates f Asked
+pub is-net : (net : Netlist) (f : ℕ → ℕ) (Asked : ℕ → Type 0) (gates : List Gate) → IsNet net → KeepsValues (first_gate net) net.gates gates f Asked
     → AsksFor net Asked → IsNet (renamed_net net f gates)
 is-net net f Asked gates n k a =
     let e = first-same net f gates in
@@ -54,7 +54,7 @@ is-net net f Asked gates n k a =
       carries_once = subst (λ ws. IsTrue (all_differ nat_eq ws)) (sym k.carries) n.carries_once;
     }
 
-pub same-parts : (net : Netlist) (f : ℕ → ℕ) (Asked : ℕ → Type 0) (gates : List Gate) → Keeps (first_gate net) net.gates gates f Asked
+pub same-parts : (net : Netlist) (f : ℕ → ℕ) (Asked : ℕ → Type 0) (gates : List Gate) → KeepsValues (first_gate net) net.gates gates f Asked
     → SameParts net (renamed_net net f gates)
 same-parts net f Asked gates k = record {
   name = refl;
@@ -66,7 +66,7 @@ same-parts net f Asked gates k = record {
 }
 
 -- in an instant
-pub same-instants : (net : Netlist) (f : ℕ → ℕ) (Asked : ℕ → Type 0) (gates : List Gate) → IsNet net → Keeps (first_gate net) net.gates gates f Asked
+pub same-instants : (net : Netlist) (f : ℕ → ℕ) (Asked : ℕ → Type 0) (gates : List Gate) → IsNet net → KeepsValues (first_gate net) net.gates gates f Asked
     → AsksFor net Asked → SameInstants net (renamed_net net f gates)
 same-instants net f Asked gates n k a = λ latches inputs many given.
     let v = inputs ++ latches in

@@ -2,8 +2,8 @@
 use Rattle.std.specs.Prelude.{⊤, ◌≡◌, ℕ, ◌+◌, ◌<◌, Bool, true, false, Option, None, Some, List, [], ◌∷◌, ◌++◌, length}
 use Rattle.std.specs.Prelude.{slice_index_or, if◌then◌else◌, IsTrue, All}
 use Rattle.indexmap.specs.IndexMap.{IndexMap, get}
-use Rattle.est_base.specs.declared.indices.NetId.{NetId}
-use Rattle.est_base.specs.declared.indices.WireId.{WireId}
+use Rattle.base_types.specs.declared.indices.NetId.{NetId}
+use Rattle.base_types.specs.declared.indices.WireId.{WireId}
 use Rattle.net_ir.specs.declared.netlist.Op.{Op}
 use Rattle.net_ir.specs.declared.netlist.Op.TheVariants.{Const, Copy, Not, And, Or}
 use Rattle.net_ir.specs.declared.netlist.Gate.{Gate}
@@ -14,7 +14,7 @@ use Rattle.net_simp.specs.SimpleNets.{IsNoCopy}
 use Rattle.net_simp.specs.Renaming.{stand_in}
 use Rattle.net_simp.specs.Rules.{op_at, reduced_op}
 use Rattle.net_simp.specs.Forms.{form_of}
-use Rattle.net_simp.specs.Keeping.{Keeps, Any}
+use Rattle.net_simp.specs.Keeping.{KeepsValues, Any}
 
 abbrev pub same_form : Form → Form → Bool
 same_form = (form_eq.ghosts).eq
@@ -109,7 +109,7 @@ pub record Settles (first : ℕ) (new : List Gate) : Type 0 where
 -- the new gates for these old ones, with what stands for each old net and what is known of forms
 pub record Drafted (first : ℕ) (old new : List Gate) (names : List NetId) (known : Form → Option NetId) : Type 0 where
   pub count : length names ≡ first + length old
-  pub keeps : Keeps first old new (stand_in names) Any
+  pub keeps : KeepsValues first old new (stand_in names) Any
   pub names_no_copy : (n : ℕ) → n < length names → no_copy (op_at first new (stand_in names n))
   pub settles : Settles first new
   pub finds : (q : Form) (n : NetId) → known q ≡ Some n → Finds first new q n.0
@@ -131,6 +131,6 @@ FormsOnce gates = (j k : ℕ) (d : Gate) → j < length gates → k < length gat
 -- what the first pass makes
 pub record Folded (first : ℕ) (old new : List Gate) (names : List NetId) : Type 0 where
   pub count : length names ≡ first + length old
-  pub keeps : Keeps first old new (stand_in names) Any
+  pub keeps : KeepsValues first old new (stand_in names) Any
   pub settles : Settles first new
   pub once : FormsOnce new

@@ -6,7 +6,7 @@ use Rattle.net_simp.specs.SameRuns.{carried_values}
 
 -- Each of the old nets that are asked for has the value of the new one that stands for it, whatever the inputs and the
 -- latches have. The gates that carry a wire are the same, in the same order, with the same values.
-pub record Keeps (first : ℕ) (old new : List Gate) (f : ℕ → ℕ) (Asked : ℕ → Type 0) : Type 0 where
+pub record KeepsValues (first : ℕ) (old new : List Gate) (f : ℕ → ℕ) (Asked : ℕ → Type 0) : Type 0 where
   pub low : (n : ℕ) → n < first + length old → Asked n → f n < first + length new
   pub same : (v : List Bool) (n : ℕ) → length v ≡ first → n < first + length old → Asked n
       → value_in (gate_values v new) (f n) ≡ value_in (gate_values v old) n

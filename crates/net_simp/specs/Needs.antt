@@ -3,7 +3,7 @@ use Rattle.std.specs.Prelude.{◌≡◌, ℕ, ◌+◌, ◌<◌, ◌≤◌, Bool,
 use Rattle.std.specs.Prelude.{IsTrue, ◌⊎◌, is_some}
 use Rattle.net_ir.specs.declared.netlist.Gate.{Gate}
 use Rattle.std.specs.List.{list_any}
-use Rattle.est_base.specs.declared.indices.NetId.{NetId}
+use Rattle.base_types.specs.declared.indices.NetId.{NetId}
 use Rattle.net_ir.specs.Netlists.{Netlist, first_gate}
 use Rattle.net_simp.specs.Renaming.{stand_in}
 use Rattle.net_simp.specs.SimpleNets.{reads}

@@ -1,10 +1,10 @@
 -- Inner: gates without those that are not marked.
 use Rattle.std.specs.Prelude.{◌≡◌, ℕ, ◌+◌, ◌<◌, zero, suc, Bool, List, [], ◌∷◌, length, slice_index_or, take}
 use Rattle.std.specs.Prelude.{if◌then◌else◌, IsTrue}
-use Rattle.est_base.specs.declared.indices.NetId.{NetId}
+use Rattle.base_types.specs.declared.indices.NetId.{NetId}
 use Rattle.net_ir.specs.declared.netlist.Gate.{Gate}
 use Rattle.net_simp.specs.Renaming.{stand_in, renamed_op}
-use Rattle.net_simp.specs.Keeping.{Keeps}
+use Rattle.net_simp.specs.Keeping.{KeepsValues}
 use Rattle.net_simp.specs.Needs.{marked}
 
 -- how many of the nets below this one are marked
@@ -27,4 +27,4 @@ pub record Packed (first : ℕ) (marks : List Bool) (gates new : List Gate) (nam
   pub stand_in_is : (n : ℕ) → n < length names → stand_in names n ≡ rank marks n
   pub total : first + length new ≡ rank marks (first + length gates)
   pub from : (j : ℕ) → j < length new → ComesFrom first marks gates new j
-  pub keeps : Keeps first gates new (rank marks) (λ n. IsTrue (marked marks n))
+  pub keeps : KeepsValues first gates new (rank marks) (λ n. IsTrue (marked marks n))

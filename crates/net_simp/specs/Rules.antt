@@ -3,7 +3,7 @@
 -- an or is true. The constant false implies each net, and each net implies the constant true.
 use Rattle.std.specs.Prelude.{⊤, ◌≡◌, ℕ, ◌-◌, Bool, true, false, not, ◌||◌, ◌==◌, Option, None, Some, List}
 use Rattle.std.specs.Prelude.{slice_index_or, if◌then◌else◌, nat_lt, IsTrue}
-use Rattle.est_base.specs.declared.indices.NetId.{NetId}
+use Rattle.base_types.specs.declared.indices.NetId.{NetId}
 use Rattle.net_ir.specs.declared.netlist.Op.{Op}
 use Rattle.net_ir.specs.declared.netlist.Op.TheVariants.{Const, Copy, Not, And, Or}
 use Rattle.net_ir.specs.declared.netlist.Gate.{Gate}

@@ -1,7 +1,7 @@
 -- To believe: what a simplified netlist has in common with the one that it is made from.
 use Rattle.std.specs.Prelude.{◌≡◌, ℕ, ◌+◌, ◌≤◌, Bool, Option, None, Some, List, [], ◌∷◌, ◌++◌, length, map}
-use Rattle.est_base.specs.Items.{Item, EachEvent}
-use Rattle.est_base.specs.declared.indices.WireId.{WireId}
+use Rattle.base_types.specs.Items.{Item, EachEvent}
+use Rattle.base_types.specs.declared.indices.WireId.{WireId}
 use Rattle.net_ir.specs.declared.netlist.Gate.{Gate}
 use Rattle.net_ir.specs.Gates.{value_in, carried}
 use Rattle.net_ir.specs.Netlists.{Netlist, first_gate, output_names}

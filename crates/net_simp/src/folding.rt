@@ -9,7 +9,7 @@ ghost use Rattle.net_simp.specs.Drafts.{InRange, Drafted, Folded, found_op, with
 use crate::forms::{Form, form_of};
 use crate::gates::{op_at, own_names, renamed_op};
 use crate::rules::{outright_op, reduced_op};
-use est_base::{NetId, NoMemory, WireId};
+use base_types::{NetId, NoMemory, WireId};
 use indexmap::IndexMap;
 use net_ir::{Gate, Op};
 use std::alloc::Global;

@@ -4,7 +4,7 @@ ghost use Rattle.std.specs.Prelude.{◌≡◌};
 ghost use Rattle.net_ir.specs.declared.netlist.Op.TheVariants.{And, Or};
 ghost use Rattle.net_simp.specs.Forms.{form_of};
 
-use est_base::NetId;
+use base_types::NetId;
 use net_ir::Op;
 
 /// An operator, by which gates that compute the same are found: the operands of an and, and of an or, stand in

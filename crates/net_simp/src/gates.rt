@@ -5,7 +5,7 @@ ghost use Rattle.net_ir.specs.Gates.{operand_end};
 ghost use Rattle.net_simp.specs.Renaming.{stand_in, renamed_op, OwnNames};
 ghost use Rattle.net_simp.specs.Rules.{op_at};
 
-use est_base::{NetId, NoMemory};
+use base_types::{NetId, NoMemory};
 use net_ir::{Gate, Op};
 use std::alloc::Global;
 

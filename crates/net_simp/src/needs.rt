@@ -12,7 +12,7 @@ ghost use Rattle.net_simp.specs.Needs.{marked, NeedsMet, Needed};
 
 use crate::folding::Renumbered;
 use crate::gates::stand_in;
-use est_base::{NetId, NoMemory};
+use base_types::{NetId, NoMemory};
 use net_ir::{Gate, Latch, Net, NetOut, Op};
 use std::alloc::Global;
 

@@ -12,7 +12,7 @@ use crate::folding::{Renumbered, folded_gates};
 use crate::gates::stand_in;
 use crate::needs::{first_marks, mark_needed};
 use crate::packing::packed_gates;
-use est_base::{NetId, NoMemory, Text};
+use base_types::{NetId, NoMemory, Text};
 use net_ir::{Gate, Latch, Net, NetOut};
 use std::alloc::Global;
 

@@ -7,7 +7,7 @@ ghost use Rattle.net_simp.specs.Needs.{Closed};
 
 use crate::folding::Renumbered;
 use crate::gates::{own_names, renamed_op};
-use est_base::{NetId, NoMemory};
+use base_types::{NetId, NoMemory};
 use net_ir::Gate;
 use std::alloc::Global;
 

@@ -6,7 +6,7 @@ ghost use Rattle.net_simp.specs.Rules.{is_low, is_high, negates, implies, are_op
 ghost use Rattle.net_simp.specs.Drafts.{outright_op};
 
 use crate::gates::op_at;
-use est_base::NetId;
+use base_types::NetId;
 use net_ir::{Gate, Op};
 
 /// An operator of the same value, over the gates so far: constants are folded, double negations and absorbed

@@ -2,9 +2,9 @@
 use Rattle.std.proofs.Common.{◌≡◌, ℕ, ◌+◌, ◌<◌, ◌==◌, suc, true, false, List, [], ◌∷◌, length, take, drop, get_or, sym, ◌∙◌, ap, arith}
 use Rattle.std.specs.Prelude.{if◌then◌else◌}
 use Rattle.std.specs.List.{prefix_len}
-use Rattle.est_base.specs.Names.{is_name_byte}
-use Rattle.expr_text.specs.Lexemes.{Gap, Lexeme, is_space, begins_name, mark_front}
-use Rattle.expr_text.specs.Plain.{front_at}
+use Rattle.base_types.specs.Names.{is_name_byte}
+use Rattle.net_expressions.specs.Lexemes.{Gap, Lexeme, is_space, begins_name, mark_front}
+use Rattle.net_expressions.specs.Plain.{front_at}
 use Rattle.vlog_text.specs.Tokens.{front, word_kind, mark_kind, slash_front, less_front, one_front}
 
 pub word-front : (text : List ℕ) (d : ℕ) → 0 < length text → is_space (get_or text 0 d) ≡ false → (get_or text 0 d == 47) ≡ false

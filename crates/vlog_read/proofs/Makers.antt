@@ -1,12 +1,12 @@
 -- Inner: the reading function makes what is meant of what is written: rules for the one are images of rules for the other.
 use Rattle.std.proofs.Common.{◌≡◌, ℕ, List, map, refl, sym, ◌∙◌, ap}
-use Rattle.read_rules.specs.Readings.{both, trail, on, the, loop, end_of, whole}
-use Rattle.read_rules.proofs.Exports.{Advances}
-use Rattle.expr_text.specs.Trees.{Expr}
-use Rattle.expr_text.specs.Grammar.{Written, meant}
-use Rattle.expr_text.specs.Reading.{makes_expr, makes_written}
-use Rattle.expr_text.proofs.Exports.{Image, image-mapped, image-both, image-trail, image-on, image-maybe, image-loop, image-self, image-advances, made}
-use Rattle.expr_text.proofs.Exports.{end-made, expr-meant}
+use Rattle.base_reader.specs.Readings.{both, trail, on, the, loop, end_of, whole}
+use Rattle.base_reader.proofs.Exports.{Advances}
+use Rattle.net_expressions.specs.Trees.{Expr}
+use Rattle.net_expressions.specs.Grammar.{Written, meant}
+use Rattle.net_expressions.specs.Reading.{makes_expr, makes_written}
+use Rattle.net_expressions.proofs.Exports.{Image, image-mapped, image-both, image-trail, image-on, image-maybe, image-loop, image-self, image-advances, made}
+use Rattle.net_expressions.proofs.Exports.{end-made, expr-meant}
 use Rattle.vlog_text.specs.Tokens.{Kind, AssignWord, Semicolon, Equals}
 use Rattle.vlog_text.specs.Grammar.{is, sign, name, assign_meant, source_meant}
 use Rattle.vlog_read.specs.Reading.{expr, head_rule, declaration_step, initial_step, assign_behind, assign_rule, assign_step, clocked_rule}

@@ -4,13 +4,13 @@ use Rattle.std.proofs.Common.{Option, Some, None, Bor}
 use Rattle.std.specs.Option.{option_or}
 use Rattle.std.specs.Prelude.{find, filter, codes, if◌then◌else◌}
 use Rattle.std.proofs.lemmas.List.{take_more, map-append, append-nil}
-use Rattle.est_base.specs.Names.{is_same_name}
+use Rattle.base_types.specs.Names.{is_same_name}
 use Rattle.net_ir.specs.NameLists.{is_among, first_again}
 use Rattle.net_ir.proofs.Exports.{find-same}
-use Rattle.expr_text.specs.NameTables.{again_from, name_told}
-use Rattle.expr_text.specs.Names.{or_else}
-use Rattle.expr_text.specs.Trees.{Expr}
-use Rattle.expr_text.proofs.Exports.{again-first}
+use Rattle.net_expressions.specs.NameTables.{again_from, name_told}
+use Rattle.net_expressions.specs.Names.{or_else}
+use Rattle.net_expressions.specs.Trees.{Expr}
+use Rattle.net_expressions.proofs.Exports.{again-first}
 use Rattle.vlog_text.specs.Trees.{Sort, Input, Output, Wire, Reg, Declaration, Source}
 use Rattle.vlog_text.specs.Names.{is_input, is_output, is_reg, names_of, declared, is_first, is_last, has_sign, paused_name, is_ill_named, ill_named}
 use Rattle.vlog_text.specs.Names.{declaration_found, portless, other_clock, Use, Kept, Assigned, Taken, uses, is_wrong, use_found, undeclared}

@@ -1,12 +1,12 @@
 -- Inner: a text that describes a module describes no other one, and has no fault.
 use Rattle.std.proofs.Common.{◌≡◌, ℕ, List, is_some, Result, Ok, Err, refl, sym, ◌∙◌, ap, subst}
 use Rattle.std.proofs.lemmas.Bool.{false≢true}
-use Rattle.read_rules.specs.declared.faults.Fault.{Fault}
-use Rattle.read_rules.specs.Readings.{whole}
-use Rattle.read_rules.specs.Exact.{Exactly, IsLeastPlace}
-use Rattle.expr_text.specs.Grammar.{Written}
-use Rattle.expr_text.specs.Reading.{makes_written}
-use Rattle.vlog_text.specs.Trees.{Source, Module}
+use Rattle.base_reader.specs.declared.faults.Fault.{Fault}
+use Rattle.base_reader.specs.Readings.{whole}
+use Rattle.base_reader.specs.Exact.{Exactly, IsLeastPlace}
+use Rattle.net_expressions.specs.Grammar.{Written}
+use Rattle.net_expressions.specs.Reading.{makes_written}
+use Rattle.vlog_text.specs.Trees.{Source, VerilogModule}
 use Rattle.vlog_text.specs.Tokens.{Kind, kinds}
 use Rattle.vlog_text.specs.Grammar.{IsText, source_meant}
 use Rattle.vlog_text.specs.Names.{NameFault, Twice, Port, Undeclared, TwoDrivers, NoDriver, name_fault}
@@ -28,17 +28,17 @@ only-written ks a b first second = go (whole (text_rule makes_written nesting_li
     go (Ok w) exact = exact.only a first ∙ sym (exact.only b second)
     go (Err fault) exact = absurd (stuck-member ks fault exact a first)
 
-one-module : (text : List ℕ) (p q : Module) → Describes text p → Describes text q → q ≡ p
+one-module : (text : List ℕ) (p q : VerilogModule) → Describes text p → Describes text q → q ≡ p
 one-module text p q d e =
     sym e.means ∙ ap (λ w. module_said (source_meant w)) (only-written (kinds text) e.written d.written e.spelled d.spelled) ∙ d.means
 
-names-kept : (text : List ℕ) (p : Module) → Describes text p → (fault : NameFault) → IsNameFault text fault → ⊥
+names-kept : (text : List ℕ) (p : VerilogModule) → Describes text p → (fault : NameFault) → IsNameFault text fault → ⊥
 names-kept text p d fault is =
     let same = only-written (kinds text) d.written is.written d.spelled is.spelled in
     let found = sym d.names_fit ∙ ap (λ w. name_fault (source_meant w)) same ∙ is.first in
     false≢true (ap is_some found)
 
-refusals : (text : List ℕ) (p : Module) → Describes text p → (fault : VlogFault) → ReadsFault text fault → LacksRoom text fault
+refusals : (text : List ℕ) (p : VerilogModule) → Describes text p → (fault : VlogFault) → ReadsFault text fault → LacksRoom text fault
 refusals text p d faults.TooLong is = is
 refusals text p d (faults.Syntax at) is = absurd (stuck-member (kinds text) is.1.fault is.1.least d.written d.spelled)
 refusals text p d (faults.Twice name) is = absurd (names-kept text p d (Twice name) is.1)

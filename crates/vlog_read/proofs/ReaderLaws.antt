@@ -1,21 +1,21 @@
 -- Inner: what the answer of the reading function says of a text.
 use Rattle.std.proofs.Common.{◌≡◌, ℕ, ◌≤◌, List, length, None, Ok, Err, sym, ◌∙◌, ap, subst}
-use Rattle.est_base.specs.declared.bounds.TheConstants.Limits.{TEXT_BYTES}
-use Rattle.read_rules.specs.declared.faults.Fault.{Fault}
-use Rattle.read_rules.specs.Readings.{whole}
-use Rattle.read_rules.specs.Exact.{IsLeastPlace}
-use Rattle.expr_text.specs.Trees.{Expr}
-use Rattle.expr_text.specs.Reading.{makes_expr, makes_written}
-use Rattle.expr_text.specs.Spelled.{IsSpelled}
-use Rattle.expr_text.proofs.Exports.{least-meant, spelled-meant}
-use Rattle.vlog_text.specs.Trees.{Source, Module}
+use Rattle.base_types.specs.declared.bounds.TheConstants.Limits.{TEXT_BYTES}
+use Rattle.base_reader.specs.declared.faults.Fault.{Fault}
+use Rattle.base_reader.specs.Readings.{whole}
+use Rattle.base_reader.specs.Exact.{IsLeastPlace}
+use Rattle.net_expressions.specs.Trees.{Expr}
+use Rattle.net_expressions.specs.Reading.{makes_expr, makes_written}
+use Rattle.net_expressions.specs.Spelled.{IsSpelled}
+use Rattle.net_expressions.proofs.Exports.{least-meant, spelled-meant}
+use Rattle.vlog_text.specs.Trees.{Source, VerilogModule}
 use Rattle.vlog_text.specs.Tokens.{Kind, kinds}
 use Rattle.vlog_text.specs.Grammar.{IsText, source_meant}
 use Rattle.vlog_text.specs.Names.{name_fault}
 use Rattle.vlog_text.specs.Texts.{nesting_limit, module_said}
-use Rattle.est_base.specs.Stops.{FaultIs}
-use Rattle.est_base.specs.declared.stop.Stop.{Stop}
-use Rattle.est_base.specs.declared.stop.Stop.TheVariants.{Fault as Refused, NoMemory}
+use Rattle.base_types.specs.Stops.{FaultIs}
+use Rattle.base_types.specs.declared.stop.Stop.{Stop}
+use Rattle.base_types.specs.declared.stop.Stop.TheVariants.{Fault as Refused, NoMemory}
 use Rattle.vlog_read.specs.declared.refusal.VlogFault.{VlogFault}
 use Rattle.vlog_read.specs.declared.refusal.VlogFault.TheVariants as faults
 use Rattle.vlog_read.specs.Faults.{ReadsAs, ReadsFault}
@@ -38,7 +38,7 @@ least-by ks fault is =
 
 -- ---- whole texts
 
-pub reads-as : (text : List ℕ) (s : Source Expr) (design : Module) → length text ≤ TEXT_BYTES → Spells text s → name_fault s ≡ None
+pub reads-as : (text : List ℕ) (s : Source Expr) (design : VerilogModule) → length text ≤ TEXT_BYTES → Spells text s → name_fault s ≡ None
     → design ≡ module_said s → ReadsAs text design
 reads-as text s design short spells fits is = record {
   short = short;

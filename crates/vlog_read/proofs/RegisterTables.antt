@@ -1,8 +1,8 @@
 -- Inner: tables of what stands under `initial` and beside `<=`, filled from the last to the first.
 use Rattle.std.proofs.Common.{◌≡◌, ℕ, ◌+◌, ◌<◌, Bool, true, false, cond, List, [], ◌∷◌, length, map, drop, get_or, Option, Some, Bor, refl, sym, ◌∙◌, ap}
-use Rattle.facts.proofs.Lists.{drop-at}
-use Rattle.est_base.specs.Names.{is_same_name}
-use Rattle.expr_text.specs.Trees.{Expr}
+use Rattle.base_facts.proofs.Lists.{drop-at}
+use Rattle.base_types.specs.Names.{is_same_name}
+use Rattle.net_expressions.specs.Trees.{Expr}
 use Rattle.vlog_text.specs.Texts.{initial_value, next_source, register_said}
 use Rattle.vlog_text.specs.Trees.{Source}
 use Rattle.vlog_read.specs.declared.modules.Tables.{Tables}

@@ -1,15 +1,15 @@
 -- Inner: judgements on ports, declarations, assignments and whole texts.
 use Rattle.std.proofs.Common.{◌≡◌, ℕ, max, true, false, List, [], ◌∷◌, Option, Some, refl, ap, arith}
-use Rattle.read_rules.specs.Exact.{Exactly}
-use Rattle.read_rules.specs.Languages.{Empty, Then, Led, Both, Loop, Optional, Many, Parted}
-use Rattle.read_rules.specs.Languages.{One as Single}
-use Rattle.read_rules.specs.Choice.{Made}
-use Rattle.read_rules.specs.Readings.{the, on, whole}
-use Rattle.read_rules.proofs.Exports.{Advances, Shape, one_shape, Reads, the-reads, give-reads, both-reads, led-reads, trail-reads, made-reads, shape-reads}
-use Rattle.read_rules.proofs.Exports.{Turn, list_depth, Steps, or-steps, look-steps, loop-reads, Advances-step, whole-reads as exact-reads, list_depth-flat}
-use Rattle.expr_text.specs.Grammar.{Written, written_nesting}
-use Rattle.expr_text.specs.Reading.{makes_written}
-use Rattle.expr_text.proofs.Exports.{exprs_known, class-reads}
+use Rattle.base_reader.specs.Exact.{Exactly}
+use Rattle.base_reader.specs.Languages.{Empty, Then, Led, Both, Loop, Optional, Many, Parted}
+use Rattle.base_reader.specs.Languages.{One as Single}
+use Rattle.base_reader.specs.Choice.{Made}
+use Rattle.base_reader.specs.Readings.{the, on, whole}
+use Rattle.base_reader.proofs.Exports.{Advances, Shape, one_shape, Reads, the-reads, give-reads, both-reads, led-reads, trail-reads, made-reads, shape-reads}
+use Rattle.base_reader.proofs.Exports.{Turn, list_depth, Steps, or-steps, look-steps, loop-reads, Advances-step, whole-reads as exact-reads, list_depth-flat}
+use Rattle.net_expressions.specs.Grammar.{Written, written_nesting}
+use Rattle.net_expressions.specs.Reading.{makes_written}
+use Rattle.net_expressions.proofs.Exports.{exprs_known, class-reads}
 use Rattle.vlog_text.specs.Trees.{Sort, Declaration, Initial, Assign, Next, Source}
 use Rattle.vlog_text.specs.Tokens.{Kind, ModuleWord, InitialWord, AssignWord, AlwaysWord, PosedgeWord, BeginWord}
 use Rattle.vlog_text.specs.Tokens.{EndWord, EndmoduleWord, LeftParenthesis, RightParenthesis, Comma, Semicolon, Equals}

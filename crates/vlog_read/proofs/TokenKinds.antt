@@ -1,7 +1,7 @@
 -- Inner: the numbers of kinds as classes of tokens, and what the tests of single tokens take.
 use Rattle.std.proofs.Common.{◌≡◌, ℕ, true, false, List, [], ◌∷◌, is_some, refl}
-use Rattle.read_rules.proofs.Exports.{has, Test, test-of}
-use Rattle.expr_text.proofs.Exports.{sign_class, factor_set, number-test}
+use Rattle.base_reader.proofs.Exports.{has, Test, test-of}
+use Rattle.net_expressions.proofs.Exports.{sign_class, factor_set, number-test}
 use Rattle.vlog_text.specs.Trees.{Input}
 use Rattle.vlog_text.specs.Tokens.{Kind, LeftParenthesis, Bar, Ampersand, Tilde, Zero, One, Declares, Named}
 use Rattle.vlog_text.specs.Grammar.{kind_number, is, sign, name, bit, sort}

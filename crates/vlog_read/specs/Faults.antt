@@ -1,9 +1,9 @@
 -- To believe: what it means that a text is read, and what a fault says of a text.
 use Rattle.std.specs.Prelude.{◌≡◌, ℕ, ◌<◌, ◌≤◌, List, length, Some}
-use Rattle.est_base.specs.declared.bounds.TheConstants.Limits.{TEXT_BYTES}
-use Rattle.expr_text.specs.Grammar.{Written}
-use Rattle.expr_text.specs.Lexemes.{IsFaultPlace}
-use Rattle.vlog_text.specs.Trees.{Source, Module}
+use Rattle.base_types.specs.declared.bounds.TheConstants.Limits.{TEXT_BYTES}
+use Rattle.net_expressions.specs.Grammar.{Written}
+use Rattle.net_expressions.specs.Lexemes.{IsFaultPlace}
+use Rattle.vlog_text.specs.Trees.{Source, VerilogModule}
 use Rattle.vlog_text.specs.Tokens.{tokens, kinds}
 use Rattle.vlog_text.specs.Grammar.{IsText, source_meant}
 use Rattle.vlog_text.specs.Names.{NameFault, Twice, Port, Undeclared, TwoDrivers, NoDriver, name_fault}
@@ -12,10 +12,10 @@ use Rattle.vlog_read.specs.declared.refusal.VlogFault.{VlogFault}
 use Rattle.vlog_read.specs.declared.refusal.VlogFault.TheVariants as faults
 
 -- the text is short enough, and this is the one module that it describes
-pub record ReadsAs (text : List ℕ) (design : Module) : Type 0 where
+pub record ReadsAs (text : List ℕ) (design : VerilogModule) : Type 0 where
   pub short : length text ≤ TEXT_BYTES
   pub describes : Describes text design
-  pub only : (other : Module) → Describes text other → other ≡ design
+  pub only : (other : VerilogModule) → Describes text other → other ≡ design
 
 -- The place is that of the least token that no text of the grammar passes, with its bound on nesting.
 abbrev pub IsSyntaxFault : List ℕ → ℕ → Type 0

@@ -1,8 +1,9 @@
 -- Inner: the plain forms of kinds of tokens.
 use Rattle.std.specs.Prelude.{◌≡◌, true, false, refl}
-use Rattle.expr_text.specs.Signs.{Sign, NameSign, BitSign, NotSign, OpenSign, CloseSign, AndSign, OrSign, OtherSign}
-use Rattle.expr_text.specs.Plain.{kind_by}
-use Rattle.expr_text.specs.declared.kinds.Token.{Token}
+use Rattle.net_expressions.specs.Signs.{Sign, NameSign, BitSign, NotSign, OpenSign, CloseSign, AndSign, OrSign}
+use Rattle.net_expressions.specs.Signs.{OtherSign}
+use Rattle.net_expressions.specs.Plain.{kind_by}
+use Rattle.net_expressions.specs.declared.kinds.Token.{Token}
 use Rattle.vlog_text.specs.Trees.{Sort}
 use Rattle.vlog_text.specs.Trees as trees
 use Rattle.vlog_text.specs.Tokens.{Kind}

@@ -1,10 +1,10 @@
 -- Inner: what tables know of the names of a source.
 use Rattle.std.specs.Prelude.{◌≡◌, ℕ, Bool, List, map}
 use Rattle.std.specs.HashSet.{contains_by}
-use Rattle.est_base.specs.Names.{is_same_name}
+use Rattle.base_types.specs.Names.{is_same_name}
 use Rattle.net_ir.specs.NameLists.{is_among}
-use Rattle.expr_text.specs.NameTables.{name_told}
-use Rattle.expr_text.specs.Trees.{Expr}
+use Rattle.net_expressions.specs.NameTables.{name_told}
+use Rattle.net_expressions.specs.Trees.{Expr}
 use Rattle.vlog_text.specs.Names.{Use, declared, is_reg, names_of, targets}
 use Rattle.vlog_text.specs.Trees.{Declaration, Sort, Source}
 use Rattle.vlog_read.specs.NameTests.{driven_by, first_of, wrong_use}

@@ -1,7 +1,7 @@
 -- Inner: tests of names as the code makes them, and the faults that it finds.
 use Rattle.std.specs.Prelude.{◌≡◌, ℕ, Bool, true, false, not, ◌&&◌, ◌||◌, List, [], ◌∷◌, Option, Some, None, codes}
 use Rattle.std.specs.Prelude.{if◌then◌else◌}
-use Rattle.est_base.specs.Names.{is_same_name}
+use Rattle.base_types.specs.Names.{is_same_name}
 use Rattle.vlog_text.specs.Trees.{Sort, Input, Output, Reg, Declaration}
 use Rattle.vlog_text.specs.Names.{is_input, is_output, is_wire, is_reg, names_of, has_sign, paused_name}
 use Rattle.vlog_text.specs.Names.{Use, Kept, Assigned, Taken, NameFault, Twice, Port, Undeclared, TwoDrivers, NoDriver}

@@ -2,12 +2,12 @@
 -- left open: it makes what is written, and what that means.
 use Rattle.std.specs.Prelude.{ℕ, List, ◌∷◌, Option, Result}
 use Rattle.std.specs.Borrow.{Bor}
-use Rattle.expr_text.specs.declared.kinds.Token.{Token}
-use Rattle.expr_text.specs.Reading as reading
-use Rattle.expr_text.specs.Reading.{Maker, FindsBy}
-use Rattle.read_rules.specs.declared.faults.ReadError.{ReadError}
-use Rattle.read_rules.specs.Readings.{Read, Rule, mapped, both, trail, on, the, maybe, loop, give}
-use Rattle.read_rules.specs.Choice.{optional_or}
+use Rattle.net_expressions.specs.declared.kinds.Token.{Token}
+use Rattle.net_expressions.specs.Reading as reading
+use Rattle.net_expressions.specs.Reading.{Maker, FindsBy}
+use Rattle.base_reader.specs.declared.faults.ReadError.{ReadError}
+use Rattle.base_reader.specs.Readings.{Read, Rule, mapped, both, trail, on, the, maybe, loop, give}
+use Rattle.base_reader.specs.Choice.{optional_or}
 use Rattle.vlog_read.specs.declared.tokens.Kind.{Kind as CodeKind}
 use Rattle.vlog_text.specs.Trees.{Declaration, Initial, Assign, Next, Source}
 use Rattle.vlog_text.specs.Tokens.{Kind, ModuleWord, InitialWord, AssignWord, AlwaysWord, PosedgeWord, BeginWord}

@@ -2,12 +2,12 @@
 use Rattle.std.specs.Prelude.{◌≡◌, ℕ, Bool, false, List, [], map, Option, Some, None}
 use Rattle.std.specs.Borrow.{Bor}
 use Rattle.std.specs.HashMap.{get_by}
-use Rattle.est_base.specs.Names.{is_same_name}
+use Rattle.base_types.specs.Names.{is_same_name}
 use Rattle.vlog_read.specs.declared.modules.Declared.{Declared}
 use Rattle.vlog_read.specs.declared.modules.Outside.{Outside}
 use Rattle.vlog_read.specs.declared.modules.Tables.{Tables}
 use Rattle.vlog_read.specs.declared.modules.Within.{Within}
-use Rattle.expr_text.specs.Trees.{Expr}
+use Rattle.net_expressions.specs.Trees.{Expr}
 use Rattle.vlog_text.specs.Trees.{Register, Source}
 use Rattle.vlog_text.specs.Names.{is_input, is_output, is_wire, is_reg, names_of}
 use Rattle.vlog_text.specs.Texts.{register_said}

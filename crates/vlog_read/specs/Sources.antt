@@ -1,6 +1,6 @@
 -- Inner: the plain forms of what a text says.
 use Rattle.std.specs.Prelude.{ℕ, List, map}
-use Rattle.expr_text.specs.Trees.{Expr}
+use Rattle.net_expressions.specs.Trees.{Expr}
 use Rattle.vlog_read.specs.declared.sources.Declaration.{Declaration as CodeDeclaration}
 use Rattle.vlog_read.specs.declared.sources.Initial.{Initial as CodeInitial}
 use Rattle.vlog_read.specs.declared.sources.Next.{Next as CodeNext}

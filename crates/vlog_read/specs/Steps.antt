@@ -1,7 +1,7 @@
 -- Inner: what the steps of the reader answer of a text.
 use Rattle.std.specs.Prelude.{ℕ, List}
-use Rattle.expr_text.specs.Spelled.{IsSpelled}
-use Rattle.expr_text.specs.Trees.{Expr}
+use Rattle.net_expressions.specs.Spelled.{IsSpelled}
+use Rattle.net_expressions.specs.Trees.{Expr}
 use Rattle.vlog_text.specs.Trees.{Source}
 use Rattle.vlog_text.specs.Tokens.{kinds}
 use Rattle.vlog_text.specs.Grammar.{IsText, source_meant}

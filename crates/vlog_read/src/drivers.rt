@@ -2,9 +2,9 @@
 
 ghost use Rattle.std.specs.Prelude.{◌≡◌, ℕ, List, [], map, find, not, IfOk};
 ghost use Rattle.std.specs.HashSet.{contains_by};
-ghost use Rattle.est_base.specs.Names.{is_same_name};
+ghost use Rattle.base_types.specs.Names.{is_same_name};
 ghost use Rattle.net_ir.specs.NameLists.{is_among, first_again};
-ghost use Rattle.expr_text.specs.NameTables.{name_told};
+ghost use Rattle.net_expressions.specs.NameTables.{name_told};
 ghost use Rattle.vlog_read.specs.Lexed.{plain_sort};
 ghost use Rattle.vlog_text.specs.Names.{names_of, targets, driven_twice, undriven, declaration_found};
 ghost use Rattle.vlog_text.specs.Views.{assign_of};
@@ -14,8 +14,8 @@ ghost use Rattle.vlog_read.specs.Sources.{declaration_of, initial_of, next_of, p
 
 use crate::sources::{Declaration, Group, Initial, Next, Sort, Source, names_of};
 use crate::uses::again_in;
-use est_base::NoMemory;
-use expr_text::{name_set, name_table};
+use base_types::NoMemory;
+use net_expressions::{name_set, name_table};
 use std::alloc::Global;
 use std::collections::HashSet;
 use vlog_text::Assign;

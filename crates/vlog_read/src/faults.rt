@@ -1,7 +1,7 @@
 // The first fault of the names of a text.
 
 ghost use Rattle.std.specs.Prelude.{◌≡◌, IfOk, OnOk, Some, None};
-ghost use Rattle.est_base.specs.Stops.{IfFault};
+ghost use Rattle.base_types.specs.Stops.{IfFault};
 ghost use Rattle.vlog_text.specs.Names.{name_fault};
 ghost use Rattle.vlog_read.specs.NameTests.{fault_told, SaysFault};
 ghost use Rattle.vlog_read.specs.Sources.{plain_source};
@@ -11,7 +11,7 @@ use crate::ports::wrong_port;
 use crate::refusal::VlogFault;
 use crate::sources::Source;
 use crate::uses::{declared_twice, undeclared};
-use est_base::{NoMemory, Stop, Text};
+use base_types::{NoMemory, Stop, Text};
 use std::alloc::Global;
 
 // A fault of names. The name is a part of the text.

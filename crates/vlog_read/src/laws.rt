@@ -1,4 +1,6 @@
-// The laws that tie what is read to what texts mean. The calls do nothing: their contracts are the laws.
+// The laws that tie what is read to what texts mean.
+// A function here does nothing at run time: its contract is a theorem, which a caller gets by the call. Rattle proves a
+// statement only as the contract of a function, so a law is a function that computes nothing.
 
 ghost use Rattle.vlog_read.specs.Laws.{DescribedTextsAreRead, WrittenTextsAreRead};
 

@@ -2,16 +2,16 @@
 
 ghost use Rattle.std.specs.Prelude.{◌≡◌, ◌+◌, ◌<◌, ◌≤◌, length, drop, take};
 ghost use Rattle.std.specs.List.{prefix_len};
-ghost use Rattle.est_base.specs.Names.{is_name_byte};
-ghost use Rattle.expr_text.specs.Lexemes.{Lexeme, mark_front};
-ghost use Rattle.expr_text.specs.Plain.{front_by, front_at, front_more};
+ghost use Rattle.base_types.specs.Names.{is_name_byte};
+ghost use Rattle.net_expressions.specs.Lexemes.{Lexeme, mark_front};
+ghost use Rattle.net_expressions.specs.Plain.{front_by, front_at, front_more};
 ghost use Rattle.vlog_text.specs.Tokens.{front, word_kind, slash_front, less_front, one_front};
 ghost use Rattle.vlog_text.specs.Tokens.{stays_in_line, mark_kind, digit_front};
 ghost use Rattle.vlog_read.specs.Lexed.{kind_of};
 
 use crate::marks::{mark_kind, word_kind};
 use crate::tokens::Kind;
-use expr_text::{Front, begins_name, is_space, name_len};
+use net_expressions::{Front, begins_name, is_space, name_len};
 
 // What begins a text that is not empty.
 pub fn next_front<'a>(text: &'a [u8]) -> Front<Kind<'a>>

@@ -2,7 +2,7 @@
 
 ghost use Rattle.std.specs.Prelude.{◌≡◌, ℕ, List, map, IfOk};
 ghost use Rattle.std.specs.HashMap.{get_by};
-ghost use Rattle.est_base.specs.Names.{is_same_name};
+ghost use Rattle.base_types.specs.Names.{is_same_name};
 ghost use Rattle.vlog_text.specs.Texts.{initial_value, next_source, register_said, module_said};
 ghost use Rattle.vlog_text.specs.Names.{is_reg, names_of};
 ghost use Rattle.vlog_text.specs.Views.{register_of, module_of};
@@ -11,7 +11,7 @@ ghost use Rattle.vlog_read.specs.Registers.{value_or, source_or, register_by, Is
 ghost use Rattle.vlog_read.specs.Sources.{declaration_of, initial_of, next_of, plain_source};
 
 use crate::sources::{Declaration, Group, Initial, Next, Source, names_of};
-use est_base::{NoMemory, Text};
+use base_types::{NoMemory, Text};
 use std::alloc::Global;
 use std::collections::HashMap;
 use vlog_text::{Module, Register};

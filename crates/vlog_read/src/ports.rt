@@ -2,8 +2,8 @@
 
 ghost use Rattle.std.specs.Prelude.{◌≡◌, if◌then◌else◌, Some, map, find, IfOk};
 ghost use Rattle.std.specs.HashSet.{contains_by};
-ghost use Rattle.est_base.specs.Names.{is_same_name};
-ghost use Rattle.expr_text.specs.NameTables.{name_told};
+ghost use Rattle.base_types.specs.Names.{is_same_name};
+ghost use Rattle.net_expressions.specs.NameTables.{name_told};
 ghost use Rattle.vlog_read.specs.Lexed.{plain_sort};
 ghost use Rattle.vlog_text.specs.Names.{interface_names, misplaced, portless, ill_named, other_clock, wrong_port};
 ghost use Rattle.vlog_text.specs.Names.{is_output, names_of, has_sign, paused_name, declaration_found};
@@ -12,8 +12,8 @@ ghost use Rattle.vlog_read.specs.Sources.{declaration_of, plain_source};
 
 use crate::sources::{Declaration, Group, Sort, Source, is_in, names_of};
 use crate::uses::is_name_of;
-use est_base::NoMemory;
-use expr_text::name_set;
+use base_types::NoMemory;
+use net_expressions::name_set;
 use std::alloc::Global;
 use std::collections::HashSet;
 

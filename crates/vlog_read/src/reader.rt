@@ -1,10 +1,10 @@
 // From a text to the module that it describes.
 
 ghost use Rattle.std.specs.Prelude.{◌≡◌, ◌≤◌, length, map, IfOk};
-ghost use Rattle.est_base.specs.Stops.{IfFault};
-ghost use Rattle.expr_text.specs.Plain.{token_by};
-ghost use Rattle.expr_text.specs.Reading.{GivesKinds, makes_expr};
-ghost use Rattle.read_rules.specs.Readings.{whole};
+ghost use Rattle.base_types.specs.Stops.{IfFault};
+ghost use Rattle.net_expressions.specs.Plain.{token_by};
+ghost use Rattle.net_expressions.specs.Reading.{GivesKinds, makes_expr};
+ghost use Rattle.base_reader.specs.Readings.{whole};
 ghost use Rattle.vlog_read.specs.Faults.{ReadsAs, ReadsFault};
 ghost use Rattle.vlog_read.specs.Lexed.{kind_of, kind_in};
 ghost use Rattle.vlog_read.specs.Reading.{text_rule};
@@ -19,9 +19,9 @@ use crate::refusal::VlogFault;
 use crate::sources::Source;
 use crate::text::read_text;
 use crate::tokens::{Kind, Token};
-use est_base::{Limits, NoMemory, Stop};
-use expr_text::{lex, place_at};
-use read_rules::{ReadError, ended};
+use base_reader::{ReadError, ended};
+use base_types::{Limits, NoMemory, Stop};
+use net_expressions::{lex, place_at};
 use std::alloc::Global;
 use vlog_text::Module;
 

@@ -1,6 +1,6 @@
 // Why a text is not read.
 
-use est_base::Text;
+use base_types::Text;
 use thiserror::Error;
 
 /// Why `read_verilog` gives no module. Of several faults the first of this list is told.

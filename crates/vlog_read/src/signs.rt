@@ -1,15 +1,15 @@
 // The steps of the reader on names and on words that declare them.
 
 ghost use Rattle.std.specs.Prelude.{◌≡◌, Some, None, map, MatchOption};
-ghost use Rattle.read_rules.specs.Readings.{picked, the};
+ghost use Rattle.base_reader.specs.Readings.{picked, the};
 ghost use Rattle.vlog_text.specs.Grammar.{name, sort};
 ghost use Rattle.vlog_read.specs.Reading.{FindsKinds};
 ghost use Rattle.vlog_read.specs.Lexed.{kind_in, plain_sort};
 
 use crate::sources::Sort;
 use crate::tokens::{Kind, Token};
-use expr_text::{past_name, refused_here};
-use read_rules::{ReadError, first};
+use base_reader::{ReadError, first};
+use net_expressions::{past_name, refused_here};
 
 // The word that declares names of a sort, and the tokens behind it.
 pub fn past_sort<'a>(tokens: &'a [Token<'a>]) -> Option<(Sort, &'a [Token<'a>])>

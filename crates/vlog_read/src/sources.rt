@@ -6,7 +6,7 @@ ghost use Rattle.vlog_text.specs.Names.{names_of};
 ghost use Rattle.vlog_read.specs.NameTests.{group_test};
 ghost use Rattle.vlog_read.specs.Sources.{declaration_of};
 
-use est_base::NoMemory;
+use base_types::NoMemory;
 use std::alloc::Global;
 use vlog_text::Assign;
 

@@ -1,8 +1,8 @@
 // The reader of ports, declarations, assignments and whole texts.
 
 ghost use Rattle.std.specs.Prelude.{map};
-ghost use Rattle.expr_text.specs.Reading.{makes_expr};
-ghost use Rattle.read_rules.specs.Readings.{mapped, loop};
+ghost use Rattle.net_expressions.specs.Reading.{makes_expr};
+ghost use Rattle.base_reader.specs.Readings.{mapped, loop};
 ghost use Rattle.vlog_read.specs.Lexed.{kind_in, plain_sort};
 ghost use Rattle.vlog_read.specs.Reading.{FindsKinds, ports_rule, head_rule, declaration_behind, declaration_step};
 ghost use Rattle.vlog_read.specs.Reading.{initial_behind, initial_step, assign_behind, assign_step, clock_rule};
@@ -13,8 +13,8 @@ ghost use Rattle.vlog_text.specs.Views.{assign_of};
 use crate::signs::{past_sort, read_name};
 use crate::sources::{Clocked, Declaration, Head, Initial, Next, Sort, Source};
 use crate::tokens::{Kind, Token};
-use expr_text::{after, copy_of, nothing_read, past, past_name, read_bit, read_expr};
-use read_rules::ReadError;
+use base_reader::ReadError;
+use net_expressions::{after, copy_of, nothing_read, past, past_name, read_bit, read_expr};
 use std::alloc::Global;
 use vlog_text::Assign;
 

@@ -1,12 +1,12 @@
 // Tokens. A name is a part of the text.
 
 ghost use Rattle.std.specs.Prelude.{◌≡◌};
-ghost use Rattle.expr_text.specs.Plain.{sign_of};
+ghost use Rattle.net_expressions.specs.Plain.{sign_of};
 ghost use Rattle.vlog_text.specs.Grammar.{kind_number, sign};
 ghost use Rattle.vlog_read.specs.Lexed.{kind_of};
 
 use crate::sources::Sort;
-use expr_text::Sign;
+use net_expressions::Sign;
 
 // What a token is; `Bad` is one that no text has.
 #[derive(Clone, Copy)]
@@ -37,7 +37,7 @@ pub enum Kind<'a> {
 }
 
 // A token of a text.
-pub type Token<'a> = expr_text::Token<Kind<'a>>;
+pub type Token<'a> = net_expressions::Token<Kind<'a>>;
 
 // What a kind is in an expression.
 pub fn sign_of<'a>(kind: Kind<'a>) -> Sign<'a>

@@ -2,11 +2,11 @@
 
 ghost use Rattle.std.specs.Prelude.{◌≡◌, ◌++◌, ℕ, List, [], map, flat_map, find, IfOk, OnOk};
 ghost use Rattle.std.specs.HashSet.{contains_by};
-ghost use Rattle.est_base.specs.Names.{is_same_name};
+ghost use Rattle.base_types.specs.Names.{is_same_name};
 ghost use Rattle.net_ir.specs.NameLists.{is_among, first_again};
-ghost use Rattle.expr_text.specs.Names.{names_in};
-ghost use Rattle.expr_text.specs.NameTables.{name_told};
-ghost use Rattle.expr_text.specs.Views.{expr_of};
+ghost use Rattle.net_expressions.specs.Names.{names_in};
+ghost use Rattle.net_expressions.specs.NameTables.{name_told};
+ghost use Rattle.net_expressions.specs.Views.{expr_of};
 ghost use Rattle.vlog_text.specs.Names.{names_of, declared, declared_twice, undeclared, uses, used_name, use_found};
 ghost use Rattle.vlog_text.specs.Names.{Kept, Taken, assign_uses, next_uses};
 ghost use Rattle.vlog_text.specs.Views.{assign_of};
@@ -16,8 +16,8 @@ ghost use Rattle.vlog_read.specs.Sources.{declaration_of, initial_of, next_of, p
 
 use crate::ports::first_input;
 use crate::sources::{Declaration, Group, Initial, Next, Source, names_of};
-use est_base::NoMemory;
-use expr_text::{Expr, name_set, name_table, names_in};
+use base_types::NoMemory;
+use net_expressions::{Expr, name_set, name_table, names_in};
 use std::alloc::Global;
 use std::collections::HashSet;
 use vlog_text::Assign;

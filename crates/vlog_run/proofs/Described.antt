@@ -8,14 +8,14 @@ use Rattle.std.proofs.lemmas.Bool.{and_from, and_parts, both_ways, false_from_ne
 use Rattle.std.proofs.lemmas.Bool.{or_parts, or_right}
 use Rattle.std.proofs.lemmas.List.Elements.{Contains-append_left, Contains-append_right}
 use Rattle.std.proofs.lemmas.List.Folds.{list_any-append}
-use Rattle.facts.proofs.Lists.{contains-later, find-both-none, find-first-none}
-use Rattle.est_base.specs.Distinct.{all_differ}
-use Rattle.est_base.specs.Names.{is_same_name}
-use Rattle.est_base.proofs.Exports.{same_name-is, same_name-self}
+use Rattle.base_facts.proofs.Lists.{contains-later, find-both-none, find-first-none}
+use Rattle.base_types.specs.Distinct.{all_differ}
+use Rattle.base_types.specs.Names.{is_same_name}
+use Rattle.base_types.proofs.Exports.{same_name-is, same_name-self}
 use Rattle.net_ir.specs.NameLists.{is_among, first_again}
-use Rattle.step_run.proofs.Exports.{first-or_later, each-element, of-element, among-element, element-among, differ-both, differ-behind, in-parts, once-of}
-use Rattle.expr_text.specs.Names.{names_in, or_else}
-use Rattle.expr_text.specs.Trees.{Expr}
+use Rattle.run_steps.proofs.Exports.{first-or_later, each-element, of-element, among-element, element-among, differ-both, differ-behind, in-parts, once-of}
+use Rattle.net_expressions.specs.Names.{names_in, or_else}
+use Rattle.net_expressions.specs.Trees.{Expr}
 use Rattle.vlog_text.specs.Grammar.{source_meant}
 use Rattle.vlog_text.specs.Machine.{given_inputs, driven_names}
 use Rattle.vlog_text.specs.Names.{is_input, is_output, is_reg, names_of, declared, declared_twice, interface_names, misplaced, declaration_found}
@@ -23,7 +23,7 @@ use Rattle.vlog_text.specs.Names.{portless, is_first, has_sign, is_ill_named, il
 use Rattle.vlog_text.specs.Names.{assign_uses, next_uses, uses, is_wrong, use_found, undeclared, targets, driven_twice, is_driven, undriven, NameFault}
 use Rattle.vlog_text.specs.Names.{Twice, Port, Undeclared, TwoDrivers, NoDriver, fault_by, name_fault}
 use Rattle.vlog_text.specs.Texts.{next_source, register_said, module_said, Describes}
-use Rattle.vlog_text.specs.Trees.{Sort, Input, Output, Wire, Reg, Declaration, Assign, Next, Source, Register, Module}
+use Rattle.vlog_text.specs.Trees.{Sort, Input, Output, Wire, Reg, Declaration, Assign, Next, Source, Register, VerilogModule}
 use Rattle.vlog_run.specs.Loops.{IsDescribed}
 use Rattle.vlog_run.specs.ModuleAnswers.{bare_inputs}
 
@@ -210,7 +210,7 @@ signed-from false false f e = cc
 -- ---- what is sound
 
 -- the names that are driven differ, those that are read and shown are driven, and the inputs have their sign
-pub record IsSound (design : Module) : Type 0 where
+pub record IsSound (design : VerilogModule) : Type 0 where
   pub differ : all_differ is_same_name (driven_names design) ≡ true
   pub reads : AllByRecursion (λ a. AllByRecursion (λ x. is_among x (driven_names design) ≡ true) (names_in a.value)) design.assigns
   pub sources : AllByRecursion (λ x. is_among x (driven_names design) ≡ true) (map (λ r. r.from) design.registers)
@@ -431,12 +431,12 @@ module _ (s : Source Expr) (fits : name_fault s ≡ None) where
     signed = inputs-signed;
   }
 
-pub described-sound : (text : List ℕ) (design : Module) → Describes text design → IsSound design
+pub described-sound : (text : List ℕ) (design : VerilogModule) → Describes text design → IsSound design
 described-sound text design described =
     subst IsSound described.means (said-sound (source_meant described.written) described.names_fit)
 
 -- the inputs besides the clock differ behind their sign too
-pub inputs-differ : (design : Module) → IsDescribed design → all_differ is_same_name (bare_inputs design) ≡ true
+pub inputs-differ : (design : VerilogModule) → IsDescribed design → all_differ is_same_name (bare_inputs design) ≡ true
 inputs-differ design described =
     let sound = described-sound described.0 design described.1 in
     let others = map (λ (r : Register). r.name) design.registers ++ map (λ (a : Assign Expr). a.target) design.assigns in

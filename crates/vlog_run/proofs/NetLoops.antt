@@ -4,24 +4,24 @@ use Rattle.std.proofs.Common.{append_assoc, Contains, ⊎_elim}
 use Rattle.std.specs.List.{AllByRecursion}
 use Rattle.std.proofs.lemmas.Bool.{cases_lt}
 use Rattle.std.proofs.lemmas.List.{length-append, length-map, get_or_append_left, get_or-append-add, get_or-map}
-use Rattle.est_base.specs.Distinct.{all_differ}
-use Rattle.est_base.specs.Names.{is_same_name}
+use Rattle.base_types.specs.Distinct.{all_differ}
+use Rattle.base_types.specs.Names.{is_same_name}
 use Rattle.net_ir.specs.declared.netlist.Latch.{Latch}
 use Rattle.net_ir.specs.declared.netlist.NetOut.{NetOut}
 use Rattle.net_ir.specs.Netlists.{Netlist, first_gate, net_count}
 use Rattle.net_ir.specs.Numbered.{numbered}
 use Rattle.net_ir.specs.Writing.{IsWritable}
 use Rattle.net_ir.proofs.Exports.{length-numbered, get_or-numbered, map-numbered, any_gate}
-use Rattle.expr_text.specs.Names.{names_in}
-use Rattle.expr_text.specs.NetNames.{state_name, gate_names}
-use Rattle.expr_text.specs.Trees.{Expr}
-use Rattle.expr_text.proofs.Exports.{state_names, op-names}
-use Rattle.step_run.specs.Slots.{slot_in}
-use Rattle.step_run.specs.Equations.{Equation}
-use Rattle.step_run.specs.Equations as equations
-use Rattle.step_run.proofs.Exports.{IsRising, rising-no_loop, of-element, place-at}
+use Rattle.net_expressions.specs.Names.{names_in}
+use Rattle.net_expressions.specs.NetNames.{state_name, gate_names}
+use Rattle.net_expressions.specs.Trees.{Expr}
+use Rattle.net_expressions.proofs.Exports.{state_names, op-names}
+use Rattle.run_steps.specs.Slots.{slot_in}
+use Rattle.run_steps.specs.Equations.{NameEquation}
+use Rattle.run_steps.specs.Equations as equations
+use Rattle.run_steps.proofs.Exports.{IsRising, rising-no_loop, of-element, place-at}
 use Rattle.vlog_text.specs.Machine.{driven_names}
-use Rattle.vlog_text.specs.Trees.{Register, Assign, Module}
+use Rattle.vlog_text.specs.Trees.{Register, Assign, VerilogModule}
 use Rattle.vlog_text.specs.Written.{written, Means, input_name, net_name, net_outputs, gate_assign, output_assign, paused_assign, net_assigns, net_register}
 use Rattle.vlog_text.proofs.Exports.{net_names, first_names, length-names, net_name-at, net_module, input_words, targets-are, describes-net}
 use Rattle.vlog_run.specs.Loops.{HasNoLoop, equation_of}
@@ -157,8 +157,8 @@ rising-net net is k m d low_k low_m has =
     let at-m : get_or (map equation_of assigns) m d ≡ equation_of (get_or assigns m no_assign) = get_or-map equation_of assigns m no_assign d lm in
     let x = (get_or assigns m no_assign).target in
     let reads : Contains (names_in (get_or assigns k no_assign).value) x =
-    subst (λ (e : Equation). Contains (names_in (get_or assigns k no_assign).value) e.output) at-m
-    (subst (λ (e : Equation). Contains e.reads (get_or (map equation_of assigns) m d).output) at-k has) in
+    subst (λ (e : NameEquation). Contains (names_in (get_or assigns k no_assign).value) e.output) at-m
+    (subst (λ (e : NameEquation). Contains e.reads (get_or (map equation_of assigns) m d).output) at-k has) in
     let below = of-element (IsBelow names (first_gate net + k)) (names_in (get_or assigns k no_assign).value) (reads-below net is k no_assign lk) x reads in
     let differ : all_differ is_same_name names ≡ true =
     ap (all_differ is_same_name) (sym (driven-net net)) ∙ (described-sound (written net) (net_module net) (describes-net net is)).differ in
@@ -167,12 +167,12 @@ rising-net net is k m d low_k low_m has =
     let read = ap (slot_in names) (sym below.is) ∙ place-at names differ below.place below.within in
     omega (arith, own, read, below.low)
 
-pub net-no_loop : (net : Netlist) → IsWritable net → (design : Module) → design.assigns ≡ net_assigns net → HasNoLoop design
+pub net-no_loop : (net : Netlist) → IsWritable net → (design : VerilogModule) → design.assigns ≡ net_assigns net → HasNoLoop design
 net-no_loop net is design same =
-    subst (λ l. equations.HasNoLoop (map equation_of l)) (sym same) (rising-no_loop (map equation_of (net_assigns net)) (rising-net net is))
+    subst (λ l. equations.HasNoEquationLoop (map equation_of l)) (sym same) (rising-no_loop (map equation_of (net_assigns net)) (rising-net net is))
 
 -- the module of the text that is written of a net
-pub written-module : (net : Netlist) → IsWritable net → (text : List ℕ) (design : Module) → (means : Means text net) → design ≡ means.design
+pub written-module : (net : Netlist) → IsWritable net → (text : List ℕ) (design : VerilogModule) → (means : Means text net) → design ≡ means.design
     → design.assigns ≡ net_assigns net → IsModuleOf net design
 written-module net is text design means same assigns = record {
   text = text;

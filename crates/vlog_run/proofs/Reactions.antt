@@ -1,12 +1,12 @@
 -- What a runner does, from what its registers do.
 use Rattle.std.proofs.Common.{◌≡◌, Bool, false, List, length, map, refl, sym, ap, ◌∙◌, replicate}
 use Rattle.std.proofs.lemmas.List.{length-map}
-use Rattle.facts.proofs.Lists.{map-composed}
-use Rattle.step_run.specs.Equations.{Equation}
-use Rattle.step_run.specs.Registers.{Frame, Advances, IsBegun}
-use Rattle.step_run.proofs.Exports.{IsEquational, all-made, all-of-made, decided}
+use Rattle.base_facts.proofs.Lists.{map-composed}
+use Rattle.run_steps.specs.Equations.{NameEquation}
+use Rattle.run_steps.specs.Registers.{Frame, Advances, IsBegun}
+use Rattle.run_steps.proofs.Exports.{IsEquational, all-made, all-of-made, decided}
 use Rattle.vlog_text.specs.Machine.{given_inputs, IsInstant, initial_registers}
-use Rattle.vlog_text.specs.Trees.{Register, Module}
+use Rattle.vlog_text.specs.Trees.{Register, VerilogModule}
 use Rattle.vlog_text.specs.Views.{module_of}
 use Rattle.vlog_text.specs.declared.trees.Module.{Module as CodeModule}
 use Rattle.vlog_run.specs.Loops.{equation_of, equations_of}
@@ -15,17 +15,17 @@ use Rattle.vlog_run.specs.Runners.{Reacts, IsFresh}
 use Rattle.vlog_run.proofs.Described.{IsSound}
 use Rattle.vlog_run.proofs.ModuleEquations.{names-are, sound-equations}
 
-equational : (design : Module) → IsEquational (given_inputs design) (map (λ r. r.name) design.registers) (equations_of design) (IsInstant design)
+equational : (design : VerilogModule) → IsEquational (given_inputs design) (map (λ r. r.name) design.registers) (equations_of design) (IsInstant design)
 equational design = record {
   makes = λ registers inputs v m. record {
     inputs_given = m.inputs_are;
     registers_kept = map-composed v (λ (r : Register). r.name) design.registers ∙ m.targets_are;
-    assigns_met = all-of-made (λ (e : Equation). v e.output ≡ e.value v) equation_of design.assigns m.met;
+    assigns_met = all-of-made (λ (e : NameEquation). v e.output ≡ e.value v) equation_of design.assigns m.met;
   };
   tells = λ registers inputs v is. record {
     inputs_are = is.inputs_given;
     targets_are = sym (map-composed v (λ (r : Register). r.name) design.registers) ∙ is.registers_kept;
-    met = all-made (λ (e : Equation). v e.output ≡ e.value v) equation_of design.assigns is.assigns_met;
+    met = all-made (λ (e : NameEquation). v e.output ≡ e.value v) equation_of design.assigns is.assigns_met;
   };
 }
 

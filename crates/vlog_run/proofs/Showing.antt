@@ -1,15 +1,15 @@
 -- What a runner shows: a reaction and a reset put their item in front of what it shows from then on.
 use Rattle.std.proofs.Common.{◌≡◌, Bool, List, ◌∷◌, length, map, take, refl, sym, ap, ◌∙◌, subst}
 use Rattle.std.proofs.lemmas.List.{length-map}
-use Rattle.facts.proofs.Lists.{map-composed}
-use Rattle.est_base.specs.Items.{Item, Event}
-use Rattle.machines.specs.Machines.{Shows}
-use Rattle.machines.proofs.Exports.{shows-reset}
-use Rattle.trace_io.specs.declared.lines.Word.{Word}
-use Rattle.trace_run.specs.Machines.{Answer, Answered, PutBack}
-use Rattle.trace_run.proofs.Exports.{event-told}
+use Rattle.base_facts.proofs.Lists.{map-composed}
+use Rattle.base_types.specs.Items.{Item, Event}
+use Rattle.base_machines.specs.Machines.{Shows}
+use Rattle.base_machines.proofs.Exports.{shows-reset}
+use Rattle.run_trace_io.specs.declared.lines.Word.{Word}
+use Rattle.run_over_traces.specs.Machines.{ShownAnswer, Answered, PutBack}
+use Rattle.run_over_traces.proofs.Exports.{event-told}
 use Rattle.vlog_text.specs.Machine.{vlog_machine, driven_names}
-use Rattle.vlog_text.specs.Trees.{Module, Register}
+use Rattle.vlog_text.specs.Trees.{VerilogModule, Register}
 use Rattle.vlog_text.specs.Views.{module_of}
 use Rattle.vlog_run.specs.Loops.{IsDescribed}
 use Rattle.vlog_run.specs.ModuleAnswers.{listed_count, answer_of, module_answer, module_shows}
@@ -25,7 +25,7 @@ answered old new inputs described reacts = record { in_front = in_front }
     sound : IsSound (module_in old)
     sound = described-sound described.0 (module_in old) described.1
 
-    in_front : (items : List Item) (answers : List Answer) → runner_shows new items answers
+    in_front : (items : List Item) (answers : List ShownAnswer) → runner_shows new items answers
         → Shows (vlog_machine (module_in old)) (module_answer (module_in old)) old.registers (Event inputs ∷ items)
         (answer_of (module_in new).outputs new.outputs ∷ answers)
     in_front items answers shows =
@@ -34,7 +34,7 @@ answered old new inputs described reacts = record { in_front = in_front }
         let sources = map (λ (r : Register). r.from) d.registers in
         let code : module_in new ≡ d = ap module_of reacts.same in
         let told : answer_of d.outputs (map u d.outputs) ≡ answer_of (module_in new).outputs new.outputs =
-        sym (ap (λ (k : Module). answer_of k.outputs new.outputs) code ∙ ap (answer_of d.outputs) reacts.outputs) in
+        sym (ap (λ (k : VerilogModule). answer_of k.outputs new.outputs) code ∙ ap (answer_of d.outputs) reacts.outputs) in
         let kept : new.registers ≡ map u sources = reacts.registers ∙ map-composed u (λ (r : Register). r.from) d.registers in
         let behind : Shows (vlog_machine d) (module_answer d) (map u sources) items answers =
         subst (λ l. Shows (vlog_machine d) (module_answer d) l items answers) kept
@@ -56,7 +56,7 @@ reacts-wide old new inputs reacts =
     ap length reacts.outputs ∙ length-map (module_in old).outputs reacts.valuation ∙ sym (ap (λ k. length (module_of k).outputs) reacts.same)
 
 -- a fresh runner shows what its module does
-pub fresh_shows : (r : Runner) → IsFresh r → (items : List Item) (answers : List Answer) → runner_shows r items answers
+pub fresh_shows : (r : Runner) → IsFresh r → (items : List Item) (answers : List ShownAnswer) → runner_shows r items answers
     → module_shows (module_in r) items answers
 fresh_shows r fresh items answers shows =
     subst (λ l. Shows (vlog_machine (module_in r)) (module_answer (module_in r)) l items answers) fresh.registers_initial shows

@@ -1,6 +1,7 @@
 -- Inner: to no items a runner shows nothing.
+-- (It is in specs/, short as it is, because a contract can cite definitions of specs/ alone.)
 use Rattle.std.specs.Prelude.{[]}
-use Rattle.trace_run.specs.Ends.{nothing_shown}
+use Rattle.run_over_traces.specs.Ends.{nothing_shown}
 use Rattle.vlog_text.specs.Machine.{vlog_machine}
 use Rattle.vlog_run.specs.ModuleAnswers.{module_answer}
 use Rattle.vlog_run.specs.Runners.{Runner, module_in}

@@ -5,7 +5,7 @@ use Rattle.vlog_text.specs.Views.{module_of}
 use Rattle.vlog_run.specs.Loops.{IsDescribed}
 use Rattle.vlog_run.specs.Plans.{IsPlan}
 use Rattle.vlog_run.specs.Runners.{Runner}
-use Rattle.vlog_run.specs.declared.runner.ModuleRunner.TheInside.{Inside}
+use Rattle.vlog_run.specs.declared.runner.ModuleRun.TheInside.{Inside}
 
 abbrev pub runner_of : Inside → Runner
 runner_of r = record {

@@ -1,7 +1,7 @@
 -- Contract: what a runner of a module is from event to event.
 use Rattle.std.specs.Prelude.{◌≡◌, ℕ, Bool, false, List, length, map, replicate}
 use Rattle.vlog_text.specs.Machine.{IsInstant, initial_registers, driven_names}
-use Rattle.vlog_text.specs.Trees.{Module}
+use Rattle.vlog_text.specs.Trees.{VerilogModule}
 use Rattle.vlog_text.specs.Views.{module_of}
 use Rattle.vlog_text.specs.declared.trees.Module.{Module as CodeModule}
 
@@ -12,7 +12,7 @@ pub record Runner : Type 0 where
   pub registers : List Bool
   pub outputs : List Bool
 
-abbrev pub module_in : Runner → Module
+abbrev pub module_in : Runner → VerilogModule
 module_in r = module_of r.code
 
 -- before the first event and behind a reset each register has its initial value, and every output is false

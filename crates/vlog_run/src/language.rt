@@ -1,7 +1,7 @@
 // Texts of structural Verilog as a language of texts that are run over traces.
 
 ghost use Rattle.std.specs.Prelude.{◌≡◌, ◌≢◌, ◌≤◌, length, IfOk, OnOk};
-ghost use Rattle.est_base.specs.Stops.{FaultIs, IfFault};
+ghost use Rattle.base_types.specs.Stops.{FaultIs, IfFault};
 ghost use Rattle.net_ir.specs.Runs.{netlist_of};
 ghost use Rattle.vlog_read.specs.declared.refusal.VlogFault.TheVariants.{TooLong as is_too_long};
 ghost use Rattle.vlog_text.specs.Trees as trees;
@@ -12,16 +12,16 @@ ghost use Rattle.vlog_run.specs.Texts.{IsWritten};
 ghost use Rattle.vlog_run.specs.Tracing.{IsLoopFault, IsModuleOf, IsTold};
 
 use crate::trace_runner::VlogRunner;
-use est_base::{Limits, NoMemory, Stop, Text};
+use base_types::{Limits, NoMemory, Stop, Text};
 use net_ir::{Net, look_at_wires};
+use run_over_traces::{Interface, Language};
 use std::alloc::Global;
-use trace_run::{Interface, Language};
 use vlog_read::{VlogFault, read_verilog};
 use vlog_text::Module;
 
 /// The first fault of a Verilog text that is to be run.
 #[derive(Debug, Drop)]
-pub enum TextFault {
+pub enum VerilogTextFault {
     /// At this byte stands the first token that no text of the subset passes, or here the text ends too early.
     Syntax(u32),
     /// The first name that is declared a second time.
@@ -42,16 +42,16 @@ pub enum TextFault {
 pub struct VerilogTexts {}
 
 impl Language for VerilogTexts {
-    ghost use Rattle.vlog_text.specs.Trees.{Module};
+    ghost use Rattle.vlog_text.specs.Trees.{VerilogModule};
     ghost use Rattle.vlog_run.specs.ModuleAnswers.{bare_inputs, bare_outputs, module_shows};
     ghost use Rattle.vlog_run.specs.Runners.{module_in};
     ghost use Rattle.vlog_run.specs.Texts.{ReadsModule, IsTextFault, IsWritten};
 
-    type Fault = TextFault;
+    type Fault = VerilogTextFault;
 
     type Machine = VlogRunner;
 
-    ghost Plain = { Module };
+    ghost Plain = { VerilogModule };
 
     ghost reads = { ReadsModule };
 
@@ -67,7 +67,7 @@ impl Language for VerilogTexts {
 
     ghost plain = { λ m. module_in m };
 
-    fn read(alloc: Global, text: &[u8]) -> Result<VlogRunner, Stop<TextFault>> {
+    fn read(alloc: Global, text: &[u8]) -> Result<VlogRunner, Stop<VerilogTextFault>> {
         match read_verilog(alloc, text) {
             Ok(design) => module_machine(alloc, design),
             Err(Stop::Fault(fault)) => Err(Stop::Fault(told(fault))),
@@ -89,7 +89,7 @@ impl Language for VerilogTexts {
 }
 
 // The machine of a module that some text describes.
-fn module_machine(alloc: Global, design: Module) -> Result<VlogRunner, Stop<TextFault>>
+fn module_machine(alloc: Global, design: Module) -> Result<VlogRunner, Stop<VerilogTextFault>>
     requires { IsDescribed (module_of design) }
     ensures code { IfOk result (λ r. r.code ≡ design) }
     ensures fresh { IfOk result IsFresh }
@@ -103,27 +103,28 @@ fn module_machine(alloc: Global, design: Module) -> Result<VlogRunner, Stop<Text
 }
 
 // Why a module has no machine.
-fn loop_stop(stop: Stop<Vec<Text>>) -> Stop<TextFault>
-    ensures { (m : trees.Module) → FaultIs (λ names. IsLoop m names.items) stop → FaultIs (IsLoopFault m) result }
+fn loop_stop(stop: Stop<Vec<Text>>) -> Stop<VerilogTextFault>
+    ensures { (m : trees.VerilogModule) → FaultIs (λ names. IsLoop m names.items) stop
+        → FaultIs (IsLoopFault m) result }
 {
     match stop {
-        Stop::Fault(names) => Stop::Fault(TextFault::Loop(names)),
+        Stop::Fault(names) => Stop::Fault(VerilogTextFault::Loop(names)),
         Stop::NoMemory => Stop::NoMemory,
     }
 }
 
 // Why a text is not read that is not too long.
-fn told(fault: VlogFault) -> TextFault
+fn told(fault: VlogFault) -> VerilogTextFault
     requires { fault ≢ is_too_long }
     ensures { IsTold fault result }
 {
     match fault {
-        VlogFault::Syntax(at) => TextFault::Syntax(at),
-        VlogFault::Twice(name) => TextFault::Twice(name),
-        VlogFault::Port(name) => TextFault::Port(name),
-        VlogFault::Undeclared(name) => TextFault::Undeclared(name),
-        VlogFault::TwoDrivers(name) => TextFault::TwoDrivers(name),
-        VlogFault::NoDriver(name) => TextFault::NoDriver(name),
+        VlogFault::Syntax(at) => VerilogTextFault::Syntax(at),
+        VlogFault::Twice(name) => VerilogTextFault::Twice(name),
+        VlogFault::Port(name) => VerilogTextFault::Port(name),
+        VlogFault::Undeclared(name) => VerilogTextFault::Undeclared(name),
+        VlogFault::TwoDrivers(name) => VerilogTextFault::TwoDrivers(name),
+        VlogFault::NoDriver(name) => VerilogTextFault::NoDriver(name),
         VlogFault::TooLong => unreachable!(),
     }
 }

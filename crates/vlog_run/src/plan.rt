@@ -1,19 +1,19 @@
 // The plan of a module's reactions: its assignments as steps in order, and which slots the registers and outputs take.
 
 ghost use Rattle.std.specs.Prelude.{◌≡◌, ◌<◌, map, length, All, IfOk, OnOk};
-ghost use Rattle.est_base.specs.Stops.{IfFault};
-ghost use Rattle.step_run.specs.Plans.{Adds, Makes};
-ghost use Rattle.step_run.specs.Slots.{slot_in};
-ghost use Rattle.step_run.specs.Solvers.{AreOrdered, AreResolved};
+ghost use Rattle.base_types.specs.Stops.{IfFault};
+ghost use Rattle.run_steps.specs.Plans.{Adds, Makes};
+ghost use Rattle.run_steps.specs.Slots.{slot_in};
+ghost use Rattle.run_steps.specs.Solvers.{AreOrdered, AreResolved};
 ghost use Rattle.vlog_run.specs.Loops.{IsDescribed, IsLoop, HasNoLoop, equations_of};
 ghost use Rattle.vlog_run.specs.Plans.{IsPlan, assign_step, given_names, step_at};
 ghost use Rattle.vlog_text.specs.Views.{assign_of, module_of};
 
 use crate::slots::{driven_names, slots_read, source_slots};
-use est_base::{NoMemory, Stop, Text};
+use base_types::{NoMemory, Stop, Text};
 use indexmap::IndexSet;
+use run_steps::{Plan, Resolved, evaluation_order, push_expr, slot_table, slots_of};
 use std::alloc::Global;
-use step_run::{Plan, Resolved, evaluation_order, push_expr, slot_table, slots_of};
 use vlog_text::{Assign, Module};
 
 #[derive(Drop)]

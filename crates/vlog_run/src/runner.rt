@@ -1,8 +1,8 @@
 // The runner of a module.
 
 ghost use Rattle.std.specs.Prelude.{◌≡◌, map, length, IfOk, OnOk};
-ghost use Rattle.est_base.specs.Stops.{IfFault};
-ghost use Rattle.step_run.specs.Registers.{IsBegun};
+ghost use Rattle.base_types.specs.Stops.{IfFault};
+ghost use Rattle.run_steps.specs.Registers.{IsBegun};
 ghost use Rattle.vlog_run.specs.Loops.{IsDescribed, IsLoop, HasNoLoop};
 ghost use Rattle.vlog_run.specs.Plans.{IsPlan};
 ghost use Rattle.vlog_run.specs.Runners.{Reacts, Resets, IsFresh, module_in};
@@ -11,26 +11,26 @@ ghost use Rattle.vlog_text.specs.Views.{module_of, register_of};
 
 use crate::plan::{ModulePlan, module_plan};
 use crate::slots::given_inputs;
-use est_base::{NoMemory, Stop, Text};
+use base_types::{NoMemory, Stop, Text};
+use run_steps::Registers;
 use std::alloc::Global;
 use std::marker::Model;
-use step_run::Registers;
 use vlog_text::{Module, Register};
 
 /// A runner of a module. A contract sees it as the module, the values that the registers have in the next instant, and
 /// those that the outputs had in the last one.
 #[derive(Drop)]
-pub struct ModuleRunner {
+pub struct ModuleRun {
     design: Module,
     registers: Registers,
 }
 
-impl Model for ModuleRunner {
+impl Model for ModuleRun {
     ghost use Rattle.vlog_run.specs.Runners.{Runner};
 
     ghost Value = { Runner };
 
-    ghost use Rattle.expr_text.specs.contracts.trees.Expr as e;
+    ghost use Rattle.net_expressions.specs.contracts.trees.Expr as e;
     ghost use Rattle.std.specs.Coded.{codes};
 
     ghost coded = { Prim.hlevel (codes, e.the_row.coded) };
@@ -42,12 +42,12 @@ impl Model for ModuleRunner {
     ghost invariant = { KeepsPlan };
 }
 
-impl ModuleRunner {
+impl ModuleRun {
     /// A runner of a module before its first event. The module is one that some text describes.
     ///
     /// The fault is a combinational cycle, where there is one: each next name stands in the expression that is assigned
     /// to the one before, and the first in that of the last. The only other error is want of memory.
-    pub fn new(alloc: Global, design: Module) -> Result<ModuleRunner, Stop<Vec<Text>>>
+    pub fn new(alloc: Global, design: Module) -> Result<ModuleRun, Stop<Vec<Text>>>
         requires { IsDescribed (module_of design) }
         ensures code { IfOk result (λ r. r.code ≡ design) }
         ensures fresh { IfOk result IsFresh }
@@ -55,7 +55,7 @@ impl ModuleRunner {
         ensures cyclic { IfFault result (λ names. IsLoop (module_of design) names.items) }
     {
         let registers = module_registers(alloc, &design)?;
-        Ok(ModuleRunner { design, registers })
+        Ok(ModuleRun { design, registers })
     }
 
     /// One reaction to these values of the inputs besides the clock. It takes no memory.

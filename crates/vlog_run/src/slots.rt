@@ -1,17 +1,17 @@
 // The names that a module drives, and the slots of those that its assignments and registers read.
 
 ghost use Rattle.std.specs.Prelude.{◌≡◌, map, IfOk};
-ghost use Rattle.expr_text.specs.Names.{names_in};
-ghost use Rattle.expr_text.specs.Views.{expr_of};
-ghost use Rattle.step_run.specs.Slots.{slot_in};
+ghost use Rattle.net_expressions.specs.Names.{names_in};
+ghost use Rattle.net_expressions.specs.Views.{expr_of};
+ghost use Rattle.run_steps.specs.Slots.{slot_in};
 ghost use Rattle.vlog_text.specs.Machine.{driven_names, given_inputs};
 ghost use Rattle.vlog_text.specs.Views.{assign_of, module_of, register_of};
 
-use est_base::{NoMemory, Text};
-use expr_text::{Expr, names_in};
+use base_types::{NoMemory, Text};
 use indexmap::IndexSet;
+use net_expressions::{Expr, names_in};
+use run_steps::slot_of;
 use std::alloc::Global;
-use step_run::slot_of;
 use vlog_text::{Assign, Module, Register};
 
 // The inputs besides the clock.

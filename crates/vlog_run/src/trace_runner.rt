@@ -1,21 +1,21 @@
 // The runner of a module, as a machine that items drive.
 
 ghost use Rattle.std.specs.Prelude.{◌≡◌, [], map, length, IfOk, IsTrue, OnOk};
-ghost use Rattle.est_base.specs.Distinct.{all_differ};
-ghost use Rattle.est_base.specs.Names.{is_same_name};
-ghost use Rattle.est_base.specs.Stops.{IfFault};
+ghost use Rattle.base_types.specs.Distinct.{all_differ};
+ghost use Rattle.base_types.specs.Names.{is_same_name};
+ghost use Rattle.base_types.specs.Stops.{IfFault};
 ghost use Rattle.vlog_run.specs.Loops.{IsDescribed, IsLoop, HasNoLoop};
 ghost use Rattle.vlog_run.specs.ModuleAnswers.{bare_name, bare_inputs, bare_outputs, listed_count};
 ghost use Rattle.vlog_run.specs.Runners.{IsFresh, module_in};
 ghost use Rattle.vlog_text.specs.Views.{module_of};
 
-use crate::runner::ModuleRunner;
+use crate::runner::ModuleRun;
 use crate::slots::given_inputs;
-use est_base::{NoMemory, Stop, Text};
+use base_types::{NoMemory, Stop, Text};
+use run_over_traces::{Interface, Runner, listed_count, told_word};
+use run_trace_io::Word;
 use std::alloc::Global;
 use std::marker::Model;
-use trace_io::Word;
-use trace_run::{Interface, Runner, listed_count, told_word};
 use vlog_text::Module;
 
 /// A runner of a module, as one that items drive. A last output `paused` is none of the outgoing signals, and its value
@@ -23,7 +23,7 @@ use vlog_text::Module;
 /// the values that the registers have in the next instant, and those that the outputs had in the last one.
 #[derive(Drop)]
 pub struct VlogRunner {
-    runner: ModuleRunner,
+    runner: ModuleRun,
 }
 
 impl Model for VlogRunner {
@@ -31,7 +31,7 @@ impl Model for VlogRunner {
 
     ghost Value = { Runner };
 
-    ghost use Rattle.expr_text.specs.contracts.trees.Expr as e;
+    ghost use Rattle.net_expressions.specs.contracts.trees.Expr as e;
     ghost use Rattle.std.specs.Coded.{codes};
 
     ghost coded = { Prim.hlevel (codes, e.the_row.coded) };
@@ -46,7 +46,7 @@ impl Model for VlogRunner {
 impl VlogRunner {
     /// A runner of a module before its first event. The module is one that some text describes.
     ///
-    /// The fault is a combinational cycle, where there is one, as of `ModuleRunner::new`. The only other error is want
+    /// The fault is a combinational cycle, where there is one, as of `ModuleRun::new`. The only other error is want
     /// of memory.
     pub fn new(alloc: Global, design: Module) -> Result<VlogRunner, Stop<Vec<Text>>>
         requires { IsDescribed (module_of design) }
@@ -55,7 +55,7 @@ impl VlogRunner {
         ensures acyclic { OnOk result (HasNoLoop (module_of design)) }
         ensures cyclic { IfFault result (λ names. IsLoop (module_of design) names.items) }
     {
-        match ModuleRunner::new(alloc, design) {
+        match ModuleRun::new(alloc, design) {
             Ok(runner) => Ok(VlogRunner { runner }),
             Err(stop) => Err(stop),
         }

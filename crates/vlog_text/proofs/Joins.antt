@@ -7,9 +7,9 @@ use Rattle.net_ir.specs.declared.netlist.Gate.{Gate}
 use Rattle.net_ir.specs.declared.netlist.Latch.{Latch}
 use Rattle.net_ir.specs.Netlists.{Netlist}
 use Rattle.net_ir.specs.Numbered.{numbered}
-use Rattle.expr_text.specs.NetNames.{state_name, gate_name}
-use Rattle.net_text.specs.Parts.{joined}
-use Rattle.net_text.proofs.Exports.{joined-numbered, joined-mapped, joined-one, joined-last}
+use Rattle.net_expressions.specs.NetNames.{state_name, gate_name}
+use Rattle.net_writer.specs.Parts.{joined}
+use Rattle.net_writer.proofs.Exports.{joined-numbered, joined-mapped, joined-one, joined-last}
 use Rattle.vlog_text.specs.Trees.{Input, Output, Reg, Wire}
 use Rattle.vlog_text.specs.Names.{paused_name}
 use Rattle.vlog_text.specs.Parts.{parts_in}

@@ -2,10 +2,10 @@
 use Rattle.std.proofs.Common.{◌≡◌, ℕ, ◌+◌, ◌<◌, ◌^◌, Bool, true, false, List, [], ◌∷◌, ◌++◌, refl, arith}
 use Rattle.std.specs.Prelude.{codes, decimal}
 use Rattle.std.proofs.lemmas.Bool.{ne_eqb}
-use Rattle.est_base.specs.Names.{is_name}
-use Rattle.expr_text.specs.Signs.{BitSign}
-use Rattle.expr_text.proofs.Saying as saying
-use Rattle.expr_text.proofs.Exports.{FrontsNames, begins_high, digits-decimal, bytes-decimal, bytes-name, no-word, Writes}
+use Rattle.base_types.specs.Names.{is_name}
+use Rattle.net_expressions.specs.Signs.{BitSign}
+use Rattle.net_expressions.proofs.Saying as saying
+use Rattle.net_expressions.proofs.Exports.{FrontsNames, begins_high, digits-decimal, bytes-decimal, bytes-name, no-word, Writes}
 use Rattle.vlog_text.specs.Trees.{Sort, Input, Output, Wire, Reg}
 use Rattle.vlog_text.specs.Tokens.{Kind, ModuleWord, InitialWord, AssignWord, AlwaysWord, PosedgeWord, BeginWord}
 use Rattle.vlog_text.specs.Tokens.{EndWord, EndmoduleWord, LeftParenthesis, RightParenthesis, Comma, Semicolon, Equals}

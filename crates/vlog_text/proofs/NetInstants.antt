@@ -4,7 +4,7 @@ use Rattle.std.proofs.Common.{◌∙◌, subst, arith, zero-add}
 use Rattle.std.specs.List.{AllByRecursion}
 use Rattle.std.proofs.lemmas.List.{map-append, length-append, length-map, get_or-map, take_at, get_or_append_left, get_or-append-add}
 use Rattle.std.proofs.lemmas.List.Elements.{recursion_from_All, All-append, All-map, All-cons, All-nil}
-use Rattle.facts.proofs.Lists.{all-split, map-equal, maps-at}
+use Rattle.base_facts.proofs.Lists.{all-split, map-equal, maps-at}
 use Rattle.net_ir.specs.declared.netlist.Gate.{Gate}
 use Rattle.net_ir.specs.declared.netlist.Latch.{Latch}
 use Rattle.net_ir.specs.declared.netlist.NetOut.{NetOut}
@@ -15,10 +15,10 @@ use Rattle.net_ir.specs.Runs.{net_values}
 use Rattle.net_ir.specs.Writing.{IsWritable}
 use Rattle.net_ir.proofs.Exports.{length-numbered, get_or-numbered, map-numbered, All-numbered, op_value-same, Solves-gate_values, gate_values-from_Solves}
 use Rattle.net_ir.proofs.Exports.{net_cases, numbered-at}
-use Rattle.expr_text.specs.NetNames.{state_name, gate_name, gate_names}
-use Rattle.expr_text.specs.Trees.{Expr}
-use Rattle.expr_text.specs.Values.{value_of}
-use Rattle.expr_text.proofs.Exports.{state_names, any_gate, any_latch, op-expr-value}
+use Rattle.net_expressions.specs.NetNames.{state_name, gate_name, gate_names}
+use Rattle.net_expressions.specs.Trees.{Expr}
+use Rattle.net_expressions.specs.Values.{value_of}
+use Rattle.net_expressions.proofs.Exports.{state_names, any_gate, any_latch, op-expr-value}
 use Rattle.vlog_text.specs.Trees.{Register, Assign}
 use Rattle.vlog_text.specs.Names.{paused_name}
 use Rattle.vlog_text.specs.Machine.{IsInstant}

@@ -1,23 +1,23 @@
 -- Inner: the module of a net's source.
 use Rattle.std.proofs.Common.{◌≡◌, ℕ, ◌+◌, ◌<◌, zero, suc, Bool, true, false, not, List, [], ◌∷◌, length, map, get_or, refl, sym, ap, ◌∙◌, arith}
 use Rattle.std.proofs.lemmas.Bool.{and_parts, not-true}
-use Rattle.est_base.specs.Distinct.{all_differ}
-use Rattle.est_base.specs.Names.{is_same_name}
-use Rattle.est_base.proofs.Exports.{same_name-self}
+use Rattle.base_types.specs.Distinct.{all_differ}
+use Rattle.base_types.specs.Names.{is_same_name}
+use Rattle.base_types.proofs.Exports.{same_name-self}
 use Rattle.net_ir.specs.declared.netlist.Latch.{Latch}
 use Rattle.net_ir.specs.NameLists.{is_among}
 use Rattle.net_ir.specs.Netlists.{Netlist}
 use Rattle.net_ir.specs.Numbered.{numbered}
 use Rattle.net_ir.specs.Writing.{IsWritable}
 use Rattle.net_ir.proofs.Exports.{any-none, length-numbered, get_or-numbered, map-numbered}
-use Rattle.expr_text.specs.NetNames.{state_name, gate_names}
-use Rattle.expr_text.proofs.Exports.{numbered-same, differ-states}
-use Rattle.vlog_text.specs.Trees.{Module}
+use Rattle.net_expressions.specs.NetNames.{state_name, gate_names}
+use Rattle.net_expressions.proofs.Exports.{numbered-same, differ-states}
+use Rattle.vlog_text.specs.Trees.{VerilogModule}
 use Rattle.vlog_text.specs.Texts.{initial_value, next_source, register_said, module_said}
 use Rattle.vlog_text.specs.Written.{module_name, net_name, latch_initial, latch_next, net_inputs, net_outputs, net_assigns, net_source, net_register}
 use Rattle.vlog_text.proofs.NetNames.{inputs-net, outputs-net, regs-net, wires-net}
 
-abbrev pub net_module : Netlist → Module
+abbrev pub net_module : Netlist → VerilogModule
 net_module net = record {
   name = module_name net.name;
   inputs = net_inputs net;

@@ -4,8 +4,8 @@ use Rattle.std.specs.Prelude.{filter, if◌then◌else◌}
 use Rattle.std.specs.List.{list_all}
 use Rattle.std.proofs.lemmas.Bool.{and_from}
 use Rattle.std.proofs.lemmas.List.{map-append, map-id, append-nil}
-use Rattle.est_base.specs.Distinct.{all_differ}
-use Rattle.est_base.specs.Names.{is_same_name}
+use Rattle.base_types.specs.Distinct.{all_differ}
+use Rattle.base_types.specs.Names.{is_same_name}
 use Rattle.net_ir.specs.declared.netlist.Gate.{Gate}
 use Rattle.net_ir.specs.declared.netlist.Latch.{Latch}
 use Rattle.net_ir.specs.declared.netlist.NetOut.{NetOut}
@@ -13,8 +13,9 @@ use Rattle.net_ir.specs.Netlists.{Netlist}
 use Rattle.net_ir.specs.Numbered.{numbered}
 use Rattle.net_ir.specs.Writing.{IsWritable}
 use Rattle.net_ir.proofs.Exports.{map-numbered}
-use Rattle.expr_text.specs.NetNames.{state_name, gate_name, gate_names}
-use Rattle.expr_text.proofs.Exports.{mark, state_names, all-mapped, marks-states, marks-gates, differ-states, differ-gates, marked-differ, in-front, all-both}
+use Rattle.net_expressions.specs.NetNames.{state_name, gate_name, gate_names}
+use Rattle.net_expressions.proofs.Exports.{mark, state_names, all-mapped, marks-states, marks-gates, differ-states, differ-gates, marked-differ, in-front}
+use Rattle.net_expressions.proofs.Exports.{all-both}
 use Rattle.vlog_text.specs.Trees.{Sort, Input, Output, Wire, Reg, Declaration}
 use Rattle.vlog_text.specs.Names.{is_input, is_output, is_wire, is_reg, names_of, declared, paused_name}
 use Rattle.vlog_text.specs.Written.{clock_name, input_name, output_name, declares, net_inputs, net_outputs, net_declarations}

@@ -8,10 +8,10 @@ use Rattle.std.proofs.lemmas.Bool.{and_from, or_from, not_from_true}
 use Rattle.std.proofs.lemmas.List.{length-map, get_or-map, map-append}
 use Rattle.std.proofs.lemmas.List.Elements.{All-append}
 use Rattle.std.proofs.lemmas.Option.{slice_get-get_or}
-use Rattle.facts.proofs.Tests.{and-false}
-use Rattle.est_base.specs.Distinct.{all_differ}
-use Rattle.est_base.specs.Names.{is_name, is_same_name}
-use Rattle.est_base.proofs.Exports.{same_name-self}
+use Rattle.base_facts.proofs.Tests.{and-false}
+use Rattle.base_types.specs.Distinct.{all_differ}
+use Rattle.base_types.specs.Names.{is_name, is_same_name}
+use Rattle.base_types.proofs.Exports.{same_name-self}
 use Rattle.net_ir.specs.declared.netlist.Gate.{Gate}
 use Rattle.net_ir.specs.declared.netlist.Latch.{Latch}
 use Rattle.net_ir.specs.declared.netlist.NetOut.{NetOut}
@@ -20,12 +20,13 @@ use Rattle.net_ir.specs.Netlists.{Netlist, first_gate, net_count}
 use Rattle.net_ir.specs.Numbered.{numbered}
 use Rattle.net_ir.specs.Writing.{IsWritable}
 use Rattle.net_ir.proofs.Exports.{find-same, once-differ, length-numbered, get_or-numbered, map-numbered, All-numbered, net_cases}
-use Rattle.expr_text.specs.Names.{names_in}
-use Rattle.expr_text.specs.NetNames.{state_name, gate_name, gate_names}
-use Rattle.expr_text.specs.Trees.{Expr}
-use Rattle.expr_text.proofs.Exports.{once-behind, mark, state_names, marks-states, marks-gates, in-front, all-both, among-numbered, among-left, among-right}
-use Rattle.expr_text.proofs.Exports.{any_gate, any_latch, find-none, any_output, gate-low, long-name, differ-states, op-names}
-use Rattle.expr_text.proofs.Naming as naming
+use Rattle.net_expressions.specs.Names.{names_in}
+use Rattle.net_expressions.specs.NetNames.{state_name, gate_name, gate_names}
+use Rattle.net_expressions.specs.Trees.{Expr}
+use Rattle.net_expressions.proofs.Exports.{once-behind, mark, state_names, marks-states, marks-gates, in-front, all-both, among-numbered, among-left}
+use Rattle.net_expressions.proofs.Exports.{among-right}
+use Rattle.net_expressions.proofs.Exports.{any_gate, any_latch, find-none, any_output, gate-low, long-name, differ-states, op-names}
+use Rattle.net_expressions.proofs.Naming as naming
 use Rattle.vlog_text.specs.Trees.{Sort, Input, Output, Wire, Reg, Declaration, Initial, Assign, Next}
 use Rattle.vlog_text.specs.Names.{is_input, is_output, is_reg, names_of, declared_twice, interface_names, misplaced, declaration_found, portless}
 use Rattle.vlog_text.specs.Names.{is_first, is_last, has_sign, paused_name, is_ill_named, ill_named, is_clock, other_clock, wrong_port, Use, Kept, Assigned}

@@ -3,11 +3,11 @@ use Rattle.std.proofs.Common.{◌≡◌, ℕ, Bool, true, not, ◌==◌, List, [
 use Rattle.std.specs.List.{range_with_len}
 use Rattle.std.proofs.lemmas.List.{map-append, length-append, length-map, map-id, drop_at, take-append-drop}
 use Rattle.std.proofs.lemmas.List.FromFn.{fill_by_all}
-use Rattle.facts.proofs.Lists.{map-composed, map-equal, same-parts}
-use Rattle.est_base.specs.Distinct.{all_differ}
-use Rattle.est_base.specs.Items.{Item}
-use Rattle.est_base.specs.Names.{is_same_name}
-use Rattle.machines.specs.Machines.{IsRun}
+use Rattle.base_facts.proofs.Lists.{map-composed, map-equal, same-parts}
+use Rattle.base_types.specs.Distinct.{all_differ}
+use Rattle.base_types.specs.Items.{Item}
+use Rattle.base_types.specs.Names.{is_same_name}
+use Rattle.base_machines.specs.Machines.{IsRun}
 use Rattle.net_ir.specs.declared.netlist.Gate.{Gate}
 use Rattle.net_ir.specs.declared.netlist.Latch.{Latch}
 use Rattle.net_ir.specs.declared.netlist.NetOut.{NetOut}
@@ -17,9 +17,9 @@ use Rattle.net_ir.specs.Runs.{Shown, net_values, next_latches, initial_latches, 
 use Rattle.net_ir.specs.Writing.{IsWritable}
 use Rattle.net_ir.proofs.Exports.{length-numbered, map-numbered, numbered-map, take-gate_values, looked_up, map-looked_up, gate_part, length-gate_part}
 use Rattle.net_ir.proofs.Exports.{output_part}
-use Rattle.net_text.proofs.Exports.{HasNet, runs, runs-are, runs-tell}
-use Rattle.expr_text.specs.NetNames.{state_name, gate_name, gate_names}
-use Rattle.expr_text.proofs.Exports.{state_names, marks-states, marks-gates, in-front, all-both, differ-states}
+use Rattle.net_writer.proofs.Exports.{HasNet, runs, runs-are, runs-tell}
+use Rattle.net_expressions.specs.NetNames.{state_name, gate_name, gate_names}
+use Rattle.net_expressions.proofs.Exports.{state_names, marks-states, marks-gates, in-front, all-both, differ-states}
 use Rattle.vlog_text.specs.Trees.{Register, Assign}
 use Rattle.vlog_text.specs.Names.{paused_name}
 use Rattle.vlog_text.specs.Machine.{IsInstant, vlog_machine, initial_registers, driven_names}

@@ -2,15 +2,15 @@
 use Rattle.std.proofs.Common.{◌≡◌, ℕ, ◌+◌, ◌<◌, ◌^◌, zero, suc, List, [], ◌∷◌, ◌++◌, map, get_or, refl, sym, ap, ◌∙◌, subst, arith, Option, Some, None, All}
 use Rattle.std.specs.Prelude.{IfSome}
 use Rattle.std.proofs.lemmas.List.Elements.{All-append, All-map, All-cons}
-use Rattle.est_base.specs.declared.indices.WireId.{WireId}
+use Rattle.base_types.specs.declared.indices.WireId.{WireId}
 use Rattle.net_ir.specs.declared.netlist.Gate.{Gate}
 use Rattle.net_ir.specs.declared.netlist.Latch.{Latch}
 use Rattle.net_ir.specs.Netlists.{Netlist, first_gate, net_count}
 use Rattle.net_ir.specs.Writing.{IsWritable}
 use Rattle.net_ir.proofs.Exports.{All-numbered, net_cases}
-use Rattle.expr_text.specs.NetNames.{state_name, gate_name, gate_names}
-use Rattle.expr_text.specs.Trees.{Expr}
-use Rattle.expr_text.proofs.Exports.{state_names, any_gate, any_output, gate-low, plain-op, says-whole}
+use Rattle.net_expressions.specs.NetNames.{state_name, gate_name, gate_names}
+use Rattle.net_expressions.specs.Trees.{Expr}
+use Rattle.net_expressions.proofs.Exports.{state_names, any_gate, any_output, gate-low, plain-op, says-whole}
 use Rattle.vlog_text.specs.Trees.{Input, Output, Reg, Wire, Declaration, Assign}
 use Rattle.vlog_text.specs.Grammar.{SpellsText}
 use Rattle.vlog_text.specs.Texts.{Describes, module_said}

@@ -3,13 +3,13 @@ use Rattle.std.proofs.Common.{◌≡◌, ℕ, ◌≤◌, suc, Bool, false, List,
 use Rattle.std.proofs.Common.{subst, arith, append_assoc}
 use Rattle.std.specs.Prelude.{flat_map, codes}
 use Rattle.std.proofs.lemmas.List.{map-id}
-use Rattle.est_base.specs.Names.{is_name_byte}
-use Rattle.read_rules.specs.Languages.{Empty, One as Single, Loop, Many, Parted}
-use Rattle.expr_text.specs.Trees.{Expr}
-use Rattle.expr_text.specs.Grammar.{Written}
-use Rattle.expr_text.proofs.Saying as saying
-use Rattle.expr_text.proofs.Exports.{says-then, says-lines, plain_written, meant-plain, nesting-plain, spells-many}
-use Rattle.expr_text.proofs.Spelling as spelling
+use Rattle.base_types.specs.Names.{is_name_byte}
+use Rattle.base_reader.specs.Languages.{Empty, One as Single, Loop, Many, Parted}
+use Rattle.net_expressions.specs.Trees.{Expr}
+use Rattle.net_expressions.specs.Grammar.{Written}
+use Rattle.net_expressions.proofs.Saying as saying
+use Rattle.net_expressions.proofs.Exports.{says-then, says-lines, plain_written, meant-plain, nesting-plain, spells-many}
+use Rattle.net_expressions.proofs.Spelling as spelling
 use Rattle.vlog_text.specs.Trees.{Declaration, Initial, Assign, Next, Source}
 use Rattle.vlog_text.specs.Tokens.{Kind, ModuleWord, InitialWord, AssignWord, AlwaysWord, PosedgeWord, BeginWord}
 use Rattle.vlog_text.specs.Tokens.{EndWord, EndmoduleWord, LeftParenthesis, RightParenthesis, Comma, Semicolon, Equals}

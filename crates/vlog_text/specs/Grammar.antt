@@ -8,11 +8,12 @@
 --
 -- with the expressions of expr_text over `~`, `&`, `|`, where BIT is `1'b0` or `1'b1`.
 use Rattle.std.specs.Prelude.{ℕ, max, Bool, true, false, List, [], ◌∷◌, map, Option, Some, None}
-use Rattle.read_rules.specs.Languages.{Empty, One as Single, Then, Led, Loop, Many, Parted, Within}
-use Rattle.expr_text.specs.Signs.{Sign, NameSign, BitSign, NotSign, OpenSign, CloseSign, AndSign, OrSign, OtherSign}
-use Rattle.expr_text.specs.Signs.{numbered_as, named, constant}
-use Rattle.expr_text.specs.Trees.{Expr}
-use Rattle.expr_text.specs.Grammar.{Written, written_nesting, meant, Disjunction, SpellsExpr}
+use Rattle.base_reader.specs.Languages.{Empty, One as Single, Then, Led, Loop, Many, Parted, Within}
+use Rattle.net_expressions.specs.Signs.{Sign, NameSign, BitSign, NotSign, OpenSign, CloseSign, AndSign, OrSign}
+use Rattle.net_expressions.specs.Signs.{OtherSign}
+use Rattle.net_expressions.specs.Signs.{numbered_as, named, constant}
+use Rattle.net_expressions.specs.Trees.{Expr}
+use Rattle.net_expressions.specs.Grammar.{Written, written_nesting, meant, Disjunction, SpellsExpr}
 use Rattle.vlog_text.specs.Trees.{Sort, Declaration, Initial, Assign, Next, Source}
 use Rattle.vlog_text.specs.Tokens.{Kind, ModuleWord, InitialWord, AssignWord, AlwaysWord, PosedgeWord, BeginWord}
 use Rattle.vlog_text.specs.Tokens.{EndWord, EndmoduleWord, LeftParenthesis, RightParenthesis, Comma, Semicolon, Equals}

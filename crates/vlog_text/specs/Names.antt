@@ -1,10 +1,10 @@
 -- To believe: the rules on names. The first rule that is broken counts, at its first place in the text.
 use Rattle.std.specs.Prelude.{ℕ, Bool, true, false, not, ◌&&◌, ◌||◌, List, [], ◌∷◌, ◌++◌, map, flat_map, find, filter}
 use Rattle.std.specs.Prelude.{Option, Some, None, take, codes, length, nat_lt, if◌then◌else◌}
-use Rattle.est_base.specs.Names.{is_same_name}
+use Rattle.base_types.specs.Names.{is_same_name}
 use Rattle.net_ir.specs.NameLists.{is_among, first_again}
-use Rattle.expr_text.specs.Trees.{Expr}
-use Rattle.expr_text.specs.Names.{names_in, or_else}
+use Rattle.net_expressions.specs.Trees.{Expr}
+use Rattle.net_expressions.specs.Names.{names_in, or_else}
 use Rattle.vlog_text.specs.Trees.{Sort, Input, Output, Wire, Reg, Declaration, Assign, Next, Source}
 
 -- ---- what is declared

@@ -2,20 +2,22 @@
 use Rattle.std.specs.Prelude.{ℕ, List, [], ◌∷◌, ◌++◌, map}
 use Rattle.net_ir.specs.Netlists.{Netlist}
 use Rattle.net_ir.specs.Numbered.{numbered}
-use Rattle.expr_text.specs.NetNames.{gate_name, state_name}
+use Rattle.net_expressions.specs.NetNames.{gate_name, state_name}
 use Rattle.vlog_text.specs.Trees.{Input, Output, Reg, Wire}
 use Rattle.vlog_text.specs.Names.{paused_name}
 use Rattle.vlog_text.specs.Written.{module_name, clock_name, input_name, output_name, declares, gate_assign}
 use Rattle.vlog_text.specs.Written.{output_assign, paused_assign, latch_initial, latch_next, next_port, head_front}
 use Rattle.vlog_text.specs.Written.{head_end, declaration_line, initial_line, assign_line, clock_line, next_line}
 use Rattle.vlog_text.specs.Written.{last_lines}
-use Rattle.vlog_text.specs.declared.parts.Section.{Section}
-use Rattle.vlog_text.specs.declared.parts.Section.TheVariants.{ClockPort, InputPorts, OutputPorts, HeadEnd, Inputs}
-use Rattle.vlog_text.specs.declared.parts.Section.TheVariants.{Outputs, Paused, Regs, Wires, Initials, GateAssigns}
-use Rattle.vlog_text.specs.declared.parts.Section.TheVariants.{OutputAssigns, PausedAssign, Nexts, LastLines}
+use Rattle.vlog_text.specs.declared.parts.VerilogSection.{VerilogSection}
+use Rattle.vlog_text.specs.declared.parts.VerilogSection.TheVariants.{ClockPort, InputPorts, OutputPorts, HeadEnd}
+use Rattle.vlog_text.specs.declared.parts.VerilogSection.TheVariants.{Inputs}
+use Rattle.vlog_text.specs.declared.parts.VerilogSection.TheVariants.{Outputs, Paused, Regs, Wires, Initials}
+use Rattle.vlog_text.specs.declared.parts.VerilogSection.TheVariants.{GateAssigns}
+use Rattle.vlog_text.specs.declared.parts.VerilogSection.TheVariants.{OutputAssigns, PausedAssign, Nexts, LastLines}
 
 -- the parts of a section
-abbrev pub parts_in : Netlist → Section → List (List ℕ)
+abbrev pub parts_in : Netlist → VerilogSection → List (List ℕ)
 parts_in net ClockPort = (head_front (module_name net.name) ++ clock_name) ∷ []
 parts_in net InputPorts = map (λ name. next_port (input_name name)) net.inputs
 parts_in net OutputPorts = map (λ o. next_port (output_name o)) net.outputs

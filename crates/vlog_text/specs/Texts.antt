@@ -1,9 +1,9 @@
 -- To believe: which module a text describes.
 use Rattle.std.specs.Prelude.{◌≡◌, ℕ, Bool, false, List, [], ◌∷◌, map, None, if◌then◌else◌}
-use Rattle.est_base.specs.Names.{is_same_name}
-use Rattle.expr_text.specs.Trees.{Expr}
-use Rattle.expr_text.specs.Grammar.{Written}
-use Rattle.vlog_text.specs.Trees.{Initial, Next, Source, Register, Module}
+use Rattle.base_types.specs.Names.{is_same_name}
+use Rattle.net_expressions.specs.Trees.{Expr}
+use Rattle.net_expressions.specs.Grammar.{Written}
+use Rattle.vlog_text.specs.Trees.{Initial, Next, Source, Register, VerilogModule}
 use Rattle.vlog_text.specs.Tokens.{kinds}
 use Rattle.vlog_text.specs.Grammar.{IsText, source_meant}
 use Rattle.vlog_text.specs.Names.{is_input, is_output, is_wire, is_reg, names_of, name_fault}
@@ -31,7 +31,7 @@ register_said s name = record {
 }
 
 -- the module of a source that keeps the rules on names
-abbrev pub module_said : Source Expr → Module
+abbrev pub module_said : Source Expr → VerilogModule
 module_said s = record {
   name = s.name;
   inputs = names_of is_input s.declarations;
@@ -42,7 +42,7 @@ module_said s = record {
 }
 
 -- The text has the grammar's tokens of something written that keeps the rules on names and whose module this is.
-pub record Describes (text : List ℕ) (design : Module) : Type 0 where
+pub record Describes (text : List ℕ) (design : VerilogModule) : Type 0 where
   pub written : Source Written
   pub spelled : IsText nesting_limit written (kinds text)
   pub names_fit : name_fault (source_meant written) ≡ None

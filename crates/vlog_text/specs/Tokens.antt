@@ -3,9 +3,9 @@
 use Rattle.std.specs.Prelude.{ℕ, ◌+◌, ◌==◌, Bool, not, ◌&&◌, List, [], ◌∷◌, take, codes, map}
 use Rattle.std.specs.Prelude.{Option, Some, None, if◌then◌else◌}
 use Rattle.std.specs.List.{prefix_len}
-use Rattle.est_base.specs.Names.{is_name_byte, is_same_name}
-use Rattle.expr_text.specs.Lexemes as lexemes
-use Rattle.expr_text.specs.Lexemes.{Front, Gap, Lexeme, Wrong, mark_front, is_space, begins_name, tokens_behind}
+use Rattle.base_types.specs.Names.{is_name_byte, is_same_name}
+use Rattle.net_expressions.specs.Lexemes as lexemes
+use Rattle.net_expressions.specs.Lexemes.{Front, Gap, Lexeme, Wrong, mark_front, is_space, begins_name, tokens_behind}
 use Rattle.vlog_text.specs.Trees.{Sort, Input, Output, Wire, Reg}
 
 -- What a token is; `Bad` is one that no text has. `Declares` is the word that declares names of this sort, `Becomes`
@@ -37,7 +37,7 @@ pub data Kind : Type 0 where
 
 -- a token and the place of its first byte in the text
 abbrev pub Token : Type 0
-Token = lexemes.Token Kind
+Token = lexemes.PlacedToken Kind
 
 -- the words that declare names
 abbrev pub sort_word : List ℕ → Option Sort

@@ -1,6 +1,6 @@
 -- To believe: what a text says as a plain tree, and the module that it stands for.
 use Rattle.std.specs.Prelude.{ℕ, Bool, List}
-use Rattle.expr_text.specs.Trees.{Expr}
+use Rattle.net_expressions.specs.Trees.{Expr}
 
 -- what a name is declared as
 pub data Sort : Type 0 where
@@ -47,7 +47,7 @@ pub record Register : Type 0 where
 
 -- A module. Inputs, of which the first is the clock, outputs, registers and wires are in the order of their
 -- declarations, and the assignments in the order of the text.
-pub record Module : Type 0 where
+pub record VerilogModule : Type 0 where
   pub name : List ℕ
   pub inputs : List (List ℕ)
   pub outputs : List (List ℕ)

@@ -4,20 +4,20 @@
 use Rattle.std.specs.Prelude.{◌≡◌, ℕ, Bool, true, false, List, [], ◌∷◌, ◌++◌, length}
 use Rattle.std.specs.Prelude.{map, flat_map, codes, slice_get, Option, Some, None}
 use Rattle.std.specs.List.{range_with_len}
-use Rattle.est_base.specs.Items.{Item, EachEvent}
+use Rattle.base_types.specs.Items.{Item, EachEvent}
 use Rattle.net_ir.specs.declared.netlist.Gate.{Gate}
 use Rattle.net_ir.specs.declared.netlist.Latch.{Latch}
 use Rattle.net_ir.specs.declared.netlist.NetOut.{NetOut}
 use Rattle.net_ir.specs.Netlists.{Netlist, net_count}
 use Rattle.net_ir.specs.Numbered.{numbered}
 use Rattle.net_ir.specs.Runs.{net_run, net_values_run}
-use Rattle.machines.specs.Machines.{IsRun}
-use Rattle.expr_text.specs.Trees.{Expr, Name}
-use Rattle.expr_text.specs.Texts.{text_of}
-use Rattle.expr_text.specs.Operators.{op_expr}
-use Rattle.expr_text.specs.NetNames.{gate_name, gate_names, state_name, name_of_net}
+use Rattle.base_machines.specs.Machines.{IsRun}
+use Rattle.net_expressions.specs.Trees.{Expr, Name}
+use Rattle.net_expressions.specs.Texts.{text_of}
+use Rattle.net_expressions.specs.Operators.{op_expr}
+use Rattle.net_expressions.specs.NetNames.{gate_name, gate_names, state_name, name_of_net}
 use Rattle.vlog_text.specs.Trees.{Sort, Input, Output, Wire, Reg, Declaration, Initial, Assign, Next, Source, Register}
-use Rattle.vlog_text.specs.Trees.{Module}
+use Rattle.vlog_text.specs.Trees.{VerilogModule}
 use Rattle.vlog_text.specs.Names.{paused_name}
 use Rattle.vlog_text.specs.Texts.{Describes}
 use Rattle.vlog_text.specs.Machine.{vlog_machine, driven_names}
@@ -164,7 +164,7 @@ net_register net j latch = record { name = state_name j; init = latch.init; from
 -- A text means a net: it describes a module with the net's name, inputs, outputs and latches, which shows at each
 -- event of its runs what the net shows.
 pub record Means (text : List ℕ) (net : Netlist) : Type 0 where
-  pub design : Module
+  pub design : VerilogModule
   pub describes : Describes text design
   pub name : design.name ≡ module_name net.name
   pub inputs : design.inputs ≡ net_inputs net

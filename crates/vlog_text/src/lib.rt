@@ -10,6 +10,6 @@ mod pieces;
 mod trees;
 mod writer;
 
-pub use parts::Section;
+pub use parts::VerilogSection;
 pub use pieces::{VlogWriter, write_verilog};
 pub use trees::{Assign, Module, Register};

@@ -10,15 +10,15 @@ use crate::writer::{
     put_next, put_output, put_output_assign, put_output_port, put_paused, put_paused_assign,
     put_reg, put_wire,
 };
-use est_base::NoMemory;
+use base_types::NoMemory;
 use net_ir::{Net, look_at_wires};
-use net_text::NetText;
+use net_writer::NetText;
 use std::alloc::Global;
 
 /// The sections of a Verilog text: the ports, the declarations, the first values, the assignments, and what the
 /// registers get.
 #[derive(Clone, Copy)]
-pub enum Section {
+pub enum VerilogSection {
     ClockPort,
     InputPorts,
     OutputPorts,
@@ -36,22 +36,22 @@ pub enum Section {
     LastLines,
 }
 
-static SECTIONS: [Section; 15] = [
-    Section::ClockPort,
-    Section::InputPorts,
-    Section::OutputPorts,
-    Section::HeadEnd,
-    Section::Inputs,
-    Section::Outputs,
-    Section::Paused,
-    Section::Regs,
-    Section::Wires,
-    Section::Initials,
-    Section::GateAssigns,
-    Section::OutputAssigns,
-    Section::PausedAssign,
-    Section::Nexts,
-    Section::LastLines,
+static SECTIONS: [VerilogSection; 15] = [
+    VerilogSection::ClockPort,
+    VerilogSection::InputPorts,
+    VerilogSection::OutputPorts,
+    VerilogSection::HeadEnd,
+    VerilogSection::Inputs,
+    VerilogSection::Outputs,
+    VerilogSection::Paused,
+    VerilogSection::Regs,
+    VerilogSection::Wires,
+    VerilogSection::Initials,
+    VerilogSection::GateAssigns,
+    VerilogSection::OutputAssigns,
+    VerilogSection::PausedAssign,
+    VerilogSection::Nexts,
+    VerilogSection::LastLines,
 ];
 
 impl NetText for VlogWriter {
@@ -59,7 +59,7 @@ impl NetText for VlogWriter {
     ghost use Rattle.vlog_text.specs.Written.{written, Means};
     ghost use Rattle.vlog_text.specs.declared.parts.TheConstants.{SECTIONS};
 
-    type Section = Section;
+    type Section = VerilogSection;
 
     ghost sections = { SECTIONS };
 
@@ -75,51 +75,52 @@ impl NetText for VlogWriter {
         Ok(VlogWriter {})
     }
 
-    fn sections() -> &'static [Section] {
+    fn sections() -> &'static [VerilogSection] {
         &SECTIONS
     }
 
-    #[tactic(auto, using(net_text::proofs::Exports::section_parts))]
-    fn count(net: &Net, section: Section) -> usize {
+    #[tactic(auto, using(net_writer::proofs::Exports::section_parts))]
+    fn count(net: &Net, section: VerilogSection) -> usize {
         match section {
-            Section::InputPorts | Section::Inputs => net.inputs.len(),
-            Section::OutputPorts | Section::Outputs | Section::OutputAssigns => {
-                net.outputs.len()
-            }
-            Section::Regs | Section::Initials | Section::Nexts => net.latches.len(),
-            Section::Wires | Section::GateAssigns => net.gates.len(),
-            Section::ClockPort
-            | Section::HeadEnd
-            | Section::Paused
-            | Section::PausedAssign
-            | Section::LastLines => 1,
+            VerilogSection::InputPorts | VerilogSection::Inputs => net.inputs.len(),
+            VerilogSection::OutputPorts | VerilogSection::Outputs | VerilogSection::OutputAssigns =>
+                { net.outputs.len() }
+            VerilogSection::Regs | VerilogSection::Initials | VerilogSection::Nexts => net
+                .latches
+                .len(),
+            VerilogSection::Wires | VerilogSection::GateAssigns => net.gates.len(),
+            VerilogSection::ClockPort
+            | VerilogSection::HeadEnd
+            | VerilogSection::Paused
+            | VerilogSection::PausedAssign
+            | VerilogSection::LastLines => 1,
         }
     }
 
-    #[tactic(auto, using(net_text::proofs::Exports::section_parts))]
+    #[tactic(auto, using(net_writer::proofs::Exports::section_parts))]
     fn put_in(
         &self,
         text: &mut Vec<u8>,
         net: &Net,
-        section: Section,
+        section: VerilogSection,
         k: usize,
     ) -> Result<(), NoMemory> {
         match section {
-            Section::ClockPort => put_clock_port(text, &net.name),
-            Section::InputPorts => put_input_port(text, &net.inputs[k]),
-            Section::OutputPorts => put_output_port(text, &net.outputs[k]),
-            Section::HeadEnd => put_head_end(text),
-            Section::Inputs => put_input(text, &net.inputs[k]),
-            Section::Outputs => put_output(text, &net.outputs[k]),
-            Section::Paused => put_paused(text),
-            Section::Regs => put_reg(text, k),
-            Section::Wires => put_wire(text, k, net.gates[k]),
-            Section::Initials => put_initial(text, k, net.latches[k]),
-            Section::GateAssigns => put_gate(text, net, k, net.gates[k]),
-            Section::OutputAssigns => put_output_assign(text, net, &net.outputs[k]),
-            Section::PausedAssign => put_paused_assign(text, net),
-            Section::Nexts => put_next(text, net, k, net.latches[k]),
-            Section::LastLines => put_last_lines(text),
+            VerilogSection::ClockPort => put_clock_port(text, &net.name),
+            VerilogSection::InputPorts => put_input_port(text, &net.inputs[k]),
+            VerilogSection::OutputPorts => put_output_port(text, &net.outputs[k]),
+            VerilogSection::HeadEnd => put_head_end(text),
+            VerilogSection::Inputs => put_input(text, &net.inputs[k]),
+            VerilogSection::Outputs => put_output(text, &net.outputs[k]),
+            VerilogSection::Paused => put_paused(text),
+            VerilogSection::Regs => put_reg(text, k),
+            VerilogSection::Wires => put_wire(text, k, net.gates[k]),
+            VerilogSection::Initials => put_initial(text, k, net.latches[k]),
+            VerilogSection::GateAssigns => put_gate(text, net, k, net.gates[k]),
+            VerilogSection::OutputAssigns => put_output_assign(text, net, &net.outputs[k]),
+            VerilogSection::PausedAssign => put_paused_assign(text, net),
+            VerilogSection::Nexts => put_next(text, net, k, net.latches[k]),
+            VerilogSection::LastLines => put_last_lines(text),
         }
     }
 

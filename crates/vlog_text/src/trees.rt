@@ -1,7 +1,7 @@
 // Modules as trees.
 
-use est_base::Text;
-use expr_text::Expr;
+use base_types::Text;
+use net_expressions::Expr;
 
 /// A register, its value before the first event, and the name whose value it gets at each event.
 #[derive(Drop)]

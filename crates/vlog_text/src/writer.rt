@@ -4,8 +4,8 @@ ghost use Rattle.std.specs.Prelude.{◌≡◌, ◌+◌, ◌<◌, ◌≤◌, ◌+
 ghost use Rattle.net_ir.specs.Gates.{operand_end};
 ghost use Rattle.net_ir.specs.Netlists.{net_count};
 ghost use Rattle.net_ir.specs.Runs.{netlist_of};
-ghost use Rattle.expr_text.specs.NetNames.{state_name, gate_name};
-ghost use Rattle.expr_text.specs.Operators.{op_expr};
+ghost use Rattle.net_expressions.specs.NetNames.{state_name, gate_name};
+ghost use Rattle.net_expressions.specs.Operators.{op_expr};
 ghost use Rattle.vlog_text.specs.Trees.{Input, Output, Reg, Wire};
 ghost use Rattle.vlog_text.specs.Names.{paused_name};
 ghost use Rattle.vlog_text.specs.Written.{module_name, clock_name, input_name, output_name, net_name, declares};
@@ -14,10 +14,10 @@ ghost use Rattle.vlog_text.specs.Written.{expr_text, next_port, head_front, head
 ghost use Rattle.vlog_text.specs.Written.{assign_line, clock_line, next_line, last_lines};
 
 use crate::pieces::VlogWriter;
-use est_base::{NoMemory, Text, put, put_number};
-use expr_text::{GateText, put_gate_name, put_net, put_op};
+use base_types::{NoMemory, Text, put, put_number};
+use net_expressions::{GateText, put_gate_name, put_net, put_op};
 use net_ir::{Gate, Latch, Net, NetOut};
-use net_text::put_named;
+use net_writer::put_named;
 
 impl GateText for VlogWriter {
     ghost use Rattle.std.specs.Prelude.{codes, slice_get};

@@ -1,10 +1,10 @@
 -- Worked answers, by hand: which outputs of a circuit are listed, and what is shown of their values.
 use Rattle.std.proofs.Common.{◌≡◌, ℕ, true, false, List, [], ◌∷◌, map, Ok, codes, refl}
-use Rattle.est_base.specs.Items.{Item}
-use Rattle.est_base.specs.Names.{is_same_name}
-use Rattle.machines.specs.Machines.{Shows}
-use Rattle.trace_io.specs.declared.lines.Word.TheVariants.{Bare, Paused, Ended}
-use Rattle.trace_run.specs.Machines.{Answer}
+use Rattle.base_types.specs.Items.{Item}
+use Rattle.base_types.specs.Names.{is_same_name}
+use Rattle.base_machines.specs.Machines.{Shows}
+use Rattle.run_trace_io.specs.declared.lines.Word.TheVariants.{Bare, Paused, Ended}
+use Rattle.run_over_traces.specs.Machines.{ShownAnswer}
 use Rattle.blif_text.specs.Circuits.{Circuit, reading}
 use Rattle.blif_text.specs.Runs.{circuit_machine, circuit_latches}
 use Rattle.blif_run.specs.Loops.{IsDescribed}
@@ -25,7 +25,7 @@ how_many = refl
 which : listed_names with_pause ∷ listed_names pause_first ∷ [] ≡ (codes "O" ∷ codes "P" ∷ []) ∷ pause_first ∷ []
 which = refl
 
-abbrev answers : Answer → Answer → Answer → List Answer
+abbrev answers : ShownAnswer → ShownAnswer → ShownAnswer → List ShownAnswer
 answers a b c = a ∷ b ∷ c ∷ []
 
 shown : answers (answer_of with_pause (true ∷ false ∷ true ∷ [])) (answer_of with_pause (false ∷ true ∷ false ∷ [])) (answer_of pause_first (true ∷ false ∷ []))
@@ -41,7 +41,7 @@ in_instants : circuit_answer circuit (is_same_name (codes "P")) ∷ circuit_answ
     ≡ record { present = false ∷ true ∷ []; word = Ended } ∷ record { present = false ∷ false ∷ []; word = Paused } ∷ []
 in_instants = refl
 
-what_is_shown_over_items : (circuit : Circuit) (items : List Item) (answers : List Answer) → circuit_shows circuit items answers
+what_is_shown_over_items : (circuit : Circuit) (items : List Item) (answers : List ShownAnswer) → circuit_shows circuit items answers
     → Shows (circuit_machine circuit) (circuit_answer circuit) (circuit_latches circuit) items answers
 what_is_shown_over_items circuit items answers h = h
 

@@ -5,8 +5,8 @@ use Rattle.net_ir.specs.Netlists.{Netlist}
 use Rattle.blif_text.specs.Circuits.{Circuit}
 use Rattle.blif_text.specs.Circuits as circuits
 use Rattle.blif_text.specs.declared.circuit.Cell.TheVariants.{One}
-use Rattle.step_run.specs.Equations.{NeedsName, name_at}
-use Rattle.blif_run.specs.declared.language.TextFault.TheVariants.{Line, TwoDrivers, NoDriver, Loop}
+use Rattle.run_steps.specs.Equations.{NeedsName, name_at}
+use Rattle.blif_run.specs.declared.language.BlifTextFault.TheVariants.{Line, TwoDrivers, NoDriver, Loop}
 use Rattle.blif_run.specs.declared.refusal.RunError.TheVariants as errors
 use Rattle.blif_run.specs.Loops.{IsLoop, HasNoLoop, LoopFault, equation_of, equations_of}
 use Rattle.blif_run.specs.Texts.{IsTextFault, ReadsCircuit, IsWritten}
@@ -17,13 +17,13 @@ text lines = flat_map (λ l. l ++ 10 ∷ []) (codes ".model m" ∷ (lines ++ cod
 
 -- ---- faults of the reader
 
-abbrev fault : ℕ → Result Circuit circuits.Fault
+abbrev fault : ℕ → Result Circuit circuits.CircuitFault
 fault line = Err (circuits.Line line)
 
-abbrev without : List ℕ → Result Circuit circuits.Fault
+abbrev without : List ℕ → Result Circuit circuits.CircuitFault
 without name = Err (circuits.NoDriver name)
 
-abbrev twice : List ℕ → Result Circuit circuits.Fault
+abbrev twice : List ℕ → Result Circuit circuits.CircuitFault
 twice name = Err (circuits.TwoDrivers name)
 
 a_row_without_a_table : IsTextFault (text (codes "1" ∷ [])) (Line 2)

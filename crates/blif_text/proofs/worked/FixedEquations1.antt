@@ -1,9 +1,9 @@
 -- Inner: equations between the definitions of BLIF and an independent implementation of them in Python.
 -- Each text is read as the circuit, or refused with the fault, that the other implementation answers. Generated.
 use Rattle.std.proofs.Common.{◌≡◌, true, false, [], ◌∷◌, ◌++◌, Ok, Err, codes, refl}
-use Rattle.est_base.specs.Items.{Event, Reset}
+use Rattle.base_types.specs.Items.{Event, Reset}
 use Rattle.blif_text.specs.Circuits.{Circuit, reading, Line}
-use Rattle.blif_text.specs.Runs.{IsRun}
+use Rattle.blif_text.specs.Runs.{IsCircuitRun}
 use Rattle.blif_text.proofs.worked.PlainWords.{circuit, just}
 
 empty : reading [] ≡ Err (Line 1)
@@ -27,7 +27,7 @@ least_circuit = circuit (codes "m") [] [] [] []
 least : reading (codes ".model m" ++ (10 ∷ []) ++ codes ".end" ++ (10 ∷ [])) ≡ Ok least_circuit
 least = refl
 
-least_runs : IsRun least_circuit (Event [] ∷ Event [] ∷ []) (just [] ∷ just [] ∷ [])
+least_runs : IsCircuitRun least_circuit (Event [] ∷ Event [] ∷ []) (just [] ∷ just [] ∷ [])
 least_runs = (
   record { inputs_given = refl; latches_kept = refl; tables_met = tt },
   (
@@ -47,7 +47,7 @@ no_last_feed_circuit = circuit (codes "m") [] [] [] []
 no_last_feed : reading (codes ".model m" ++ (10 ∷ []) ++ codes ".end") ≡ Ok no_last_feed_circuit
 no_last_feed = refl
 
-no_last_feed_runs : IsRun no_last_feed_circuit (Event [] ∷ Event [] ∷ Event [] ∷ []) (just [] ∷ just [] ∷ just [] ∷ [])
+no_last_feed_runs : IsCircuitRun no_last_feed_circuit (Event [] ∷ Event [] ∷ Event [] ∷ []) (just [] ∷ just [] ∷ just [] ∷ [])
 no_last_feed_runs = (
   record { inputs_given = refl; latches_kept = refl; tables_met = tt },
   (
@@ -66,7 +66,7 @@ no_name_circuit = circuit [] [] [] [] []
 no_name : reading (codes ".model" ++ (10 ∷ []) ++ codes ".end" ++ (10 ∷ [])) ≡ Ok no_name_circuit
 no_name = refl
 
-no_name_runs : IsRun no_name_circuit (Event [] ∷ Event [] ∷ Event [] ∷ Reset ∷ Reset ∷ []) (just [] ∷ just [] ∷ just [] ∷ [])
+no_name_runs : IsCircuitRun no_name_circuit (Event [] ∷ Event [] ∷ Event [] ∷ Reset ∷ Reset ∷ []) (just [] ∷ just [] ∷ just [] ∷ [])
 no_name_runs = (
   record { inputs_given = refl; latches_kept = refl; tables_met = tt },
   (
@@ -121,7 +121,7 @@ behind_end_blank : reading (codes ".model m" ++ (10 ∷ []) ++ codes ".end" ++ (
     ++ codes "# c" ++ (10 ∷ [])) ≡ Ok behind_end_blank_circuit
 behind_end_blank = refl
 
-behind_end_blank_runs : IsRun behind_end_blank_circuit (Event [] ∷ Event [] ∷ []) (just [] ∷ just [] ∷ [])
+behind_end_blank_runs : IsCircuitRun behind_end_blank_circuit (Event [] ∷ Event [] ∷ []) (just [] ∷ just [] ∷ [])
 behind_end_blank_runs = (
   record { inputs_given = refl; latches_kept = refl; tables_met = tt },
   (
@@ -146,7 +146,7 @@ end_with_comment_circuit = circuit (codes "m") [] [] [] []
 end_with_comment : reading (codes ".model m" ++ (10 ∷ []) ++ codes ".end# x" ++ (10 ∷ [])) ≡ Ok end_with_comment_circuit
 end_with_comment = refl
 
-end_with_comment_runs : IsRun end_with_comment_circuit (Event [] ∷ Event [] ∷ Event [] ∷ []) (just [] ∷ just [] ∷ just [] ∷ [])
+end_with_comment_runs : IsCircuitRun end_with_comment_circuit (Event [] ∷ Event [] ∷ Event [] ∷ []) (just [] ∷ just [] ∷ just [] ∷ [])
 end_with_comment_runs = (
   record { inputs_given = refl; latches_kept = refl; tables_met = tt },
   (
@@ -166,7 +166,7 @@ continued : reading (codes ".model m" ++ (10 ∷ []) ++ codes ".inputs a " ++ (9
     ++ (10 ∷ []) ++ codes ".end" ++ (10 ∷ [])) ≡ Ok continued_circuit
 continued = refl
 
-continued_runs : IsRun continued_circuit (Event (true ∷ false ∷ []) ∷ Event (true ∷ true ∷ []) ∷ Event (false ∷ true ∷ []) ∷ []) (just (codes "a" ∷
+continued_runs : IsCircuitRun continued_circuit (Event (true ∷ false ∷ []) ∷ Event (true ∷ true ∷ []) ∷ Event (false ∷ true ∷ []) ∷ []) (just (codes "a" ∷
     []) ∷ just (codes "a" ∷ codes "b" ∷ []) ∷ just (codes "b" ∷ []) ∷ [])
 continued_runs = (
   record { inputs_given = refl; latches_kept = refl; tables_met = tt },
@@ -188,7 +188,7 @@ continued_word : reading (codes ".model m" ++ (10 ∷ []) ++ codes ".inputs a" +
     ++ (10 ∷ []) ++ codes ".end" ++ (10 ∷ [])) ≡ Ok continued_word_circuit
 continued_word = refl
 
-continued_word_runs : IsRun continued_word_circuit (Event (true ∷ []) ∷ Reset ∷ Event (true ∷ []) ∷ Reset ∷ Event (false ∷ []) ∷ []) (just (codes "ab"
+continued_word_runs : IsCircuitRun continued_word_circuit (Event (true ∷ []) ∷ Reset ∷ Event (true ∷ []) ∷ Reset ∷ Event (false ∷ []) ∷ []) (just (codes "ab"
     ∷ []) ∷ just (codes "ab" ∷ []) ∷ just [] ∷ [])
 continued_word_runs = (
   record { inputs_given = refl; latches_kept = refl; tables_met = tt },
@@ -209,7 +209,7 @@ continued_directive : reading (codes ".mo" ++ (92 ∷ []) ++ (10 ∷ []) ++ code
     "n" ++ (92 ∷ []) ++ (10 ∷ []) ++ codes "d" ++ (10 ∷ [])) ≡ Ok continued_directive_circuit
 continued_directive = refl
 
-continued_directive_runs : IsRun continued_directive_circuit (Event [] ∷ Event [] ∷ Event [] ∷ Event [] ∷ []) (just [] ∷ just [] ∷ just [] ∷ just [] ∷
+continued_directive_runs : IsCircuitRun continued_directive_circuit (Event [] ∷ Event [] ∷ Event [] ∷ Event [] ∷ []) (just [] ∷ just [] ∷ just [] ∷ just [] ∷
     [])
 continued_directive_runs = (
   record { inputs_given = refl; latches_kept = refl; tables_met = tt },
@@ -260,7 +260,7 @@ backslash_return : reading (codes ".model m" ++ (10 ∷ []) ++ codes ".inputs a"
     codes ".outputs ab" ++ (10 ∷ []) ++ codes ".end" ++ (10 ∷ [])) ≡ Ok backslash_return_circuit
 backslash_return = refl
 
-backslash_return_runs : IsRun backslash_return_circuit (Event (true ∷ []) ∷ Reset ∷ Event (true ∷ []) ∷ Event (true ∷ []) ∷ Event (true ∷ []) ∷ [])
+backslash_return_runs : IsCircuitRun backslash_return_circuit (Event (true ∷ []) ∷ Reset ∷ Event (true ∷ []) ∷ Event (true ∷ []) ∷ Event (true ∷ []) ∷ [])
     (just (codes "ab" ∷ []) ∷ just (codes "ab" ∷ []) ∷ just (codes "ab" ∷ []) ∷ just (codes "ab" ∷ []) ∷ [])
 backslash_return_runs = (
   record { inputs_given = refl; latches_kept = refl; tables_met = tt },
@@ -291,7 +291,7 @@ backslash_comment : reading (codes ".model m" ++ (10 ∷ []) ++ codes ".inputs a
     codes ".outputs ab" ++ (10 ∷ []) ++ codes ".end" ++ (10 ∷ [])) ≡ Ok backslash_comment_circuit
 backslash_comment = refl
 
-backslash_comment_runs : IsRun backslash_comment_circuit (Event (false ∷ []) ∷ Event (false ∷ []) ∷ Event (true ∷ []) ∷ []) (just [] ∷ just [] ∷ just
+backslash_comment_runs : IsCircuitRun backslash_comment_circuit (Event (false ∷ []) ∷ Event (false ∷ []) ∷ Event (true ∷ []) ∷ []) (just [] ∷ just [] ∷ just
     (codes "ab" ∷ []) ∷ [])
 backslash_comment_runs = (
   record { inputs_given = refl; latches_kept = refl; tables_met = tt },
@@ -312,7 +312,7 @@ comment_backslash : reading (codes ".model m" ++ (10 ∷ []) ++ codes ".inputs a
     codes ".end" ++ (10 ∷ [])) ≡ Ok comment_backslash_circuit
 comment_backslash = refl
 
-comment_backslash_runs : IsRun comment_backslash_circuit (Reset ∷ Event (false ∷ []) ∷ Event (false ∷ []) ∷ []) (just [] ∷ just [] ∷ [])
+comment_backslash_runs : IsCircuitRun comment_backslash_circuit (Reset ∷ Event (false ∷ []) ∷ Event (false ∷ []) ∷ []) (just [] ∷ just [] ∷ [])
 comment_backslash_runs = (
   record { inputs_given = refl; latches_kept = refl; tables_met = tt },
   (
@@ -341,7 +341,7 @@ backslash_before_empty_last : reading (codes ".model m" ++ (10 ∷ []) ++ codes 
     backslash_before_empty_last_circuit
 backslash_before_empty_last = refl
 
-backslash_before_empty_last_runs : IsRun backslash_before_empty_last_circuit (Event [] ∷ Event [] ∷ Event [] ∷ Event [] ∷ Reset ∷ []) (just [] ∷ just
+backslash_before_empty_last_runs : IsCircuitRun backslash_before_empty_last_circuit (Event [] ∷ Event [] ∷ Event [] ∷ Event [] ∷ Reset ∷ []) (just [] ∷ just
     [] ∷ just [] ∷ just [] ∷ [])
 backslash_before_empty_last_runs = (
   record { inputs_given = refl; latches_kept = refl; tables_met = tt },

@@ -1,10 +1,10 @@
 -- Inner: equations between the definitions of BLIF and an independent implementation of them in Python.
 -- Each text is read as the circuit, or refused with the fault, that the other implementation answers. Generated.
 use Rattle.std.proofs.Common.{◌≡◌, true, false, [], ◌∷◌, ◌++◌, Ok, Err, codes, refl}
-use Rattle.est_base.specs.Items.{Event, Reset}
+use Rattle.base_types.specs.Items.{Event, Reset}
 use Rattle.blif_text.specs.Statements.{Zero, One, Any}
 use Rattle.blif_text.specs.Circuits.{Circuit, reading, Line, TwoDrivers}
-use Rattle.blif_text.specs.Runs.{IsRun}
+use Rattle.blif_text.specs.Runs.{IsCircuitRun}
 use Rattle.blif_text.proofs.worked.PlainWords.{latch, table, circuit, just}
 
 abbrev backslash_alone_circuit : Circuit
@@ -13,7 +13,7 @@ backslash_alone_circuit = circuit (codes "m") [] [] [] []
 backslash_alone : reading (codes ".model m" ++ (10 ∷ []) ++ (92 ∷ []) ++ (10 ∷ []) ++ codes ".end" ++ (10 ∷ [])) ≡ Ok backslash_alone_circuit
 backslash_alone = refl
 
-backslash_alone_runs : IsRun backslash_alone_circuit (Event [] ∷ Event [] ∷ []) (just [] ∷ just [] ∷ [])
+backslash_alone_runs : IsCircuitRun backslash_alone_circuit (Event [] ∷ Event [] ∷ []) (just [] ∷ just [] ∷ [])
 backslash_alone_runs = (
   record { inputs_given = refl; latches_kept = refl; tables_met = tt },
   (
@@ -40,7 +40,7 @@ comment_hides_bad : reading (codes ".model m # " ++ (1 ∷ []) ++ (255 ∷ []) +
     comment_hides_bad_circuit
 comment_hides_bad = refl
 
-comment_hides_bad_runs : IsRun comment_hides_bad_circuit (Event [] ∷ Event [] ∷ Event [] ∷ []) (just [] ∷ just [] ∷ just [] ∷ [])
+comment_hides_bad_runs : IsCircuitRun comment_hides_bad_circuit (Event [] ∷ Event [] ∷ Event [] ∷ []) (just [] ∷ just [] ∷ just [] ∷ [])
 comment_hides_bad_runs = (
   record { inputs_given = refl; latches_kept = refl; tables_met = tt },
   (
@@ -60,7 +60,7 @@ comment_first : reading (codes "# c" ++ (10 ∷ []) ++ codes "   # d" ++ (10 ∷
     comment_first_circuit
 comment_first = refl
 
-comment_first_runs : IsRun comment_first_circuit (Event [] ∷ Event [] ∷ Event [] ∷ Reset ∷ Reset ∷ []) (just [] ∷ just [] ∷ just [] ∷ [])
+comment_first_runs : IsCircuitRun comment_first_circuit (Event [] ∷ Event [] ∷ Event [] ∷ Reset ∷ Reset ∷ []) (just [] ∷ just [] ∷ just [] ∷ [])
 comment_first_runs = (
   record { inputs_given = refl; latches_kept = refl; tables_met = tt },
   (
@@ -79,7 +79,7 @@ comment_in_word_circuit = circuit (codes "m") [] [] [] []
 comment_in_word : reading (codes ".model m#n" ++ (10 ∷ []) ++ codes ".end" ++ (10 ∷ [])) ≡ Ok comment_in_word_circuit
 comment_in_word = refl
 
-comment_in_word_runs : IsRun comment_in_word_circuit (Event [] ∷ Event [] ∷ []) (just [] ∷ just [] ∷ [])
+comment_in_word_runs : IsCircuitRun comment_in_word_circuit (Event [] ∷ Event [] ∷ []) (just [] ∷ just [] ∷ [])
 comment_in_word_runs = (
   record { inputs_given = refl; latches_kept = refl; tables_met = tt },
   (
@@ -98,7 +98,7 @@ return_in_comment_circuit = circuit (codes "m") [] [] [] []
 return_in_comment : reading (codes ".model m # c" ++ (13 ∷ []) ++ (10 ∷ []) ++ codes ".end" ++ (13 ∷ []) ++ (10 ∷ [])) ≡ Ok return_in_comment_circuit
 return_in_comment = refl
 
-return_in_comment_runs : IsRun return_in_comment_circuit (Event [] ∷ Event [] ∷ Event [] ∷ []) (just [] ∷ just [] ∷ just [] ∷ [])
+return_in_comment_runs : IsCircuitRun return_in_comment_circuit (Event [] ∷ Event [] ∷ Event [] ∷ []) (just [] ∷ just [] ∷ just [] ∷ [])
 return_in_comment_runs = (
   record { inputs_given = refl; latches_kept = refl; tables_met = tt },
   (
@@ -118,7 +118,7 @@ return_before_feed : reading (codes ".model m" ++ (13 ∷ []) ++ (10 ∷ []) ++ 
     []) ++ (10 ∷ []) ++ codes ".end" ++ (13 ∷ []) ++ (10 ∷ [])) ≡ Ok return_before_feed_circuit
 return_before_feed = refl
 
-return_before_feed_runs : IsRun return_before_feed_circuit (Event (true ∷ []) ∷ Reset ∷ Event (false ∷ []) ∷ Reset ∷ Event (true ∷ []) ∷ []) (just
+return_before_feed_runs : IsCircuitRun return_before_feed_circuit (Event (true ∷ []) ∷ Reset ∷ Event (false ∷ []) ∷ Reset ∷ Event (true ∷ []) ∷ []) (just
     (codes "a" ∷ []) ∷ just [] ∷ just (codes "a" ∷ []) ∷ [])
 return_before_feed_runs = (
   record { inputs_given = refl; latches_kept = refl; tables_met = tt },
@@ -147,7 +147,7 @@ return_in_comment_at_end_circuit = circuit (codes "m") [] [] [] []
 return_in_comment_at_end : reading (codes ".model m" ++ (10 ∷ []) ++ codes ".end # c" ++ (13 ∷ [])) ≡ Ok return_in_comment_at_end_circuit
 return_in_comment_at_end = refl
 
-return_in_comment_at_end_runs : IsRun return_in_comment_at_end_circuit (Event [] ∷ Event [] ∷ Event [] ∷ Event [] ∷ []) (just [] ∷ just [] ∷ just [] ∷
+return_in_comment_at_end_runs : IsCircuitRun return_in_comment_at_end_circuit (Event [] ∷ Event [] ∷ Event [] ∷ Event [] ∷ []) (just [] ∷ just [] ∷ just [] ∷
     just [] ∷ [])
 return_in_comment_at_end_runs = (
   record { inputs_given = refl; latches_kept = refl; tables_met = tt },
@@ -181,7 +181,7 @@ tabs : reading ((9 ∷ []) ++ codes ".model" ++ (9 ∷ []) ++ (9 ∷ []) ++ code
     tabs_circuit
 tabs = refl
 
-tabs_runs : IsRun tabs_circuit (Reset ∷ Event (true ∷ true ∷ []) ∷ Event (false ∷ false ∷ []) ∷ Event (true ∷ true ∷ []) ∷ Reset ∷ []) (just (codes
+tabs_runs : IsCircuitRun tabs_circuit (Reset ∷ Event (true ∷ true ∷ []) ∷ Event (false ∷ false ∷ []) ∷ Event (true ∷ true ∷ []) ∷ Reset ∷ []) (just (codes
     "a" ∷ codes "b" ∷ []) ∷ just [] ∷ just (codes "a" ∷ codes "b" ∷ []) ∷ [])
 tabs_runs = (
   record { inputs_given = refl; latches_kept = refl; tables_met = tt },
@@ -217,7 +217,7 @@ odd_words : reading (codes ".model m!" ++ (10 ∷ []) ++ codes ".inputs " ++ (34
     codes ".outputs ~ .end " ++ (34 ∷ []) ++ codes "a" ++ (34 ∷ []) ++ (10 ∷ []) ++ codes ".end" ++ (10 ∷ [])) ≡ Ok odd_words_circuit
 odd_words = refl
 
-odd_words_runs : IsRun odd_words_circuit (Reset ∷ Event (false ∷ false ∷ false ∷ true ∷ []) ∷ Event (false ∷ false ∷ false ∷ false ∷ []) ∷ Reset ∷ [])
+odd_words_runs : IsCircuitRun odd_words_circuit (Reset ∷ Event (false ∷ false ∷ false ∷ true ∷ []) ∷ Event (false ∷ false ∷ false ∷ false ∷ []) ∷ Reset ∷ [])
     (just (codes "[3]" ∷ []) ∷ just [] ∷ [])
 odd_words_runs = (
   record { inputs_given = refl; latches_kept = refl; tables_met = tt },
@@ -238,7 +238,7 @@ inputs_none_circuit = circuit (codes "m") [] [] [] []
 inputs_none : reading (codes ".model m" ++ (10 ∷ []) ++ codes ".inputs" ++ (10 ∷ []) ++ codes ".end" ++ (10 ∷ [])) ≡ Ok inputs_none_circuit
 inputs_none = refl
 
-inputs_none_runs : IsRun inputs_none_circuit (Reset ∷ Event [] ∷ Event [] ∷ []) (just [] ∷ just [] ∷ [])
+inputs_none_runs : IsCircuitRun inputs_none_circuit (Reset ∷ Event [] ∷ Event [] ∷ []) (just [] ∷ just [] ∷ [])
 inputs_none_runs = (
   record { inputs_given = refl; latches_kept = refl; tables_met = tt },
   (
@@ -257,7 +257,7 @@ outputs_none_circuit = circuit (codes "m") [] [] [] []
 outputs_none : reading (codes ".model m" ++ (10 ∷ []) ++ codes ".outputs" ++ (10 ∷ []) ++ codes ".end" ++ (10 ∷ [])) ≡ Ok outputs_none_circuit
 outputs_none = refl
 
-outputs_none_runs : IsRun outputs_none_circuit (Event [] ∷ Event [] ∷ Event [] ∷ Event [] ∷ Reset ∷ []) (just [] ∷ just [] ∷ just [] ∷ just [] ∷ [])
+outputs_none_runs : IsCircuitRun outputs_none_circuit (Event [] ∷ Event [] ∷ Event [] ∷ Event [] ∷ Reset ∷ []) (just [] ∷ just [] ∷ just [] ∷ just [] ∷ [])
 outputs_none_runs = (
   record { inputs_given = refl; latches_kept = refl; tables_met = tt },
   (
@@ -288,7 +288,7 @@ inputs_twice : reading (codes ".model m" ++ (10 ∷ []) ++ codes ".inputs a" ++ 
     (10 ∷ []) ++ codes ".outputs a" ++ (10 ∷ []) ++ codes ".end" ++ (10 ∷ [])) ≡ Ok inputs_twice_circuit
 inputs_twice = refl
 
-inputs_twice_runs : IsRun inputs_twice_circuit (Event (false ∷ false ∷ true ∷ []) ∷ Reset ∷ Event (true ∷ false ∷ true ∷ []) ∷ Reset ∷ Event (false ∷
+inputs_twice_runs : IsCircuitRun inputs_twice_circuit (Event (false ∷ false ∷ true ∷ []) ∷ Reset ∷ Event (true ∷ false ∷ true ∷ []) ∷ Reset ∷ Event (false ∷
     true ∷ false ∷ []) ∷ []) (just (codes "c" ∷ []) ∷ just (codes "a" ∷ codes "c" ∷ []) ∷ just (codes "b" ∷ []) ∷ [])
 inputs_twice_runs = (
   record { inputs_given = refl; latches_kept = refl; tables_met = tt },
@@ -313,7 +313,7 @@ output_twice : reading (codes ".model m" ++ (10 ∷ []) ++ codes ".inputs a" ++ 
     [])) ≡ Ok output_twice_circuit
 output_twice = refl
 
-output_twice_runs : IsRun output_twice_circuit (Reset ∷ Event (false ∷ []) ∷ Event (true ∷ []) ∷ Event (false ∷ []) ∷ []) (just [] ∷ just (codes "a" ∷
+output_twice_runs : IsCircuitRun output_twice_circuit (Reset ∷ Event (false ∷ []) ∷ Event (true ∷ []) ∷ Event (false ∷ []) ∷ []) (just [] ∷ just (codes "a" ∷
     []) ∷ just [] ∷ [])
 output_twice_runs = (
   record { inputs_given = refl; latches_kept = refl; tables_met = tt },
@@ -335,7 +335,7 @@ one_latch : reading (codes ".model m" ++ (10 ∷ []) ++ codes ".latch a b 0" ++ 
     ++ (10 ∷ []) ++ codes ".end" ++ (10 ∷ [])) ≡ Ok one_latch_circuit
 one_latch = refl
 
-one_latch_runs : IsRun one_latch_circuit (Event [] ∷ Event [] ∷ Event [] ∷ []) (just (codes "a" ∷ []) ∷ just (codes "b" ∷ []) ∷ just (codes "a" ∷ [])
+one_latch_runs : IsCircuitRun one_latch_circuit (Event [] ∷ Event [] ∷ Event [] ∷ []) (just (codes "a" ∷ []) ∷ just (codes "b" ∷ []) ∷ just (codes "a" ∷ [])
     ∷ [])
 one_latch_runs = (
   record { inputs_given = refl; latches_kept = refl; tables_met = tt },
@@ -377,7 +377,7 @@ latch_self : reading (codes ".model m" ++ (10 ∷ []) ++ codes ".latch a a 1" ++
     [])) ≡ Ok latch_self_circuit
 latch_self = refl
 
-latch_self_runs : IsRun latch_self_circuit (Event [] ∷ Reset ∷ Event [] ∷ Reset ∷ []) (just (codes "a" ∷ []) ∷ just (codes "a" ∷ []) ∷ [])
+latch_self_runs : IsCircuitRun latch_self_circuit (Event [] ∷ Reset ∷ Event [] ∷ Reset ∷ []) (just (codes "a" ∷ []) ∷ just (codes "a" ∷ []) ∷ [])
 latch_self_runs = (
   record { inputs_given = refl; latches_kept = refl; tables_met = tt },
   (
@@ -400,7 +400,7 @@ names_one_false : reading (codes ".model m" ++ (10 ∷ []) ++ codes ".outputs x"
     [])) ≡ Ok names_one_false_circuit
 names_one_false = refl
 
-names_one_false_runs : IsRun names_one_false_circuit (Event [] ∷ Event [] ∷ Event [] ∷ Event [] ∷ []) (just [] ∷ just [] ∷ just [] ∷ just [] ∷ [])
+names_one_false_runs : IsCircuitRun names_one_false_circuit (Event [] ∷ Event [] ∷ Event [] ∷ Event [] ∷ []) (just [] ∷ just [] ∷ just [] ∷ just [] ∷ [])
 names_one_false_runs = (
   record { inputs_given = refl; latches_kept = refl; tables_met = (refl, tt) },
   (
@@ -431,7 +431,7 @@ names_one_true : reading (codes ".model m" ++ (10 ∷ []) ++ codes ".outputs x" 
     ++ codes ".end" ++ (10 ∷ [])) ≡ Ok names_one_true_circuit
 names_one_true = refl
 
-names_one_true_runs : IsRun names_one_true_circuit (Event [] ∷ Event [] ∷ Event [] ∷ []) (just (codes "x" ∷ []) ∷ just (codes "x" ∷ []) ∷ just (codes
+names_one_true_runs : IsCircuitRun names_one_true_circuit (Event [] ∷ Event [] ∷ Event [] ∷ []) (just (codes "x" ∷ []) ∷ just (codes "x" ∷ []) ∷ just (codes
     "x" ∷ []) ∷ [])
 names_one_true_runs = (
   record { inputs_given = refl; latches_kept = refl; tables_met = (refl, tt) },
@@ -454,7 +454,7 @@ names_one_true_twice : reading (codes ".model m" ++ (10 ∷ []) ++ codes ".outpu
     ∷ []) ++ codes "1" ++ (10 ∷ []) ++ codes ".end" ++ (10 ∷ [])) ≡ Ok names_one_true_twice_circuit
 names_one_true_twice = refl
 
-names_one_true_twice_runs : IsRun names_one_true_twice_circuit (Event [] ∷ Reset ∷ Reset ∷ Event [] ∷ Event [] ∷ []) (just (codes "x" ∷ []) ∷ just
+names_one_true_twice_runs : IsCircuitRun names_one_true_twice_circuit (Event [] ∷ Reset ∷ Reset ∷ Event [] ∷ Event [] ∷ []) (just (codes "x" ∷ []) ∷ just
     (codes "x" ∷ []) ∷ just (codes "x" ∷ []) ∷ [])
 names_one_true_twice_runs = (
   record { inputs_given = refl; latches_kept = refl; tables_met = (refl, tt) },
@@ -486,7 +486,7 @@ names_nine : reading (codes ".model m" ++ (10 ∷ []) ++ codes ".inputs a b c d 
     ".names a b c d e f g h x" ++ (10 ∷ []) ++ codes "01-01-01 1" ++ (10 ∷ []) ++ codes ".end" ++ (10 ∷ [])) ≡ Ok names_nine_circuit
 names_nine = refl
 
-names_nine_runs : IsRun names_nine_circuit (Event (true ∷ true ∷ true ∷ false ∷ false ∷ true ∷ true ∷ false ∷ []) ∷ Event (true ∷ false ∷ false ∷
+names_nine_runs : IsCircuitRun names_nine_circuit (Event (true ∷ true ∷ true ∷ false ∷ false ∷ true ∷ true ∷ false ∷ []) ∷ Event (true ∷ false ∷ false ∷
     false ∷ false ∷ true ∷ false ∷ false ∷ []) ∷ Event (false ∷ false ∷ true ∷ false ∷ true ∷ false ∷ true ∷ true ∷ []) ∷ Reset ∷ Event (false ∷ false
     ∷ true ∷ false ∷ true ∷ true ∷ false ∷ false ∷ []) ∷ []) (just (codes "a" ∷ codes "b" ∷ codes "c" ∷ codes "f" ∷ codes "g" ∷ []) ∷ just (codes "a"
     ∷ codes "f" ∷ []) ∷ just (codes "c" ∷ codes "e" ∷ codes "g" ∷ codes "h" ∷ []) ∷ just (codes "c" ∷ codes "e" ∷ codes "f" ∷ []) ∷ [])

@@ -1,10 +1,10 @@
 -- Inner: equations between the definitions of BLIF and an independent implementation of them in Python.
 -- Each text is read as the circuit, or refused with the fault, that the other implementation answers. Generated.
 use Rattle.std.proofs.Common.{◌≡◌, true, false, [], ◌∷◌, ◌++◌, Ok, Err, codes, refl}
-use Rattle.est_base.specs.Items.{Event, Reset}
+use Rattle.base_types.specs.Items.{Event, Reset}
 use Rattle.blif_text.specs.Statements.{Zero, One, Any}
 use Rattle.blif_text.specs.Circuits.{Circuit, reading, Line, TwoDrivers, NoDriver}
-use Rattle.blif_text.specs.Runs.{IsRun}
+use Rattle.blif_text.specs.Runs.{IsCircuitRun}
 use Rattle.blif_text.proofs.worked.PlainWords.{latch, table, circuit, just}
 
 row_narrow : reading (codes ".model m" ++ (10 ∷ []) ++ codes ".inputs a b" ++ (10 ∷ []) ++ codes ".names a b x" ++ (10 ∷ []) ++ codes "1 1" ++ (10 ∷
@@ -57,7 +57,7 @@ row_after_comment : reading (codes ".model m" ++ (10 ∷ []) ++ codes ".inputs a
     ∷ []) ++ (10 ∷ []) ++ codes "1 1" ++ (10 ∷ []) ++ codes ".outputs x" ++ (10 ∷ []) ++ codes ".end" ++ (10 ∷ [])) ≡ Ok row_after_comment_circuit
 row_after_comment = refl
 
-row_after_comment_runs : IsRun row_after_comment_circuit (Event (false ∷ []) ∷ Event (false ∷ []) ∷ []) (just [] ∷ just [] ∷ [])
+row_after_comment_runs : IsCircuitRun row_after_comment_circuit (Event (false ∷ []) ∷ Event (false ∷ []) ∷ []) (just [] ∷ just [] ∷ [])
 row_after_comment_runs = (
   record { inputs_given = refl; latches_kept = refl; tables_met = (refl, tt) },
   (
@@ -80,7 +80,7 @@ rows_of_two : reading (codes ".model m" ++ (10 ∷ []) ++ codes ".inputs a b" ++
     ".end" ++ (10 ∷ [])) ≡ Ok rows_of_two_circuit
 rows_of_two = refl
 
-rows_of_two_runs : IsRun rows_of_two_circuit (Event (true ∷ false ∷ []) ∷ Event (true ∷ true ∷ []) ∷ Event (true ∷ true ∷ []) ∷ Reset ∷ Reset ∷ [])
+rows_of_two_runs : IsCircuitRun rows_of_two_circuit (Event (true ∷ false ∷ []) ∷ Event (true ∷ true ∷ []) ∷ Event (true ∷ true ∷ []) ∷ Reset ∷ Reset ∷ [])
     (just (codes "a" ∷ codes "x" ∷ codes "y" ∷ []) ∷ just (codes "a" ∷ codes "b" ∷ codes "x" ∷ codes "y" ∷ []) ∷ just (codes "a" ∷ codes "b" ∷ codes
     "x" ∷ codes "y" ∷ []) ∷ [])
 rows_of_two_runs = (
@@ -108,7 +108,7 @@ row_of_dashes : reading (codes ".model m" ++ (10 ∷ []) ++ codes ".inputs a b" 
     ∷ []) ++ codes ".outputs x" ++ (10 ∷ []) ++ codes ".end" ++ (10 ∷ [])) ≡ Ok row_of_dashes_circuit
 row_of_dashes = refl
 
-row_of_dashes_runs : IsRun row_of_dashes_circuit (Event (false ∷ true ∷ []) ∷ Event (false ∷ false ∷ []) ∷ []) (just (codes "b" ∷ codes "x" ∷ []) ∷
+row_of_dashes_runs : IsCircuitRun row_of_dashes_circuit (Event (false ∷ true ∷ []) ∷ Event (false ∷ false ∷ []) ∷ []) (just (codes "b" ∷ codes "x" ∷ []) ∷
     just (codes "x" ∷ []) ∷ [])
 row_of_dashes_runs = (
   record { inputs_given = refl; latches_kept = refl; tables_met = (refl, tt) },
@@ -177,7 +177,7 @@ driver_later : reading (codes ".model m" ++ (10 ∷ []) ++ codes ".outputs x" ++
     driver_later_circuit
 driver_later = refl
 
-driver_later_runs : IsRun driver_later_circuit (Event [] ∷ Event [] ∷ Event [] ∷ []) (just (codes "z" ∷ codes "x" ∷ []) ∷ just (codes "y" ∷ []) ∷ just
+driver_later_runs : IsCircuitRun driver_later_circuit (Event [] ∷ Event [] ∷ Event [] ∷ []) (just (codes "z" ∷ codes "x" ∷ []) ∷ just (codes "y" ∷ []) ∷ just
     (codes "z" ∷ codes "x" ∷ []) ∷ [])
 driver_later_runs = (
   record { inputs_given = refl; latches_kept = refl; tables_met = (refl, (refl, tt)) },
@@ -228,7 +228,7 @@ paper_row_23 : reading (codes ".model T" ++ (10 ∷ []) ++ codes ".inputs A" ++ 
     ".names _s0 _paused" ++ (10 ∷ []) ++ codes "1 1" ++ (10 ∷ []) ++ codes ".end" ++ (10 ∷ [])) ≡ Ok paper_row_23_circuit
 paper_row_23 = refl
 
-paper_row_23_runs : IsRun paper_row_23_circuit (Event (true ∷ []) ∷ Reset ∷ Event (false ∷ []) ∷ Reset ∷ []) (just (codes "A" ∷ codes "_i0" ∷ codes
+paper_row_23_runs : IsCircuitRun paper_row_23_circuit (Event (true ∷ []) ∷ Reset ∷ Event (false ∷ []) ∷ Reset ∷ []) (just (codes "A" ∷ codes "_i0" ∷ codes
     "_g1" ∷ []) ∷ just (codes "_g1" ∷ []) ∷ [])
 paper_row_23_runs = (
   record { inputs_given = refl; latches_kept = refl; tables_met = (refl, (refl, (refl, (refl, (refl, tt))))) },
@@ -254,7 +254,7 @@ out_names : reading (codes ".model m" ++ (10 ∷ []) ++ codes ".inputs A X" ++ (
     ++ codes "1 1" ++ (10 ∷ []) ++ codes ".end" ++ (10 ∷ [])) ≡ Ok out_names_circuit
 out_names = refl
 
-out_names_runs : IsRun out_names_circuit (Event (false ∷ false ∷ []) ∷ Event (false ∷ false ∷ []) ∷ Event (false ∷ true ∷ []) ∷ Reset ∷ []) (just [] ∷
+out_names_runs : IsCircuitRun out_names_circuit (Event (false ∷ false ∷ []) ∷ Event (false ∷ false ∷ []) ∷ Event (false ∷ true ∷ []) ∷ Reset ∷ []) (just [] ∷
     just [] ∷ just (codes "X" ∷ codes "_i1" ∷ codes "X.out" ∷ []) ∷ [])
 out_names_runs = (
   record { inputs_given = refl; latches_kept = refl; tables_met = (refl, (refl, (refl, (refl, (refl, tt))))) },
@@ -284,7 +284,7 @@ reset_name : reading (codes ".model R" ++ (10 ∷ []) ++ codes ".inputs !reset" 
     ++ (10 ∷ []) ++ codes "1 1" ++ (10 ∷ []) ++ codes ".end" ++ (10 ∷ [])) ≡ Ok reset_name_circuit
 reset_name = refl
 
-reset_name_runs : IsRun reset_name_circuit (Event (false ∷ []) ∷ Event (true ∷ []) ∷ Event (false ∷ []) ∷ []) (just [] ∷ just (codes "!reset" ∷ codes
+reset_name_runs : IsCircuitRun reset_name_circuit (Event (false ∷ []) ∷ Event (true ∷ []) ∷ Event (false ∷ []) ∷ []) (just [] ∷ just (codes "!reset" ∷ codes
     "x" ∷ []) ∷ just [] ∷ [])
 reset_name_runs = (
   record { inputs_given = refl; latches_kept = refl; tables_met = (refl, tt) },

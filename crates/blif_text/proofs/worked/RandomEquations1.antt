@@ -1,10 +1,10 @@
 -- Inner: equations between the definitions of BLIF and an independent implementation of them in Python.
 -- Each text is read as the circuit, or refused with the fault, that the other implementation answers. Generated.
 use Rattle.std.proofs.Common.{◌≡◌, true, false, [], ◌∷◌, ◌++◌, Ok, Err, codes, refl}
-use Rattle.est_base.specs.Items.{Event, Reset}
+use Rattle.base_types.specs.Items.{Event, Reset}
 use Rattle.blif_text.specs.Statements.{Zero, One, Any}
 use Rattle.blif_text.specs.Circuits.{Circuit, reading, Line, TwoDrivers, NoDriver}
-use Rattle.blif_text.specs.Runs.{IsRun}
+use Rattle.blif_text.specs.Runs.{IsCircuitRun}
 use Rattle.blif_text.proofs.worked.PlainWords.{latch, table, circuit, just}
 
 abbrev random_0_circuit : Circuit
@@ -15,7 +15,7 @@ random_0 : reading (codes ".model " ++ (13 ∷ []) ++ (10 ∷ []) ++ codes ".lat
     (10 ∷ []) ++ codes ".inputs a" ++ (10 ∷ []) ++ codes ".end " ++ (13 ∷ []) ++ (10 ∷ [])) ≡ Ok random_0_circuit
 random_0 = refl
 
-random_0_runs : IsRun random_0_circuit (Event (false ∷ []) ∷ Event (false ∷ []) ∷ Event (true ∷ []) ∷ Reset ∷ Reset ∷ []) (just (codes "s1" ∷ codes
+random_0_runs : IsCircuitRun random_0_circuit (Event (false ∷ []) ∷ Event (false ∷ []) ∷ Event (true ∷ []) ∷ Reset ∷ Reset ∷ []) (just (codes "s1" ∷ codes
     "s0" ∷ []) ∷ just (codes "s1" ∷ codes "s0" ∷ []) ∷ just (codes "a" ∷ codes "s1" ∷ codes "s0" ∷ []) ∷ [])
 random_0_runs = (
   record { inputs_given = refl; latches_kept = refl; tables_met = tt },
@@ -40,7 +40,7 @@ random_1 : reading (codes ".model " ++ (13 ∷ []) ++ (10 ∷ []) ++ codes ".lat
     (10 ∷ [])) ≡ Ok random_1_circuit
 random_1 = refl
 
-random_1_runs : IsRun random_1_circuit (Event [] ∷ Reset ∷ Event [] ∷ Reset ∷ Event [] ∷ Event [] ∷ []) (just (codes "g0" ∷ []) ∷ just (codes "g0" ∷
+random_1_runs : IsCircuitRun random_1_circuit (Event [] ∷ Reset ∷ Event [] ∷ Reset ∷ Event [] ∷ Event [] ∷ []) (just (codes "g0" ∷ []) ∷ just (codes "g0" ∷
     []) ∷ just (codes "g0" ∷ []) ∷ just (codes "s0" ∷ codes "g0" ∷ []) ∷ [])
 random_1_runs = (
   record { inputs_given = refl; latches_kept = refl; tables_met = (refl, tt) },
@@ -79,7 +79,7 @@ random_2 : reading (codes ".model " ++ (92 ∷ []) ++ (10 ∷ []) ++ codes "m # 
     "b" ++ (9 ∷ []) ++ codes "c " ++ (10 ∷ []) ++ codes ".end#c " ++ (92 ∷ []) ++ (13 ∷ []) ++ (10 ∷ [])) ≡ Ok random_2_circuit
 random_2 = refl
 
-random_2_runs : IsRun random_2_circuit (Event (false ∷ true ∷ true ∷ []) ∷ Reset ∷ Event (true ∷ false ∷ true ∷ []) ∷ Event (true ∷ true ∷ true ∷ [])
+random_2_runs : IsCircuitRun random_2_circuit (Event (false ∷ true ∷ true ∷ []) ∷ Reset ∷ Event (true ∷ false ∷ true ∷ []) ∷ Event (true ∷ true ∷ true ∷ [])
     ∷ Event (true ∷ false ∷ true ∷ []) ∷ []) (just (codes "b" ∷ codes "c" ∷ codes "g2" ∷ codes "g1" ∷ []) ∷ just (codes "a" ∷ codes "c" ∷ codes "g2" ∷
     codes "g1" ∷ []) ∷ just (codes "a" ∷ codes "b" ∷ codes "c" ∷ codes "s0" ∷ codes "g2" ∷ codes "g1" ∷ []) ∷ just (codes "a" ∷ codes "c" ∷ codes "s0"
     ∷ codes "g2" ∷ codes "g1" ∷ []) ∷ [])
@@ -117,7 +117,7 @@ random_3 : reading (codes ".model  m # c" ++ (10 ∷ []) ++ codes ".inputs " ++ 
     ∷ []) ++ codes "a" ++ (10 ∷ []) ++ codes ".end" ++ (10 ∷ [])) ≡ Ok random_3_circuit
 random_3 = refl
 
-random_3_runs : IsRun random_3_circuit (Event (true ∷ true ∷ true ∷ []) ∷ Reset ∷ Reset ∷ Event (true ∷ false ∷ false ∷ []) ∷ Event (false ∷ false ∷
+random_3_runs : IsCircuitRun random_3_circuit (Event (true ∷ true ∷ true ∷ []) ∷ Reset ∷ Reset ∷ Event (true ∷ false ∷ false ∷ []) ∷ Event (false ∷ false ∷
     false ∷ []) ∷ []) (just (codes "b" ∷ codes "c" ∷ codes "a" ∷ codes "g0" ∷ []) ∷ just (codes "b" ∷ codes "g0" ∷ []) ∷ just (codes "g0" ∷ []) ∷ [])
 random_3_runs = (
   record { inputs_given = refl; latches_kept = refl; tables_met = (refl, tt) },
@@ -146,7 +146,7 @@ random_5 : reading (codes ".model # c" ++ (10 ∷ []) ++ codes ".latch" ++ (9 �
     (13 ∷ []) ++ (10 ∷ []) ++ codes ".outputs " ++ (10 ∷ []) ++ codes ".end") ≡ Ok random_5_circuit
 random_5 = refl
 
-random_5_runs : IsRun random_5_circuit (Reset ∷ Event [] ∷ Reset ∷ Event [] ∷ []) (just [] ∷ just [] ∷ [])
+random_5_runs : IsCircuitRun random_5_circuit (Reset ∷ Event [] ∷ Reset ∷ Event [] ∷ []) (just [] ∷ just [] ∷ [])
 random_5_runs = (
   record { inputs_given = refl; latches_kept = refl; tables_met = tt },
   (
@@ -177,7 +177,7 @@ random_7 : reading (codes ".model # c" ++ (10 ∷ []) ++ codes ".names s0 g0 g1"
     (10 ∷ []) ++ codes " " ++ (10 ∷ [])) ≡ Ok random_7_circuit
 random_7 = refl
 
-random_7_runs : IsRun random_7_circuit (Event [] ∷ Event [] ∷ Event [] ∷ Event [] ∷ Reset ∷ Reset ∷ []) (just (codes "s0" ∷ []) ∷ just (codes "g0" ∷
+random_7_runs : IsCircuitRun random_7_circuit (Event [] ∷ Event [] ∷ Event [] ∷ Event [] ∷ Reset ∷ Reset ∷ []) (just (codes "s0" ∷ []) ∷ just (codes "g0" ∷
     []) ∷ just (codes "g0" ∷ []) ∷ just (codes "g0" ∷ []) ∷ [])
 random_7_runs = (
   record { inputs_given = refl; latches_kept = refl; tables_met = (refl, (refl, (refl, tt))) },
@@ -235,7 +235,7 @@ random_11 : reading (codes ".model  m # c" ++ (13 ∷ []) ++ (10 ∷ []) ++ code
     []) ++ codes ".end" ++ (10 ∷ [])) ≡ Ok random_11_circuit
 random_11 = refl
 
-random_11_runs : IsRun random_11_circuit (Event (false ∷ false ∷ false ∷ []) ∷ Event (true ∷ false ∷ false ∷ []) ∷ Event (true ∷ false ∷ true ∷ []) ∷
+random_11_runs : IsCircuitRun random_11_circuit (Event (false ∷ false ∷ false ∷ []) ∷ Event (true ∷ false ∷ false ∷ []) ∷ Event (true ∷ false ∷ true ∷ []) ∷
     Event (true ∷ true ∷ true ∷ []) ∷ []) (just (codes "s0" ∷ codes "g1" ∷ []) ∷ just (codes "b" ∷ codes "s0" ∷ codes "g1" ∷ []) ∷ just (codes "b" ∷
     codes "a" ∷ codes "s0" ∷ codes "g1" ∷ []) ∷ just (codes "b" ∷ codes "c" ∷ codes "a" ∷ codes "s1" ∷ codes "s0" ∷ codes "g1" ∷ codes "g0" ∷ []) ∷
     [])
@@ -272,7 +272,7 @@ random_12 : reading (codes ".model m " ++ (10 ∷ []) ++ codes ".outputs" ++ (9 
     ≡ Ok random_12_circuit
 random_12 = refl
 
-random_12_runs : IsRun random_12_circuit (Event [] ∷ Event [] ∷ []) (just [] ∷ just [] ∷ [])
+random_12_runs : IsCircuitRun random_12_circuit (Event [] ∷ Event [] ∷ []) (just [] ∷ just [] ∷ [])
 random_12_runs = (
   record { inputs_given = refl; latches_kept = refl; tables_met = (refl, (refl, tt)) },
   (
@@ -308,7 +308,7 @@ random_15 : reading (codes ".model m # c" ++ (10 ∷ []) ++ codes ".names g2 " +
     random_15_circuit
 random_15 = refl
 
-random_15_runs : IsRun random_15_circuit (Event [] ∷ Event [] ∷ Event [] ∷ Event [] ∷ Reset ∷ []) (just [] ∷ just [] ∷ just [] ∷ just [] ∷ [])
+random_15_runs : IsCircuitRun random_15_circuit (Event [] ∷ Event [] ∷ Event [] ∷ Event [] ∷ Reset ∷ []) (just [] ∷ just [] ∷ just [] ∷ just [] ∷ [])
 random_15_runs = (
   record { inputs_given = refl; latches_kept = refl; tables_met = (refl, (refl, tt)) },
   (
@@ -348,7 +348,7 @@ random_17 : reading (codes ".model#c " ++ (92 ∷ []) ++ (10 ∷ []) ++ codes ".
     []) ++ codes ".end # c" ++ (10 ∷ []) ++ codes "# c" ++ (10 ∷ [])) ≡ Ok random_17_circuit
 random_17 = refl
 
-random_17_runs : IsRun random_17_circuit (Event (true ∷ []) ∷ Reset ∷ Event (false ∷ []) ∷ []) (just (codes "a" ∷ []) ∷ just [] ∷ [])
+random_17_runs : IsCircuitRun random_17_circuit (Event (true ∷ []) ∷ Reset ∷ Event (false ∷ []) ∷ []) (just (codes "a" ∷ []) ∷ just [] ∷ [])
 random_17_runs = (
   record { inputs_given = refl; latches_kept = refl; tables_met = (refl, (refl, tt)) },
   (
@@ -374,7 +374,7 @@ random_18 : reading (codes ".model  m#c " ++ (92 ∷ []) ++ (13 ∷ []) ++ (10 �
     []) ++ (10 ∷ [])) ≡ Ok random_18_circuit
 random_18 = refl
 
-random_18_runs : IsRun random_18_circuit (Reset ∷ Event (false ∷ true ∷ false ∷ []) ∷ Event (true ∷ true ∷ false ∷ []) ∷ Event (false ∷ false ∷ false
+random_18_runs : IsCircuitRun random_18_circuit (Reset ∷ Event (false ∷ true ∷ false ∷ []) ∷ Event (true ∷ true ∷ false ∷ []) ∷ Event (false ∷ false ∷ false
     ∷ []) ∷ Event (false ∷ false ∷ false ∷ []) ∷ []) (just (codes "b" ∷ codes "g0" ∷ codes "g1" ∷ []) ∷ just (codes "a" ∷ codes "b" ∷ codes "g1" ∷ [])
     ∷ just (codes "g0" ∷ codes "g1" ∷ []) ∷ just (codes "g0" ∷ codes "g1" ∷ []) ∷ [])
 random_18_runs = (
@@ -418,7 +418,7 @@ random_20 : reading (codes ".model # c" ++ (10 ∷ []) ++ codes ".names" ++ (9 �
     ".latch  g1  s1  1 # c" ++ (10 ∷ []) ++ codes " " ++ (10 ∷ []) ++ codes ".end#c " ++ (92 ∷ []) ++ (10 ∷ [])) ≡ Ok random_20_circuit
 random_20 = refl
 
-random_20_runs : IsRun random_20_circuit (Reset ∷ Event [] ∷ Event [] ∷ []) (just (codes "s1" ∷ []) ∷ just [] ∷ [])
+random_20_runs : IsCircuitRun random_20_circuit (Reset ∷ Event [] ∷ Event [] ∷ []) (just (codes "s1" ∷ []) ∷ just [] ∷ [])
 random_20_runs = (
   record { inputs_given = refl; latches_kept = refl; tables_met = (refl, (refl, tt)) },
   (
@@ -450,7 +450,7 @@ random_22 : reading (codes ".model " ++ (92 ∷ []) ++ (10 ∷ []) ++ codes "m" 
     [])) ≡ Ok random_22_circuit
 random_22 = refl
 
-random_22_runs : IsRun random_22_circuit (Event (true ∷ []) ∷ Event (true ∷ []) ∷ Event (false ∷ []) ∷ []) (just (codes "a" ∷ codes "s1" ∷ codes "s0"
+random_22_runs : IsCircuitRun random_22_circuit (Event (true ∷ []) ∷ Event (true ∷ []) ∷ Event (false ∷ []) ∷ []) (just (codes "a" ∷ codes "s1" ∷ codes "s0"
     ∷ []) ∷ just (codes "a" ∷ []) ∷ just (codes "g0" ∷ []) ∷ [])
 random_22_runs = (
   record { inputs_given = refl; latches_kept = refl; tables_met = (refl, (refl, tt)) },
@@ -474,7 +474,7 @@ random_23 : reading (codes ".model" ++ (9 ∷ []) ++ codes "m" ++ (10 ∷ []) ++
     ∷ []) ++ (10 ∷ []) ++ codes "c" ++ (13 ∷ []) ++ (10 ∷ []) ++ codes ".end#c " ++ (92 ∷ []) ++ (10 ∷ [])) ≡ Ok random_23_circuit
 random_23 = refl
 
-random_23_runs : IsRun random_23_circuit (Event (false ∷ true ∷ true ∷ []) ∷ Reset ∷ Reset ∷ Event (false ∷ false ∷ false ∷ []) ∷ []) (just (codes "b"
+random_23_runs : IsCircuitRun random_23_circuit (Event (false ∷ true ∷ true ∷ []) ∷ Reset ∷ Reset ∷ Event (false ∷ false ∷ false ∷ []) ∷ []) (just (codes "b"
     ∷ codes "c" ∷ codes "s0" ∷ []) ∷ just (codes "s0" ∷ []) ∷ [])
 random_23_runs = (
   record { inputs_given = refl; latches_kept = refl; tables_met = tt },

@@ -1,10 +1,10 @@
 -- Inner: equations between the definitions of BLIF and an independent implementation of them in Python.
 -- Each text is read as the circuit, or refused with the fault, that the other implementation answers. Generated.
 use Rattle.std.proofs.Common.{◌≡◌, true, false, [], ◌∷◌, ◌++◌, Ok, Err, codes, refl}
-use Rattle.est_base.specs.Items.{Event, Reset}
+use Rattle.base_types.specs.Items.{Event, Reset}
 use Rattle.blif_text.specs.Statements.{Zero, One, Any}
 use Rattle.blif_text.specs.Circuits.{Circuit, reading, Line, TwoDrivers}
-use Rattle.blif_text.specs.Runs.{IsRun}
+use Rattle.blif_text.specs.Runs.{IsCircuitRun}
 use Rattle.blif_text.proofs.worked.PlainWords.{latch, table, circuit, just}
 
 random_25 : reading (codes "0" ++ (10 ∷ []) ++ codes ".names a s0 g0#c " ++ (92 ∷ []) ++ (13 ∷ []) ++ (10 ∷ []) ++ codes "-- " ++ (92 ∷ []) ++ (10 ∷
@@ -23,7 +23,7 @@ random_26 : reading (codes ".model " ++ (10 ∷ []) ++ codes ".names s1 g1#c " +
     ".inputs " ++ (10 ∷ []) ++ codes ".end" ++ (13 ∷ []) ++ (10 ∷ [])) ≡ Ok random_26_circuit
 random_26 = refl
 
-random_26_runs : IsRun random_26_circuit (Reset ∷ Event [] ∷ Event [] ∷ Event [] ∷ []) (just (codes "s1" ∷ codes "s0" ∷ []) ∷ just [] ∷ just [] ∷ [])
+random_26_runs : IsCircuitRun random_26_circuit (Reset ∷ Event [] ∷ Event [] ∷ Event [] ∷ []) (just (codes "s1" ∷ codes "s0" ∷ []) ∷ just [] ∷ just [] ∷ [])
 random_26_runs = (
   record { inputs_given = refl; latches_kept = refl; tables_met = (refl, (refl, tt)) },
   (
@@ -50,7 +50,7 @@ random_27 : reading (codes ".model" ++ (13 ∷ []) ++ (10 ∷ []) ++ codes ".nam
     Ok random_27_circuit
 random_27 = refl
 
-random_27_runs : IsRun random_27_circuit (Reset ∷ Event (true ∷ []) ∷ Event (true ∷ []) ∷ Reset ∷ []) (just (codes "a" ∷ codes "s0" ∷ codes "g2" ∷ [])
+random_27_runs : IsCircuitRun random_27_circuit (Reset ∷ Event (true ∷ []) ∷ Event (true ∷ []) ∷ Reset ∷ []) (just (codes "a" ∷ codes "s0" ∷ codes "g2" ∷ [])
     ∷ just (codes "a" ∷ codes "s0" ∷ codes "g2" ∷ []) ∷ [])
 random_27_runs = (
   record { inputs_given = refl; latches_kept = refl; tables_met = (refl, (refl, (refl, tt))) },
@@ -79,7 +79,7 @@ random_28 : reading (codes ".model # c" ++ (10 ∷ []) ++ codes " " ++ (10 ∷ [
     Ok random_28_circuit
 random_28 = refl
 
-random_28_runs : IsRun random_28_circuit (Event (false ∷ true ∷ true ∷ []) ∷ Reset ∷ Event (true ∷ false ∷ true ∷ []) ∷ Event (true ∷ true ∷ true ∷
+random_28_runs : IsCircuitRun random_28_circuit (Event (false ∷ true ∷ true ∷ []) ∷ Reset ∷ Event (true ∷ false ∷ true ∷ []) ∷ Event (true ∷ true ∷ true ∷
     []) ∷ Event (true ∷ false ∷ true ∷ []) ∷ []) (just (codes "c" ∷ codes "a" ∷ codes "g1" ∷ codes "g0" ∷ []) ∷ just (codes "b" ∷ codes "a" ∷ codes
     "g1" ∷ []) ∷ just (codes "b" ∷ codes "c" ∷ codes "a" ∷ codes "s0" ∷ codes "s1" ∷ codes "g1" ∷ codes "g0" ∷ []) ∷ just (codes "b" ∷ codes "a" ∷
     codes "s0" ∷ codes "s1" ∷ codes "g1" ∷ codes "g0" ∷ []) ∷ [])
@@ -116,7 +116,7 @@ random_29 : reading (codes ".model " ++ (13 ∷ []) ++ (10 ∷ []) ++ codes ".na
     ++ (13 ∷ []) ++ (10 ∷ []) ++ codes " " ++ (10 ∷ []) ++ codes ".end#c " ++ (92 ∷ [])) ≡ Ok random_29_circuit
 random_29 = refl
 
-random_29_runs : IsRun random_29_circuit (Event [] ∷ Reset ∷ Reset ∷ Event [] ∷ Event [] ∷ []) (just (codes "g0" ∷ codes "g1" ∷ []) ∷ just (codes "g0"
+random_29_runs : IsCircuitRun random_29_circuit (Event [] ∷ Reset ∷ Reset ∷ Event [] ∷ Event [] ∷ []) (just (codes "g0" ∷ codes "g1" ∷ []) ∷ just (codes "g0"
     ∷ codes "g1" ∷ []) ∷ just (codes "g0" ∷ codes "g1" ∷ []) ∷ [])
 random_29_runs = (
   record { inputs_given = refl; latches_kept = refl; tables_met = (refl, (refl, tt)) },
@@ -142,7 +142,7 @@ random_30 : reading (codes ".model " ++ (92 ∷ []) ++ (10 ∷ []) ++ codes "m#c
     ".end" ++ (10 ∷ [])) ≡ Ok random_30_circuit
 random_30 = refl
 
-random_30_runs : IsRun random_30_circuit (Event (false ∷ true ∷ true ∷ []) ∷ Event (false ∷ false ∷ true ∷ []) ∷ Event (true ∷ false ∷ true ∷ []) ∷
+random_30_runs : IsCircuitRun random_30_circuit (Event (false ∷ true ∷ true ∷ []) ∷ Event (false ∷ false ∷ true ∷ []) ∷ Event (true ∷ false ∷ true ∷ []) ∷
     []) (just (codes "b" ∷ codes "c" ∷ codes "g0" ∷ []) ∷ just (codes "c" ∷ codes "g0" ∷ []) ∷ just (codes "a" ∷ codes "c" ∷ codes "g0" ∷ []) ∷ [])
 random_30_runs = (
   record { inputs_given = refl; latches_kept = refl; tables_met = (refl, tt) },
@@ -176,7 +176,7 @@ random_32 : reading (codes ".model  m" ++ (13 ∷ []) ++ (10 ∷ []) ++ codes ".
     [])) ≡ Ok random_32_circuit
 random_32 = refl
 
-random_32_runs : IsRun random_32_circuit (Event (true ∷ true ∷ []) ∷ Reset ∷ Event (false ∷ false ∷ []) ∷ Event (true ∷ false ∷ []) ∷ Reset ∷ Event
+random_32_runs : IsCircuitRun random_32_circuit (Event (true ∷ true ∷ []) ∷ Reset ∷ Event (false ∷ false ∷ []) ∷ Event (true ∷ false ∷ []) ∷ Reset ∷ Event
     (false ∷ false ∷ []) ∷ []) (just (codes "a" ∷ codes "b" ∷ []) ∷ just [] ∷ just (codes "a" ∷ []) ∷ just [] ∷ [])
 random_32_runs = (
   record { inputs_given = refl; latches_kept = refl; tables_met = (refl, (refl, tt)) },
@@ -210,7 +210,7 @@ random_33 : reading (codes ".model m # c" ++ (13 ∷ []) ++ (10 ∷ []) ++ codes
     ∷ []) ++ codes "1" ++ (13 ∷ []) ++ (10 ∷ []) ++ codes ".end" ++ (10 ∷ [])) ≡ Ok random_33_circuit
 random_33 = refl
 
-random_33_runs : IsRun random_33_circuit (Reset ∷ Event [] ∷ Event [] ∷ []) (just (codes "s0" ∷ []) ∷ just [] ∷ [])
+random_33_runs : IsCircuitRun random_33_circuit (Reset ∷ Event [] ∷ Event [] ∷ []) (just (codes "s0" ∷ []) ∷ just [] ∷ [])
 random_33_runs = (
   record { inputs_given = refl; latches_kept = refl; tables_met = tt },
   (
@@ -233,7 +233,7 @@ random_34 : reading (codes ".model" ++ (10 ∷ []) ++ codes "# c" ++ (10 ∷ [])
     ++ (13 ∷ []) ++ (10 ∷ []) ++ codes ".outputs" ++ (10 ∷ []) ++ codes ".end # c" ++ (13 ∷ [])) ≡ Ok random_34_circuit
 random_34 = refl
 
-random_34_runs : IsRun random_34_circuit (Reset ∷ Event [] ∷ Event [] ∷ []) (just (codes "g0" ∷ []) ∷ just (codes "g0" ∷ []) ∷ [])
+random_34_runs : IsCircuitRun random_34_circuit (Reset ∷ Event [] ∷ Event [] ∷ []) (just (codes "g0" ∷ []) ∷ just (codes "g0" ∷ []) ∷ [])
 random_34_runs = (
   record { inputs_given = refl; latches_kept = refl; tables_met = (refl, (refl, tt)) },
   (
@@ -259,7 +259,7 @@ random_35 : reading (codes ".model # c" ++ (10 ∷ []) ++ codes ".names" ++ (9 �
     ++ codes ".end" ++ (10 ∷ []) ++ codes " " ++ (10 ∷ [])) ≡ Ok random_35_circuit
 random_35 = refl
 
-random_35_runs : IsRun random_35_circuit (Reset ∷ Event (true ∷ true ∷ true ∷ []) ∷ Reset ∷ Event (true ∷ true ∷ true ∷ []) ∷ Event (false ∷ false ∷
+random_35_runs : IsCircuitRun random_35_circuit (Reset ∷ Event (true ∷ true ∷ true ∷ []) ∷ Reset ∷ Event (true ∷ true ∷ true ∷ []) ∷ Event (false ∷ false ∷
     true ∷ []) ∷ []) (just (codes "a" ∷ codes "b" ∷ codes "c" ∷ codes "s0" ∷ codes "g1" ∷ codes "g0" ∷ []) ∷ just (codes "a" ∷ codes "b" ∷ codes "c" ∷
     codes "s0" ∷ codes "g1" ∷ codes "g0" ∷ []) ∷ just (codes "c" ∷ codes "s0" ∷ codes "g1" ∷ codes "g0" ∷ []) ∷ [])
 random_35_runs = (
@@ -305,7 +305,7 @@ random_40 : reading (codes ".model " ++ (92 ∷ []) ++ (10 ∷ []) ++ codes "0 "
     ".inputs # c" ++ (10 ∷ []) ++ codes ".end # c" ++ (10 ∷ [])) ≡ Ok random_40_circuit
 random_40 = refl
 
-random_40_runs : IsRun random_40_circuit (Event [] ∷ Event [] ∷ Event [] ∷ []) (just [] ∷ just [] ∷ just [] ∷ [])
+random_40_runs : IsCircuitRun random_40_circuit (Event [] ∷ Event [] ∷ Event [] ∷ []) (just [] ∷ just [] ∷ just [] ∷ [])
 random_40_runs = (
   record { inputs_given = refl; latches_kept = refl; tables_met = tt },
   (
@@ -329,7 +329,7 @@ random_41 : reading (codes ".model " ++ (92 ∷ []) ++ (10 ∷ []) ++ codes "m#c
     ++ (10 ∷ [])) ≡ Ok random_41_circuit
 random_41 = refl
 
-random_41_runs : IsRun random_41_circuit (Event (true ∷ false ∷ []) ∷ Reset ∷ Event (true ∷ true ∷ []) ∷ []) (just (codes "b" ∷ codes "s1" ∷ []) ∷
+random_41_runs : IsCircuitRun random_41_circuit (Event (true ∷ false ∷ []) ∷ Reset ∷ Event (true ∷ true ∷ []) ∷ []) (just (codes "b" ∷ codes "s1" ∷ []) ∷
     just (codes "b" ∷ codes "a" ∷ codes "s1" ∷ []) ∷ [])
 random_41_runs = (
   record { inputs_given = refl; latches_kept = refl; tables_met = tt },
@@ -357,7 +357,7 @@ random_42 : reading (codes ".model" ++ (10 ∷ []) ++ codes ".names a g0" ++ (10
     []) ++ codes ".end # c" ++ (13 ∷ []) ++ (10 ∷ [])) ≡ Ok random_42_circuit
 random_42 = refl
 
-random_42_runs : IsRun random_42_circuit (Event (true ∷ false ∷ []) ∷ Event (false ∷ false ∷ []) ∷ []) (just (codes "a" ∷ codes "s1" ∷ codes "s0" ∷
+random_42_runs : IsCircuitRun random_42_circuit (Event (true ∷ false ∷ []) ∷ Event (false ∷ false ∷ []) ∷ []) (just (codes "a" ∷ codes "s1" ∷ codes "s0" ∷
     codes "g1" ∷ []) ∷ just (codes "s1" ∷ codes "s0" ∷ codes "g0" ∷ []) ∷ [])
 random_42_runs = (
   record { inputs_given = refl; latches_kept = refl; tables_met = (refl, (refl, tt)) },
@@ -388,7 +388,7 @@ random_45 : reading (codes ".model # c" ++ (10 ∷ []) ++ codes ".inputs" ++ (13
     []) ++ codes "a " ++ (10 ∷ []) ++ codes ".end ") ≡ Ok random_45_circuit
 random_45 = refl
 
-random_45_runs : IsRun random_45_circuit (Event (true ∷ []) ∷ Event (true ∷ []) ∷ Event (false ∷ []) ∷ []) (just (codes "a" ∷ []) ∷ just (codes "a" ∷
+random_45_runs : IsCircuitRun random_45_circuit (Event (true ∷ []) ∷ Event (true ∷ []) ∷ Event (false ∷ []) ∷ []) (just (codes "a" ∷ []) ∷ just (codes "a" ∷
     []) ∷ just [] ∷ [])
 random_45_runs = (
   record { inputs_given = refl; latches_kept = refl; tables_met = tt },
@@ -414,7 +414,7 @@ random_46 : reading (codes ".model " ++ (92 ∷ []) ++ (10 ∷ []) ++ codes "1 "
     []) ++ codes "a" ++ (10 ∷ []) ++ codes ".end") ≡ Ok random_46_circuit
 random_46 = refl
 
-random_46_runs : IsRun random_46_circuit (Event (false ∷ true ∷ true ∷ []) ∷ Reset ∷ Reset ∷ Event (false ∷ false ∷ false ∷ []) ∷ []) (just (codes "c"
+random_46_runs : IsCircuitRun random_46_circuit (Event (false ∷ true ∷ true ∷ []) ∷ Reset ∷ Reset ∷ Event (false ∷ false ∷ false ∷ []) ∷ []) (just (codes "c"
     ∷ codes "a" ∷ codes "g0" ∷ []) ∷ just (codes "g0" ∷ []) ∷ [])
 random_46_runs = (
   record { inputs_given = refl; latches_kept = refl; tables_met = (refl, (refl, tt)) },
@@ -446,7 +446,7 @@ random_48 : reading (codes ".model m" ++ (13 ∷ []) ++ (10 ∷ []) ++ codes ".i
     random_48_circuit
 random_48 = refl
 
-random_48_runs : IsRun random_48_circuit (Event (false ∷ []) ∷ Event (false ∷ []) ∷ Event (false ∷ []) ∷ []) (just [] ∷ just [] ∷ just [] ∷ [])
+random_48_runs : IsCircuitRun random_48_circuit (Event (false ∷ []) ∷ Event (false ∷ []) ∷ Event (false ∷ []) ∷ []) (just [] ∷ just [] ∷ just [] ∷ [])
 random_48_runs = (
   record { inputs_given = refl; latches_kept = refl; tables_met = tt },
   (

@@ -1,10 +1,10 @@
 -- Inner: equations between the definitions of BLIF and an independent implementation of them in Python.
 -- Each text is read as the circuit, or refused with the fault, that the other implementation answers. Generated.
 use Rattle.std.proofs.Common.{◌≡◌, true, false, [], ◌∷◌, ◌++◌, Ok, Err, codes, refl}
-use Rattle.est_base.specs.Items.{Event, Reset}
+use Rattle.base_types.specs.Items.{Event, Reset}
 use Rattle.blif_text.specs.Statements.{Zero, One, Any}
 use Rattle.blif_text.specs.Circuits.{Circuit, reading, Line, NoDriver}
-use Rattle.blif_text.specs.Runs.{IsRun}
+use Rattle.blif_text.specs.Runs.{IsCircuitRun}
 use Rattle.blif_text.proofs.worked.PlainWords.{latch, table, circuit, just}
 
 random_50 : reading (codes ".model#c " ++ (92 ∷ []) ++ (13 ∷ []) ++ (10 ∷ []) ++ codes ".latch " ++ (92 ∷ []) ++ (10 ∷ []) ++ codes "c " ++ (92 ∷ [])
@@ -23,7 +23,7 @@ random_51 : reading (codes ".model  m" ++ (10 ∷ []) ++ codes ".inputs b # c" +
     random_51_circuit
 random_51 = refl
 
-random_51_runs : IsRun random_51_circuit (Event (false ∷ false ∷ []) ∷ Reset ∷ Event (true ∷ true ∷ []) ∷ Reset ∷ Event (false ∷ false ∷ []) ∷ [])
+random_51_runs : IsCircuitRun random_51_circuit (Event (false ∷ false ∷ []) ∷ Reset ∷ Event (true ∷ true ∷ []) ∷ Reset ∷ Event (false ∷ false ∷ []) ∷ [])
     (just (codes "s1" ∷ codes "s0" ∷ []) ∷ just (codes "b" ∷ codes "a" ∷ codes "s1" ∷ codes "s0" ∷ []) ∷ just (codes "s1" ∷ codes "s0" ∷ []) ∷ [])
 random_51_runs = (
   record { inputs_given = refl; latches_kept = refl; tables_met = tt },
@@ -48,7 +48,7 @@ random_52 : reading (codes ".model" ++ (10 ∷ []) ++ codes ".outputs#c " ++ (92
     random_52_circuit
 random_52 = refl
 
-random_52_runs : IsRun random_52_circuit (Event (false ∷ true ∷ []) ∷ Event (true ∷ true ∷ []) ∷ Event (false ∷ true ∷ []) ∷ Event (true ∷ true ∷ [])
+random_52_runs : IsCircuitRun random_52_circuit (Event (false ∷ true ∷ []) ∷ Event (true ∷ true ∷ []) ∷ Event (false ∷ true ∷ []) ∷ Event (true ∷ true ∷ [])
     ∷ []) (just (codes "b" ∷ codes "s0" ∷ []) ∷ just (codes "a" ∷ codes "b" ∷ codes "s0" ∷ []) ∷ just (codes "b" ∷ codes "s0" ∷ []) ∷ just (codes "a"
     ∷ codes "b" ∷ codes "s0" ∷ []) ∷ [])
 random_52_runs = (
@@ -100,7 +100,7 @@ random_55 : reading (codes ".model m " ++ (10 ∷ []) ++ codes ".outputs" ++ (9 
     []) ++ codes ".names g0 g1 g2 " ++ (10 ∷ []) ++ codes ".end#c " ++ (92 ∷ []) ++ (10 ∷ [])) ≡ Ok random_55_circuit
 random_55 = refl
 
-random_55_runs : IsRun random_55_circuit (Event (true ∷ []) ∷ Event (false ∷ []) ∷ Event (true ∷ []) ∷ Reset ∷ Event (false ∷ []) ∷ []) (just (codes
+random_55_runs : IsCircuitRun random_55_circuit (Event (true ∷ []) ∷ Event (false ∷ []) ∷ Event (true ∷ []) ∷ Reset ∷ Event (false ∷ []) ∷ []) (just (codes
     "a" ∷ codes "s0" ∷ codes "g0" ∷ codes "g1" ∷ []) ∷ just (codes "s0" ∷ codes "g0" ∷ codes "g1" ∷ []) ∷ just (codes "a" ∷ []) ∷ just (codes "s0" ∷
     codes "g0" ∷ codes "g1" ∷ []) ∷ [])
 random_55_runs = (
@@ -170,7 +170,7 @@ random_60 : reading (codes ".model m # c" ++ (10 ∷ []) ++ codes ".names g1" ++
     " " ++ (10 ∷ []) ++ codes "0 1" ++ (10 ∷ []) ++ codes ".end" ++ (13 ∷ []) ++ (10 ∷ [])) ≡ Ok random_60_circuit
 random_60 = refl
 
-random_60_runs : IsRun random_60_circuit (Event [] ∷ Event [] ∷ Reset ∷ Event [] ∷ []) (just (codes "s0" ∷ codes "g1" ∷ codes "g0" ∷ []) ∷ just (codes
+random_60_runs : IsCircuitRun random_60_circuit (Event [] ∷ Event [] ∷ Reset ∷ Event [] ∷ []) (just (codes "s0" ∷ codes "g1" ∷ codes "g0" ∷ []) ∷ just (codes
     "s1" ∷ codes "s0" ∷ codes "g1" ∷ codes "g0" ∷ []) ∷ just (codes "s0" ∷ codes "g1" ∷ codes "g0" ∷ []) ∷ [])
 random_60_runs = (
   record { inputs_given = refl; latches_kept = refl; tables_met = (refl, (refl, tt)) },
@@ -200,7 +200,7 @@ random_62 : reading (codes ".model " ++ (13 ∷ []) ++ (10 ∷ []) ++ codes ".na
     ++ (13 ∷ []) ++ (10 ∷ []) ++ codes "1" ++ (10 ∷ []) ++ codes "1" ++ (10 ∷ []) ++ codes ".end" ++ (10 ∷ [])) ≡ Ok random_62_circuit
 random_62 = refl
 
-random_62_runs : IsRun random_62_circuit (Event (false ∷ true ∷ true ∷ []) ∷ Event (false ∷ false ∷ true ∷ []) ∷ Event (true ∷ false ∷ true ∷ []) ∷
+random_62_runs : IsCircuitRun random_62_circuit (Event (false ∷ true ∷ true ∷ []) ∷ Event (false ∷ false ∷ true ∷ []) ∷ Event (true ∷ false ∷ true ∷ []) ∷
     []) (just (codes "c" ∷ codes "a" ∷ codes "g1" ∷ []) ∷ just (codes "a" ∷ codes "g1" ∷ []) ∷ just (codes "b" ∷ codes "a" ∷ codes "g1" ∷ []) ∷ [])
 random_62_runs = (
   record { inputs_given = refl; latches_kept = refl; tables_met = (refl, (refl, (refl, tt))) },
@@ -240,7 +240,7 @@ random_63 : reading (codes ".model" ++ (10 ∷ []) ++ codes ".outputs" ++ (13 �
     (13 ∷ []) ++ (10 ∷ []) ++ codes ".inputs a" ++ (13 ∷ []) ++ (10 ∷ []) ++ codes ".end" ++ (13 ∷ []) ++ (10 ∷ [])) ≡ Ok random_63_circuit
 random_63 = refl
 
-random_63_runs : IsRun random_63_circuit (Event (true ∷ true ∷ false ∷ []) ∷ Reset ∷ Event (false ∷ true ∷ false ∷ []) ∷ Event (false ∷ false ∷ false
+random_63_runs : IsCircuitRun random_63_circuit (Event (true ∷ true ∷ false ∷ []) ∷ Reset ∷ Event (false ∷ true ∷ false ∷ []) ∷ Event (false ∷ false ∷ false
     ∷ []) ∷ Event (false ∷ true ∷ true ∷ []) ∷ []) (just (codes "b" ∷ codes "c" ∷ []) ∷ just (codes "c" ∷ []) ∷ just [] ∷ just (codes "c" ∷ codes "a"
     ∷ codes "g0" ∷ []) ∷ [])
 random_63_runs = (
@@ -275,7 +275,7 @@ random_64 : reading (codes ".model m" ++ (13 ∷ []) ++ (10 ∷ []) ++ codes ".o
     codes "1 # c" ++ (10 ∷ []) ++ codes ".inputs a" ++ (13 ∷ []) ++ (10 ∷ []) ++ codes ".end#c " ++ (92 ∷ []) ++ (10 ∷ [])) ≡ Ok random_64_circuit
 random_64 = refl
 
-random_64_runs : IsRun random_64_circuit (Event (false ∷ true ∷ []) ∷ Event (true ∷ true ∷ []) ∷ []) (just (codes "a" ∷ codes "g0" ∷ []) ∷ just (codes
+random_64_runs : IsCircuitRun random_64_circuit (Event (false ∷ true ∷ []) ∷ Event (true ∷ true ∷ []) ∷ []) (just (codes "a" ∷ codes "g0" ∷ []) ∷ just (codes
     "b" ∷ codes "a" ∷ codes "g0" ∷ []) ∷ [])
 random_64_runs = (
   record { inputs_given = refl; latches_kept = refl; tables_met = (refl, (refl, tt)) },
@@ -302,7 +302,7 @@ random_65 : reading (codes ".model" ++ (13 ∷ []) ++ (10 ∷ []) ++ codes ".lat
     codes "-0- 1 " ++ (10 ∷ []) ++ codes " " ++ (10 ∷ []) ++ codes ".end#c " ++ (92 ∷ []) ++ (13 ∷ []) ++ (10 ∷ [])) ≡ Ok random_65_circuit
 random_65 = refl
 
-random_65_runs : IsRun random_65_circuit (Event (true ∷ true ∷ true ∷ []) ∷ Event (true ∷ false ∷ false ∷ []) ∷ Event (true ∷ false ∷ false ∷ []) ∷
+random_65_runs : IsCircuitRun random_65_circuit (Event (true ∷ true ∷ true ∷ []) ∷ Event (true ∷ false ∷ false ∷ []) ∷ Event (true ∷ false ∷ false ∷ []) ∷
     Event (true ∷ true ∷ true ∷ []) ∷ []) (just (codes "b" ∷ codes "c" ∷ codes "a" ∷ codes "s0" ∷ codes "s1" ∷ codes "g1" ∷ []) ∷ just (codes "b" ∷
     codes "s0" ∷ codes "s1" ∷ codes "g0" ∷ []) ∷ just (codes "b" ∷ codes "s1" ∷ codes "g0" ∷ []) ∷ just (codes "b" ∷ codes "c" ∷ codes "a" ∷ codes
     "s1" ∷ codes "g1" ∷ []) ∷ [])
@@ -339,7 +339,7 @@ random_66 : reading (codes ".model m" ++ (13 ∷ []) ++ (10 ∷ []) ++ codes ".l
     codes ".names g1" ++ (10 ∷ []) ++ codes ".end ") ≡ Ok random_66_circuit
 random_66 = refl
 
-random_66_runs : IsRun random_66_circuit (Event (false ∷ false ∷ false ∷ []) ∷ Event (false ∷ false ∷ true ∷ []) ∷ Event (true ∷ false ∷ false ∷ []) ∷
+random_66_runs : IsCircuitRun random_66_circuit (Event (false ∷ false ∷ false ∷ []) ∷ Event (false ∷ false ∷ true ∷ []) ∷ Event (true ∷ false ∷ false ∷ []) ∷
     []) (just (codes "s0" ∷ codes "g0" ∷ []) ∷ just (codes "a" ∷ codes "s0" ∷ codes "g0" ∷ []) ∷ just (codes "b" ∷ codes "s0" ∷ codes "g0" ∷ []) ∷ [])
 random_66_runs = (
   record { inputs_given = refl; latches_kept = refl; tables_met = (refl, (refl, tt)) },
@@ -366,7 +366,7 @@ random_67 : reading (codes ".model " ++ (13 ∷ []) ++ (10 ∷ []) ++ codes ".na
     ++ (10 ∷ [])) ≡ Ok random_67_circuit
 random_67 = refl
 
-random_67_runs : IsRun random_67_circuit (Event (true ∷ []) ∷ Event (true ∷ []) ∷ Event (false ∷ []) ∷ []) (just (codes "a" ∷ codes "g2" ∷ []) ∷ just
+random_67_runs : IsCircuitRun random_67_circuit (Event (true ∷ []) ∷ Event (true ∷ []) ∷ Event (false ∷ []) ∷ []) (just (codes "a" ∷ codes "g2" ∷ []) ∷ just
     (codes "a" ∷ codes "g2" ∷ []) ∷ just (codes "g2" ∷ codes "g0" ∷ []) ∷ [])
 random_67_runs = (
   record { inputs_given = refl; latches_kept = refl; tables_met = (refl, (refl, (refl, tt))) },
@@ -411,7 +411,7 @@ random_69 : reading (codes ".model " ++ (92 ∷ []) ++ (10 ∷ []) ++ codes "m #
     codes ".end" ++ (13 ∷ []) ++ (10 ∷ [])) ≡ Ok random_69_circuit
 random_69 = refl
 
-random_69_runs : IsRun random_69_circuit (Event (false ∷ []) ∷ Event (true ∷ []) ∷ Reset ∷ []) (just (codes "s0" ∷ codes "s1" ∷ codes "g0" ∷ codes
+random_69_runs : IsCircuitRun random_69_circuit (Event (false ∷ []) ∷ Event (true ∷ []) ∷ Reset ∷ []) (just (codes "s0" ∷ codes "s1" ∷ codes "g0" ∷ codes
     "g1" ∷ []) ∷ just (codes "a" ∷ codes "s0" ∷ codes "s1" ∷ codes "g0" ∷ codes "g1" ∷ []) ∷ [])
 random_69_runs = (
   record { inputs_given = refl; latches_kept = refl; tables_met = (refl, (refl, tt)) },
@@ -438,7 +438,7 @@ random_70 : reading (codes ".model m # c" ++ (13 ∷ []) ++ (10 ∷ []) ++ codes
     ".latch s0 s0 0" ++ (10 ∷ []) ++ codes ".end#c " ++ (92 ∷ [])) ≡ Ok random_70_circuit
 random_70 = refl
 
-random_70_runs : IsRun random_70_circuit (Event (false ∷ []) ∷ Reset ∷ Reset ∷ Event (false ∷ []) ∷ []) (just (codes "g1" ∷ []) ∷ just (codes "g1" ∷
+random_70_runs : IsCircuitRun random_70_circuit (Event (false ∷ []) ∷ Reset ∷ Reset ∷ Event (false ∷ []) ∷ []) (just (codes "g1" ∷ []) ∷ just (codes "g1" ∷
     []) ∷ [])
 random_70_runs = (
   record { inputs_given = refl; latches_kept = refl; tables_met = (refl, (refl, tt)) },
@@ -468,7 +468,7 @@ random_71 : reading (codes ".model " ++ (13 ∷ []) ++ (10 ∷ []) ++ codes ".ou
     ++ codes "b " ++ (92 ∷ []) ++ (10 ∷ []) ++ codes "c" ++ (10 ∷ []) ++ codes ".end" ++ (13 ∷ []) ++ (10 ∷ [])) ≡ Ok random_71_circuit
 random_71 = refl
 
-random_71_runs : IsRun random_71_circuit (Event (false ∷ false ∷ false ∷ []) ∷ Event (true ∷ true ∷ false ∷ []) ∷ Event (false ∷ false ∷ false ∷ []) ∷
+random_71_runs : IsCircuitRun random_71_circuit (Event (false ∷ false ∷ false ∷ []) ∷ Event (true ∷ true ∷ false ∷ []) ∷ Event (false ∷ false ∷ false ∷ []) ∷
     []) (just (codes "s0" ∷ codes "g0" ∷ codes "g1" ∷ []) ∷ just (codes "a" ∷ codes "b" ∷ []) ∷ just (codes "g0" ∷ codes "g1" ∷ []) ∷ [])
 random_71_runs = (
   record { inputs_given = refl; latches_kept = refl; tables_met = (refl, (refl, (refl, tt))) },
@@ -511,7 +511,7 @@ random_73 : reading (codes ".model" ++ (10 ∷ []) ++ codes ".names  g0 " ++ (13
     "c " ++ (10 ∷ []) ++ codes ".inputs  a" ++ (13 ∷ []) ++ (10 ∷ []) ++ codes ".end " ++ (13 ∷ []) ++ (10 ∷ [])) ≡ Ok random_73_circuit
 random_73 = refl
 
-random_73_runs : IsRun random_73_circuit (Event (true ∷ true ∷ false ∷ []) ∷ Reset ∷ Event (true ∷ false ∷ true ∷ []) ∷ Event (true ∷ true ∷ true ∷
+random_73_runs : IsCircuitRun random_73_circuit (Event (true ∷ true ∷ false ∷ []) ∷ Reset ∷ Event (true ∷ false ∷ true ∷ []) ∷ Event (true ∷ true ∷ true ∷
     []) ∷ Event (true ∷ true ∷ false ∷ []) ∷ []) (just (codes "b" ∷ codes "c" ∷ codes "g0" ∷ []) ∷ just (codes "b" ∷ codes "a" ∷ codes "g0" ∷ []) ∷
     just (codes "b" ∷ codes "c" ∷ codes "a" ∷ codes "g0" ∷ []) ∷ just (codes "b" ∷ codes "c" ∷ codes "g0" ∷ []) ∷ [])
 random_73_runs = (

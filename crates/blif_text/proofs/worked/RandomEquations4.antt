@@ -1,10 +1,10 @@
 -- Inner: equations between the definitions of BLIF and an independent implementation of them in Python.
 -- Each text is read as the circuit, or refused with the fault, that the other implementation answers. Generated.
 use Rattle.std.proofs.Common.{◌≡◌, true, false, [], ◌∷◌, ◌++◌, Ok, Err, codes, refl}
-use Rattle.est_base.specs.Items.{Event, Reset}
+use Rattle.base_types.specs.Items.{Event, Reset}
 use Rattle.blif_text.specs.Statements.{Zero, One, Any}
 use Rattle.blif_text.specs.Circuits.{Circuit, reading, Line, NoDriver}
-use Rattle.blif_text.specs.Runs.{IsRun}
+use Rattle.blif_text.specs.Runs.{IsCircuitRun}
 use Rattle.blif_text.proofs.worked.PlainWords.{latch, table, circuit, just}
 
 random_75 : reading (codes ".model" ++ (13 ∷ []) ++ (10 ∷ []) ++ codes ".inputs b" ++ (10 ∷ []) ++ codes ".latch  g0  s0  1" ++ (13 ∷ []) ++ (10 ∷ [])
@@ -23,7 +23,7 @@ random_76 : reading (codes ".model " ++ (10 ∷ []) ++ codes ".names " ++ (92 �
     random_76_circuit
 random_76 = refl
 
-random_76_runs : IsRun random_76_circuit (Event (false ∷ []) ∷ Event (false ∷ []) ∷ Event (true ∷ []) ∷ Reset ∷ Reset ∷ []) (just [] ∷ just [] ∷ just
+random_76_runs : IsCircuitRun random_76_circuit (Event (false ∷ []) ∷ Event (false ∷ []) ∷ Event (true ∷ []) ∷ Reset ∷ Reset ∷ []) (just [] ∷ just [] ∷ just
     (codes "a" ∷ codes "g1" ∷ codes "g0" ∷ []) ∷ [])
 random_76_runs = (
   record { inputs_given = refl; latches_kept = refl; tables_met = (refl, (refl, tt)) },
@@ -45,7 +45,7 @@ random_77 : reading (codes ".model # c" ++ (10 ∷ []) ++ codes ".inputs a" ++ (
     (10 ∷ []) ++ codes ".outputs  a # c" ++ (10 ∷ []) ++ codes ".end " ++ (10 ∷ [])) ≡ Ok random_77_circuit
 random_77 = refl
 
-random_77_runs : IsRun random_77_circuit (Event (false ∷ true ∷ []) ∷ Event (false ∷ true ∷ []) ∷ Reset ∷ Event (false ∷ true ∷ []) ∷ Event (true ∷
+random_77_runs : IsCircuitRun random_77_circuit (Event (false ∷ true ∷ []) ∷ Event (false ∷ true ∷ []) ∷ Reset ∷ Event (false ∷ true ∷ []) ∷ Event (true ∷
     true ∷ []) ∷ []) (just (codes "b" ∷ []) ∷ just (codes "b" ∷ []) ∷ just (codes "b" ∷ []) ∷ just (codes "a" ∷ codes "b" ∷ []) ∷ [])
 random_77_runs = (
   record { inputs_given = refl; latches_kept = refl; tables_met = tt },
@@ -77,7 +77,7 @@ random_78 : reading (codes ".model" ++ (10 ∷ []) ++ codes ".outputs " ++ (13 �
     codes ".inputs  a " ++ (10 ∷ []) ++ codes ".inputs b c " ++ (10 ∷ []) ++ codes ".end # c") ≡ Ok random_78_circuit
 random_78 = refl
 
-random_78_runs : IsRun random_78_circuit (Event (true ∷ true ∷ true ∷ []) ∷ Event (true ∷ false ∷ true ∷ []) ∷ Reset ∷ Event (false ∷ true ∷ true ∷
+random_78_runs : IsCircuitRun random_78_circuit (Event (true ∷ true ∷ true ∷ []) ∷ Event (true ∷ false ∷ true ∷ []) ∷ Reset ∷ Event (false ∷ true ∷ true ∷
     []) ∷ []) (just (codes "a" ∷ codes "b" ∷ codes "c" ∷ []) ∷ just (codes "a" ∷ codes "c" ∷ []) ∷ just (codes "b" ∷ codes "c" ∷ []) ∷ [])
 random_78_runs = (
   record { inputs_given = refl; latches_kept = refl; tables_met = (refl, tt) },
@@ -100,7 +100,7 @@ random_79 : reading (codes ".model m" ++ (10 ∷ []) ++ codes ".outputs" ++ (10 
     []) ++ (10 ∷ []) ++ codes " " ++ (10 ∷ [])) ≡ Ok random_79_circuit
 random_79 = refl
 
-random_79_runs : IsRun random_79_circuit (Event (false ∷ true ∷ true ∷ []) ∷ Event (false ∷ false ∷ true ∷ []) ∷ Event (true ∷ false ∷ true ∷ []) ∷
+random_79_runs : IsCircuitRun random_79_circuit (Event (false ∷ true ∷ true ∷ []) ∷ Event (false ∷ false ∷ true ∷ []) ∷ Event (true ∷ false ∷ true ∷ []) ∷
     []) (just (codes "b" ∷ codes "c" ∷ []) ∷ just (codes "c" ∷ codes "s0" ∷ []) ∷ just (codes "a" ∷ codes "c" ∷ codes "s0" ∷ []) ∷ [])
 random_79_runs = (
   record { inputs_given = refl; latches_kept = refl; tables_met = tt },
@@ -122,7 +122,7 @@ random_80 : reading (codes ".model " ++ (92 ∷ []) ++ (10 ∷ []) ++ codes "m" 
     (13 ∷ []) ++ (10 ∷ []) ++ codes ".end " ++ (10 ∷ []) ++ (10 ∷ [])) ≡ Ok random_80_circuit
 random_80 = refl
 
-random_80_runs : IsRun random_80_circuit (Event (true ∷ []) ∷ Event (true ∷ []) ∷ Event (false ∷ []) ∷ Event (false ∷ []) ∷ Reset ∷ Reset ∷ []) (just
+random_80_runs : IsCircuitRun random_80_circuit (Event (true ∷ []) ∷ Event (true ∷ []) ∷ Event (false ∷ []) ∷ Event (false ∷ []) ∷ Reset ∷ Reset ∷ []) (just
     (codes "a" ∷ []) ∷ just (codes "a" ∷ []) ∷ just [] ∷ just [] ∷ [])
 random_80_runs = (
   record { inputs_given = refl; latches_kept = refl; tables_met = tt },
@@ -158,7 +158,7 @@ random_81 : reading (codes ".model" ++ (10 ∷ []) ++ (10 ∷ []) ++ codes ".inp
     ".end" ++ (13 ∷ []) ++ (10 ∷ [])) ≡ Ok random_81_circuit
 random_81 = refl
 
-random_81_runs : IsRun random_81_circuit (Event [] ∷ Reset ∷ Event [] ∷ Event [] ∷ Reset ∷ Event [] ∷ []) (just (codes "s1" ∷ codes "g0" ∷ []) ∷ just
+random_81_runs : IsCircuitRun random_81_circuit (Event [] ∷ Reset ∷ Event [] ∷ Event [] ∷ Reset ∷ Event [] ∷ []) (just (codes "s1" ∷ codes "g0" ∷ []) ∷ just
     (codes "s1" ∷ codes "g0" ∷ []) ∷ just (codes "s1" ∷ codes "g0" ∷ []) ∷ just (codes "s1" ∷ codes "g0" ∷ []) ∷ [])
 random_81_runs = (
   record { inputs_given = refl; latches_kept = refl; tables_met = (refl, (refl, tt)) },
@@ -193,7 +193,7 @@ random_82 : reading (codes ".model  m " ++ (10 ∷ []) ++ codes ".names " ++ (92
     random_82_circuit
 random_82 = refl
 
-random_82_runs : IsRun random_82_circuit (Reset ∷ Event (true ∷ []) ∷ Event (false ∷ []) ∷ []) (just (codes "a" ∷ codes "g2" ∷ []) ∷ just (codes "g0"
+random_82_runs : IsCircuitRun random_82_circuit (Reset ∷ Event (true ∷ []) ∷ Event (false ∷ []) ∷ []) (just (codes "a" ∷ codes "g2" ∷ []) ∷ just (codes "g0"
     ∷ codes "g2" ∷ []) ∷ [])
 random_82_runs = (
   record { inputs_given = refl; latches_kept = refl; tables_met = (refl, (refl, (refl, tt))) },
@@ -217,7 +217,7 @@ random_83 : reading (codes ".model # c" ++ (10 ∷ []) ++ codes ".latch s0 s1 1"
     ≡ Ok random_83_circuit
 random_83 = refl
 
-random_83_runs : IsRun random_83_circuit (Reset ∷ Event [] ∷ Event [] ∷ Event [] ∷ []) (just (codes "s1" ∷ codes "g0" ∷ []) ∷ just (codes "s0" ∷ []) ∷
+random_83_runs : IsCircuitRun random_83_circuit (Reset ∷ Event [] ∷ Event [] ∷ Event [] ∷ []) (just (codes "s1" ∷ codes "g0" ∷ []) ∷ just (codes "s0" ∷ []) ∷
     just (codes "s1" ∷ codes "g0" ∷ []) ∷ [])
 random_83_runs = (
   record { inputs_given = refl; latches_kept = refl; tables_met = (refl, tt) },
@@ -248,7 +248,7 @@ random_85 : reading (codes ".model  m " ++ (10 ∷ []) ++ codes ".inputs" ++ (9 
     (13 ∷ []) ++ (10 ∷ [])) ≡ Ok random_85_circuit
 random_85 = refl
 
-random_85_runs : IsRun random_85_circuit (Event (true ∷ []) ∷ Event (true ∷ []) ∷ Reset ∷ Event (true ∷ []) ∷ Event (true ∷ []) ∷ []) (just (codes "a"
+random_85_runs : IsCircuitRun random_85_circuit (Event (true ∷ []) ∷ Event (true ∷ []) ∷ Reset ∷ Event (true ∷ []) ∷ Event (true ∷ []) ∷ []) (just (codes "a"
     ∷ []) ∷ just (codes "a" ∷ []) ∷ just (codes "a" ∷ []) ∷ just (codes "a" ∷ []) ∷ [])
 random_85_runs = (
   record { inputs_given = refl; latches_kept = refl; tables_met = (refl, tt) },
@@ -281,7 +281,7 @@ random_86 : reading (codes ".model" ++ (10 ∷ []) ++ codes ".inputs  a#c " ++ (
     ++ (10 ∷ []) ++ codes ".end" ++ (10 ∷ [])) ≡ Ok random_86_circuit
 random_86 = refl
 
-random_86_runs : IsRun random_86_circuit (Reset ∷ Event (false ∷ []) ∷ Event (true ∷ []) ∷ Event (false ∷ []) ∷ Event (true ∷ []) ∷ []) (just (codes
+random_86_runs : IsCircuitRun random_86_circuit (Reset ∷ Event (false ∷ []) ∷ Event (true ∷ []) ∷ Event (false ∷ []) ∷ Event (true ∷ []) ∷ []) (just (codes
     "s0" ∷ codes "g0" ∷ []) ∷ just (codes "a" ∷ codes "s0" ∷ []) ∷ just (codes "g0" ∷ []) ∷ just (codes "a" ∷ codes "s0" ∷ []) ∷ [])
 random_86_runs = (
   record { inputs_given = refl; latches_kept = refl; tables_met = (refl, tt) },
@@ -316,7 +316,7 @@ random_87 : reading (codes ".model" ++ (9 ∷ []) ++ codes "m" ++ (13 ∷ []) ++
     random_87_circuit
 random_87 = refl
 
-random_87_runs : IsRun random_87_circuit (Event (false ∷ false ∷ []) ∷ Event (false ∷ false ∷ []) ∷ Reset ∷ Event (false ∷ true ∷ []) ∷ []) (just
+random_87_runs : IsCircuitRun random_87_circuit (Event (false ∷ false ∷ []) ∷ Event (false ∷ false ∷ []) ∷ Reset ∷ Event (false ∷ true ∷ []) ∷ []) (just
     (codes "s0" ∷ codes "g1" ∷ []) ∷ just (codes "g1" ∷ []) ∷ just (codes "b" ∷ codes "s0" ∷ codes "g1" ∷ []) ∷ [])
 random_87_runs = (
   record { inputs_given = refl; latches_kept = refl; tables_met = (refl, (refl, tt)) },
@@ -344,7 +344,7 @@ random_88 : reading (codes ".model " ++ (10 ∷ []) ++ codes ".names  a  s0  g1"
     []) ++ codes ".end" ++ (13 ∷ []) ++ (10 ∷ []) ++ (10 ∷ [])) ≡ Ok random_88_circuit
 random_88 = refl
 
-random_88_runs : IsRun random_88_circuit (Event (true ∷ false ∷ true ∷ []) ∷ Reset ∷ Reset ∷ Event (false ∷ false ∷ true ∷ []) ∷ []) (just (codes "b"
+random_88_runs : IsCircuitRun random_88_circuit (Event (true ∷ false ∷ true ∷ []) ∷ Reset ∷ Reset ∷ Event (false ∷ false ∷ true ∷ []) ∷ []) (just (codes "b"
     ∷ codes "a" ∷ codes "s0" ∷ codes "g1" ∷ []) ∷ just (codes "a" ∷ codes "s0" ∷ codes "g1" ∷ []) ∷ [])
 random_88_runs = (
   record { inputs_given = refl; latches_kept = refl; tables_met = (refl, (refl, (refl, tt))) },
@@ -368,7 +368,7 @@ random_89 : reading (codes ".model m" ++ (13 ∷ []) ++ (10 ∷ []) ++ codes ".n
     random_89_circuit
 random_89 = refl
 
-random_89_runs : IsRun random_89_circuit (Event [] ∷ Event [] ∷ Event [] ∷ Event [] ∷ []) (just (codes "g1" ∷ codes "g0" ∷ []) ∷ just (codes "g1" ∷
+random_89_runs : IsCircuitRun random_89_circuit (Event [] ∷ Event [] ∷ Event [] ∷ Event [] ∷ []) (just (codes "g1" ∷ codes "g0" ∷ []) ∷ just (codes "g1" ∷
     codes "g0" ∷ []) ∷ just (codes "g1" ∷ codes "g0" ∷ []) ∷ just (codes "g1" ∷ codes "g0" ∷ []) ∷ [])
 random_89_runs = (
   record { inputs_given = refl; latches_kept = refl; tables_met = (refl, (refl, tt)) },
@@ -410,7 +410,7 @@ random_91 : reading (codes ".model" ++ (10 ∷ []) ++ codes ".inputs a" ++ (13 �
     Ok random_91_circuit
 random_91 = refl
 
-random_91_runs : IsRun random_91_circuit (Event (true ∷ false ∷ true ∷ []) ∷ Event (false ∷ false ∷ true ∷ []) ∷ Event (true ∷ true ∷ true ∷ []) ∷ [])
+random_91_runs : IsCircuitRun random_91_circuit (Event (true ∷ false ∷ true ∷ []) ∷ Event (false ∷ false ∷ true ∷ []) ∷ Event (true ∷ true ∷ true ∷ []) ∷ [])
     (just (codes "a" ∷ codes "c" ∷ codes "s0" ∷ []) ∷ just (codes "c" ∷ codes "s0" ∷ []) ∷ just (codes "a" ∷ codes "b" ∷ codes "c" ∷ codes "s0" ∷ [])
     ∷ [])
 random_91_runs = (
@@ -436,7 +436,7 @@ random_92 : reading (codes ".model # c" ++ (10 ∷ []) ++ (10 ∷ []) ++ codes "
     ∷ []) ++ codes "s0 " ++ (92 ∷ []) ++ (10 ∷ []) ++ codes "1" ++ (10 ∷ []) ++ codes ".end" ++ (13 ∷ []) ++ (10 ∷ [])) ≡ Ok random_92_circuit
 random_92 = refl
 
-random_92_runs : IsRun random_92_circuit (Event (true ∷ true ∷ false ∷ []) ∷ Reset ∷ Event (true ∷ false ∷ true ∷ []) ∷ Event (true ∷ true ∷ true ∷
+random_92_runs : IsCircuitRun random_92_circuit (Event (true ∷ true ∷ false ∷ []) ∷ Reset ∷ Event (true ∷ false ∷ true ∷ []) ∷ Event (true ∷ true ∷ true ∷
     []) ∷ Event (true ∷ true ∷ false ∷ []) ∷ []) (just (codes "a" ∷ codes "b" ∷ codes "s0" ∷ codes "g0" ∷ []) ∷ just (codes "a" ∷ codes "c" ∷ codes
     "s0" ∷ codes "g0" ∷ []) ∷ just (codes "a" ∷ codes "b" ∷ codes "c" ∷ codes "s0" ∷ codes "g0" ∷ []) ∷ just (codes "a" ∷ codes "b" ∷ codes "s0" ∷
     codes "g0" ∷ []) ∷ [])
@@ -472,7 +472,7 @@ random_93 : reading (codes ".model m" ++ (13 ∷ []) ++ (10 ∷ []) ++ codes ".l
     codes ".outputs " ++ (13 ∷ []) ++ (10 ∷ []) ++ codes ".end" ++ (13 ∷ []) ++ (10 ∷ [])) ≡ Ok random_93_circuit
 random_93 = refl
 
-random_93_runs : IsRun random_93_circuit (Event [] ∷ Reset ∷ Event [] ∷ Reset ∷ Event [] ∷ []) (just (codes "s1" ∷ codes "g1" ∷ []) ∷ just (codes "s1"
+random_93_runs : IsCircuitRun random_93_circuit (Event [] ∷ Reset ∷ Event [] ∷ Reset ∷ Event [] ∷ []) (just (codes "s1" ∷ codes "g1" ∷ []) ∷ just (codes "s1"
     ∷ codes "g1" ∷ []) ∷ just (codes "s1" ∷ codes "g1" ∷ []) ∷ [])
 random_93_runs = (
   record { inputs_given = refl; latches_kept = refl; tables_met = (refl, (refl, tt)) },
@@ -499,7 +499,7 @@ random_94 : reading (codes ".model " ++ (10 ∷ []) ++ codes ".names" ++ (9 ∷ 
     ".end" ++ (13 ∷ []) ++ (10 ∷ [])) ≡ Ok random_94_circuit
 random_94 = refl
 
-random_94_runs : IsRun random_94_circuit (Event (true ∷ []) ∷ Event (false ∷ []) ∷ Reset ∷ Event (true ∷ []) ∷ Event (false ∷ []) ∷ []) (just (codes
+random_94_runs : IsCircuitRun random_94_circuit (Event (true ∷ []) ∷ Event (false ∷ []) ∷ Reset ∷ Event (true ∷ []) ∷ Event (false ∷ []) ∷ []) (just (codes
     "a" ∷ codes "g1" ∷ []) ∷ just (codes "g0" ∷ []) ∷ just (codes "a" ∷ codes "g1" ∷ []) ∷ just (codes "g0" ∷ []) ∷ [])
 random_94_runs = (
   record { inputs_given = refl; latches_kept = refl; tables_met = (refl, (refl, tt)) },
@@ -535,7 +535,7 @@ random_95 : reading (codes ".model  m" ++ (10 ∷ []) ++ codes ".names  a  g0" +
     (10 ∷ [])) ≡ Ok random_95_circuit
 random_95 = refl
 
-random_95_runs : IsRun random_95_circuit (Event (false ∷ false ∷ []) ∷ Reset ∷ Event (false ∷ true ∷ []) ∷ Event (true ∷ false ∷ []) ∷ Event (true ∷
+random_95_runs : IsCircuitRun random_95_circuit (Event (false ∷ false ∷ []) ∷ Reset ∷ Event (false ∷ true ∷ []) ∷ Event (true ∷ false ∷ []) ∷ Event (true ∷
     true ∷ []) ∷ []) (just (codes "g0" ∷ codes "g2" ∷ []) ∷ just (codes "b" ∷ codes "g0" ∷ codes "g2" ∷ []) ∷ just (codes "a" ∷ codes "g0" ∷ codes
     "g2" ∷ []) ∷ just (codes "a" ∷ codes "b" ∷ codes "g0" ∷ codes "g2" ∷ []) ∷ [])
 random_95_runs = (
@@ -576,7 +576,7 @@ random_96 : reading (codes ".model # c" ++ (10 ∷ []) ++ codes " " ++ (10 ∷ [
     ".end" ++ (10 ∷ [])) ≡ Ok random_96_circuit
 random_96 = refl
 
-random_96_runs : IsRun random_96_circuit (Event (false ∷ true ∷ []) ∷ Reset ∷ Event (false ∷ false ∷ []) ∷ Event (false ∷ false ∷ []) ∷ Event (true ∷
+random_96_runs : IsCircuitRun random_96_circuit (Event (false ∷ true ∷ []) ∷ Reset ∷ Event (false ∷ false ∷ []) ∷ Event (false ∷ false ∷ []) ∷ Event (true ∷
     true ∷ []) ∷ []) (just (codes "a" ∷ codes "s0" ∷ codes "g2" ∷ codes "g1" ∷ []) ∷ just (codes "s0" ∷ codes "g2" ∷ codes "g1" ∷ []) ∷ just (codes
     "s0" ∷ codes "g2" ∷ codes "g1" ∷ []) ∷ just (codes "b" ∷ codes "a" ∷ codes "s0" ∷ codes "g1" ∷ []) ∷ [])
 random_96_runs = (
@@ -621,7 +621,7 @@ random_98 : reading (codes ".model m # c" ++ (13 ∷ []) ++ (10 ∷ []) ++ codes
     []) ++ (10 ∷ [])) ≡ Ok random_98_circuit
 random_98 = refl
 
-random_98_runs : IsRun random_98_circuit (Event (true ∷ false ∷ []) ∷ Event (false ∷ true ∷ []) ∷ Event (false ∷ false ∷ []) ∷ Event (true ∷ true ∷
+random_98_runs : IsCircuitRun random_98_circuit (Event (true ∷ false ∷ []) ∷ Event (false ∷ true ∷ []) ∷ Event (false ∷ false ∷ []) ∷ Event (true ∷ true ∷
     []) ∷ []) (just (codes "a" ∷ []) ∷ just (codes "b" ∷ codes "g0" ∷ []) ∷ just (codes "g0" ∷ []) ∷ just (codes "a" ∷ codes "b" ∷ []) ∷ [])
 random_98_runs = (
   record { inputs_given = refl; latches_kept = refl; tables_met = (refl, tt) },
@@ -653,7 +653,7 @@ random_99 : reading (codes ".model m#c " ++ (92 ∷ []) ++ (10 ∷ []) ++ codes 
     random_99_circuit
 random_99 = refl
 
-random_99_runs : IsRun random_99_circuit (Event (false ∷ []) ∷ Reset ∷ Event (true ∷ []) ∷ Event (false ∷ []) ∷ Event (true ∷ []) ∷ []) (just (codes
+random_99_runs : IsCircuitRun random_99_circuit (Event (false ∷ []) ∷ Reset ∷ Event (true ∷ []) ∷ Event (false ∷ []) ∷ Event (true ∷ []) ∷ []) (just (codes
     "g0" ∷ []) ∷ just (codes "2" ∷ codes "g0" ∷ []) ∷ just (codes "g0" ∷ []) ∷ just (codes "2" ∷ codes "g0" ∷ []) ∷ [])
 random_99_runs = (
   record { inputs_given = refl; latches_kept = refl; tables_met = (refl, tt) },

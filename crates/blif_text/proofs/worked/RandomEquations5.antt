@@ -1,10 +1,10 @@
 -- Inner: equations between the definitions of BLIF and an independent implementation of them in Python.
 -- Each text is read as the circuit, or refused with the fault, that the other implementation answers. Generated.
 use Rattle.std.proofs.Common.{◌≡◌, true, false, [], ◌∷◌, ◌++◌, Ok, Err, codes, refl}
-use Rattle.est_base.specs.Items.{Event, Reset}
+use Rattle.base_types.specs.Items.{Event, Reset}
 use Rattle.blif_text.specs.Statements.{Zero, One, Any}
 use Rattle.blif_text.specs.Circuits.{Circuit, reading, Line, TwoDrivers}
-use Rattle.blif_text.specs.Runs.{IsRun}
+use Rattle.blif_text.specs.Runs.{IsCircuitRun}
 use Rattle.blif_text.proofs.worked.PlainWords.{latch, table, circuit, just}
 
 abbrev random_100_circuit : Circuit
@@ -14,7 +14,7 @@ random_100 : reading (codes ".model " ++ (92 ∷ []) ++ (10 ∷ []) ++ codes "m 
     ++ (13 ∷ []) ++ (10 ∷ []) ++ codes "1#c " ++ (92 ∷ []) ++ (13 ∷ []) ++ (10 ∷ []) ++ codes ".end ") ≡ Ok random_100_circuit
 random_100 = refl
 
-random_100_runs : IsRun random_100_circuit (Reset ∷ Event [] ∷ Event [] ∷ Event [] ∷ []) (just (codes "g0" ∷ []) ∷ just (codes "g0" ∷ []) ∷ just
+random_100_runs : IsCircuitRun random_100_circuit (Reset ∷ Event [] ∷ Event [] ∷ Event [] ∷ []) (just (codes "g0" ∷ []) ∷ just (codes "g0" ∷ []) ∷ just
     (codes "g0" ∷ []) ∷ [])
 random_100_runs = (
   record { inputs_given = refl; latches_kept = refl; tables_met = (refl, tt) },
@@ -52,7 +52,7 @@ random_103 : reading (codes ".model " ++ (92 ∷ []) ++ (10 ∷ []) ++ codes "m"
     ++ (10 ∷ []) ++ codes ".end" ++ (10 ∷ [])) ≡ Ok random_103_circuit
 random_103 = refl
 
-random_103_runs : IsRun random_103_circuit (Reset ∷ Event (true ∷ []) ∷ Event (true ∷ []) ∷ Reset ∷ []) (just (codes "a" ∷ codes "s0" ∷ codes "g0" ∷
+random_103_runs : IsCircuitRun random_103_circuit (Reset ∷ Event (true ∷ []) ∷ Event (true ∷ []) ∷ Reset ∷ []) (just (codes "a" ∷ codes "s0" ∷ codes "g0" ∷
     codes "g2" ∷ []) ∷ just (codes "a" ∷ codes "s1" ∷ codes "g0" ∷ codes "g2" ∷ []) ∷ [])
 random_103_runs = (
   record { inputs_given = refl; latches_kept = refl; tables_met = (refl, (refl, (refl, tt))) },
@@ -78,7 +78,7 @@ random_104 : reading (codes ".model  m" ++ (10 ∷ []) ++ codes ".names g0" ++ (
     ".end" ++ (10 ∷ [])) ≡ Ok random_104_circuit
 random_104 = refl
 
-random_104_runs : IsRun random_104_circuit (Event (false ∷ true ∷ true ∷ []) ∷ Reset ∷ Event (true ∷ false ∷ true ∷ []) ∷ Event (true ∷ true ∷ true ∷
+random_104_runs : IsCircuitRun random_104_circuit (Event (false ∷ true ∷ true ∷ []) ∷ Reset ∷ Event (true ∷ false ∷ true ∷ []) ∷ Event (true ∷ true ∷ true ∷
     []) ∷ Event (true ∷ false ∷ true ∷ []) ∷ []) (just (codes "c" ∷ codes "a" ∷ []) ∷ just (codes "b" ∷ codes "a" ∷ codes "g1" ∷ []) ∷ just (codes "b"
     ∷ codes "c" ∷ codes "a" ∷ []) ∷ just (codes "b" ∷ codes "a" ∷ codes "g1" ∷ []) ∷ [])
 random_104_runs = (
@@ -125,7 +125,7 @@ random_106 : reading (codes ".model" ++ (13 ∷ []) ++ (10 ∷ []) ++ codes ".na
     codes "1 " ++ (10 ∷ []) ++ codes "-" ++ (9 ∷ []) ++ codes "1" ++ (10 ∷ []) ++ codes ".end" ++ (10 ∷ [])) ≡ Ok random_106_circuit
 random_106 = refl
 
-random_106_runs : IsRun random_106_circuit (Event (true ∷ true ∷ true ∷ []) ∷ Reset ∷ Reset ∷ Event (true ∷ false ∷ false ∷ []) ∷ Event (false ∷ false
+random_106_runs : IsCircuitRun random_106_circuit (Event (true ∷ true ∷ true ∷ []) ∷ Reset ∷ Reset ∷ Event (true ∷ false ∷ false ∷ []) ∷ Event (false ∷ false
     ∷ false ∷ []) ∷ []) (just (codes "a" ∷ codes "b" ∷ codes "c" ∷ codes "g1" ∷ codes "g2" ∷ []) ∷ just (codes "a" ∷ codes "g0" ∷ codes "g2" ∷ []) ∷
     just (codes "g0" ∷ codes "g2" ∷ []) ∷ [])
 random_106_runs = (
@@ -171,7 +171,7 @@ random_108 : reading (codes ".model " ++ (13 ∷ []) ++ (10 ∷ []) ++ codes ".i
     ∷ []) ++ (10 ∷ [])) ≡ Ok random_108_circuit
 random_108 = refl
 
-random_108_runs : IsRun random_108_circuit (Event (false ∷ true ∷ false ∷ []) ∷ Reset ∷ Reset ∷ Event (false ∷ false ∷ false ∷ []) ∷ []) (just (codes
+random_108_runs : IsCircuitRun random_108_circuit (Event (false ∷ true ∷ false ∷ []) ∷ Reset ∷ Reset ∷ Event (false ∷ false ∷ false ∷ []) ∷ []) (just (codes
     "c" ∷ codes "s0" ∷ codes "s1" ∷ []) ∷ just (codes "s0" ∷ codes "s1" ∷ []) ∷ [])
 random_108_runs = (
   record { inputs_given = refl; latches_kept = refl; tables_met = (refl, (refl, tt)) },
@@ -201,7 +201,7 @@ random_110 : reading (codes ".model" ++ (9 ∷ []) ++ codes "m # c" ++ (10 ∷ [
     ++ (10 ∷ []) ++ codes ".end " ++ (10 ∷ [])) ≡ Ok random_110_circuit
 random_110 = refl
 
-random_110_runs : IsRun random_110_circuit (Reset ∷ Event [] ∷ Event [] ∷ []) (just (codes "s0" ∷ codes "g0" ∷ codes "g1" ∷ codes "g2" ∷ []) ∷ just
+random_110_runs : IsCircuitRun random_110_circuit (Reset ∷ Event [] ∷ Event [] ∷ []) (just (codes "s0" ∷ codes "g0" ∷ codes "g1" ∷ codes "g2" ∷ []) ∷ just
     (codes "s0" ∷ codes "g0" ∷ codes "g1" ∷ codes "g2" ∷ []) ∷ [])
 random_110_runs = (
   record { inputs_given = refl; latches_kept = refl; tables_met = (refl, (refl, (refl, tt))) },
@@ -225,7 +225,7 @@ random_111 : reading (codes ".model" ++ (13 ∷ []) ++ (10 ∷ []) ++ codes ".na
     "s0 " ++ (92 ∷ []) ++ (10 ∷ []) ++ codes "1 # c" ++ (10 ∷ []) ++ codes ".end # c" ++ (13 ∷ []) ++ (10 ∷ [])) ≡ Ok random_111_circuit
 random_111 = refl
 
-random_111_runs : IsRun random_111_circuit (Event (true ∷ true ∷ []) ∷ Event (true ∷ true ∷ []) ∷ []) (just (codes "a" ∷ codes "b" ∷ codes "s0" ∷
+random_111_runs : IsCircuitRun random_111_circuit (Event (true ∷ true ∷ []) ∷ Event (true ∷ true ∷ []) ∷ []) (just (codes "a" ∷ codes "b" ∷ codes "s0" ∷
     codes "g0" ∷ []) ∷ just (codes "a" ∷ codes "b" ∷ codes "s1" ∷ codes "s0" ∷ codes "g0" ∷ []) ∷ [])
 random_111_runs = (
   record { inputs_given = refl; latches_kept = refl; tables_met = (refl, tt) },
@@ -261,7 +261,7 @@ random_114 : reading (codes ".model m" ++ (10 ∷ []) ++ codes ".outputs" ++ (10
     ".end " ++ (10 ∷ [])) ≡ Ok random_114_circuit
 random_114 = refl
 
-random_114_runs : IsRun random_114_circuit (Event [] ∷ Event [] ∷ []) (just (codes "s0" ∷ codes "g2" ∷ codes "g1" ∷ []) ∷ just (codes "s0" ∷ codes
+random_114_runs : IsCircuitRun random_114_circuit (Event [] ∷ Event [] ∷ []) (just (codes "s0" ∷ codes "g2" ∷ codes "g1" ∷ []) ∷ just (codes "s0" ∷ codes
     "g2" ∷ codes "g1" ∷ []) ∷ [])
 random_114_runs = (
   record { inputs_given = refl; latches_kept = refl; tables_met = (refl, (refl, (refl, tt))) },
@@ -294,7 +294,7 @@ random_117 : reading (codes ".model  m#c " ++ (92 ∷ []) ++ (13 ∷ []) ++ (10 
     ++ codes ".inputs" ++ (10 ∷ []) ++ codes ".end#c " ++ (92 ∷ []) ++ (13 ∷ []) ++ (10 ∷ [])) ≡ Ok random_117_circuit
 random_117 = refl
 
-random_117_runs : IsRun random_117_circuit (Event (true ∷ []) ∷ Event (true ∷ []) ∷ Event (false ∷ []) ∷ Event (false ∷ []) ∷ Reset ∷ []) (just (codes
+random_117_runs : IsCircuitRun random_117_circuit (Event (true ∷ []) ∷ Event (true ∷ []) ∷ Event (false ∷ []) ∷ Event (false ∷ []) ∷ Reset ∷ []) (just (codes
     "a" ∷ codes "s0" ∷ codes "g0" ∷ []) ∷ just (codes "a" ∷ codes "s0" ∷ codes "g0" ∷ []) ∷ just (codes "s0" ∷ []) ∷ just [] ∷ [])
 random_117_runs = (
   record { inputs_given = refl; latches_kept = refl; tables_met = (refl, tt) },
@@ -332,7 +332,7 @@ random_119 : reading (codes ".model # c" ++ (13 ∷ []) ++ (10 ∷ []) ++ codes 
     ".outputs" ++ (10 ∷ []) ++ codes ".inputs a" ++ (13 ∷ []) ++ (10 ∷ []) ++ codes ".end " ++ (10 ∷ [])) ≡ Ok random_119_circuit
 random_119 = refl
 
-random_119_runs : IsRun random_119_circuit (Event (true ∷ false ∷ []) ∷ Event (true ∷ true ∷ []) ∷ Reset ∷ Event (false ∷ false ∷ []) ∷ Event (false ∷
+random_119_runs : IsCircuitRun random_119_circuit (Event (true ∷ false ∷ []) ∷ Event (true ∷ true ∷ []) ∷ Reset ∷ Event (false ∷ false ∷ []) ∷ Event (false ∷
     false ∷ []) ∷ []) (just (codes "b" ∷ []) ∷ just (codes "b" ∷ codes "a" ∷ []) ∷ just [] ∷ just [] ∷ [])
 random_119_runs = (
   record { inputs_given = refl; latches_kept = refl; tables_met = (refl, (refl, tt)) },

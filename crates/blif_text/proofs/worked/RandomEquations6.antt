@@ -1,10 +1,10 @@
 -- Inner: equations between the definitions of BLIF and an independent implementation of them in Python.
 -- Each text is read as the circuit, or refused with the fault, that the other implementation answers. Generated.
 use Rattle.std.proofs.Common.{◌≡◌, true, false, [], ◌∷◌, ◌++◌, Ok, Err, codes, refl}
-use Rattle.est_base.specs.Items.{Event, Reset}
+use Rattle.base_types.specs.Items.{Event, Reset}
 use Rattle.blif_text.specs.Statements.{Zero, One, Any}
 use Rattle.blif_text.specs.Circuits.{Circuit, reading, Line, TwoDrivers, NoDriver}
-use Rattle.blif_text.specs.Runs.{IsRun}
+use Rattle.blif_text.specs.Runs.{IsCircuitRun}
 use Rattle.blif_text.proofs.worked.PlainWords.{latch, table, circuit, just}
 
 abbrev random_125_circuit : Circuit
@@ -18,7 +18,7 @@ random_125 : reading (codes ".model " ++ (10 ∷ []) ++ codes ".names  b  g0" ++
     ++ (10 ∷ []) ++ codes ".latch s0 s0 0" ++ (10 ∷ []) ++ codes ".end " ++ (13 ∷ []) ++ (10 ∷ [])) ≡ Ok random_125_circuit
 random_125 = refl
 
-random_125_runs : IsRun random_125_circuit (Reset ∷ Event (false ∷ false ∷ true ∷ []) ∷ Event (true ∷ false ∷ false ∷ []) ∷ Event (false ∷ true ∷
+random_125_runs : IsCircuitRun random_125_circuit (Reset ∷ Event (false ∷ false ∷ true ∷ []) ∷ Event (true ∷ false ∷ false ∷ []) ∷ Event (false ∷ true ∷
     false ∷ []) ∷ []) (just (codes "c" ∷ codes "g2" ∷ codes "g1" ∷ []) ∷ just (codes "a" ∷ codes "g2" ∷ codes "g1" ∷ []) ∷ just (codes "b" ∷ codes
     "g2" ∷ codes "g1" ∷ []) ∷ [])
 random_125_runs = (
@@ -55,7 +55,7 @@ random_126 : reading (codes ".model" ++ (13 ∷ []) ++ (10 ∷ []) ++ codes "# c
     ".inputs " ++ (92 ∷ []) ++ (10 ∷ []) ++ codes "a " ++ (10 ∷ []) ++ codes ".end" ++ (10 ∷ [])) ≡ Ok random_126_circuit
 random_126 = refl
 
-random_126_runs : IsRun random_126_circuit (Event (true ∷ false ∷ []) ∷ Event (true ∷ true ∷ []) ∷ []) (just (codes "b" ∷ codes "g1" ∷ codes "g0" ∷
+random_126_runs : IsCircuitRun random_126_circuit (Event (true ∷ false ∷ []) ∷ Event (true ∷ true ∷ []) ∷ []) (just (codes "b" ∷ codes "g1" ∷ codes "g0" ∷
     []) ∷ just (codes "b" ∷ codes "a" ∷ codes "g1" ∷ codes "g0" ∷ []) ∷ [])
 random_126_runs = (
   record { inputs_given = refl; latches_kept = refl; tables_met = (refl, (refl, tt)) },
@@ -79,7 +79,7 @@ random_127 : reading (codes ".model m#c " ++ (92 ∷ []) ++ (13 ∷ []) ++ (10 �
     ++ (92 ∷ []) ++ (10 ∷ []) ++ codes ".end" ++ (10 ∷ [])) ≡ Ok random_127_circuit
 random_127 = refl
 
-random_127_runs : IsRun random_127_circuit (Reset ∷ Event (true ∷ false ∷ []) ∷ Event (true ∷ true ∷ []) ∷ []) (just (codes "a" ∷ []) ∷ just (codes
+random_127_runs : IsCircuitRun random_127_circuit (Reset ∷ Event (true ∷ false ∷ []) ∷ Event (true ∷ true ∷ []) ∷ []) (just (codes "a" ∷ []) ∷ just (codes
     "a" ∷ codes "b" ∷ []) ∷ [])
 random_127_runs = (
   record { inputs_given = refl; latches_kept = refl; tables_met = tt },
@@ -113,7 +113,7 @@ random_129 : reading (codes ".model" ++ (13 ∷ []) ++ (10 ∷ []) ++ codes ".in
     ≡ Ok random_129_circuit
 random_129 = refl
 
-random_129_runs : IsRun random_129_circuit (Event (true ∷ true ∷ []) ∷ Event (true ∷ true ∷ []) ∷ Reset ∷ Reset ∷ Event (false ∷ false ∷ []) ∷ [])
+random_129_runs : IsCircuitRun random_129_circuit (Event (true ∷ true ∷ []) ∷ Event (true ∷ true ∷ []) ∷ Reset ∷ Reset ∷ Event (false ∷ false ∷ []) ∷ [])
     (just (codes "b" ∷ codes "a" ∷ codes "s0" ∷ []) ∷ just (codes "b" ∷ codes "a" ∷ codes "s0" ∷ []) ∷ just (codes "s0" ∷ codes "g0" ∷ []) ∷ [])
 random_129_runs = (
   record { inputs_given = refl; latches_kept = refl; tables_met = (refl, (refl, tt)) },
@@ -143,7 +143,7 @@ random_131 : reading (codes ".model m#c " ++ (92 ∷ []) ++ (10 ∷ []) ++ codes
     ++ (10 ∷ []) ++ codes "1 1 # c" ++ (10 ∷ []) ++ codes ".end#c " ++ (92 ∷ []) ++ (10 ∷ [])) ≡ Ok random_131_circuit
 random_131 = refl
 
-random_131_runs : IsRun random_131_circuit (Event (false ∷ true ∷ []) ∷ Reset ∷ Event (false ∷ true ∷ []) ∷ Event (false ∷ false ∷ []) ∷ Reset ∷ Event
+random_131_runs : IsCircuitRun random_131_circuit (Event (false ∷ true ∷ []) ∷ Reset ∷ Event (false ∷ true ∷ []) ∷ Event (false ∷ false ∷ []) ∷ Reset ∷ Event
     (false ∷ false ∷ []) ∷ []) (just (codes "b" ∷ codes "g0" ∷ []) ∷ just (codes "b" ∷ codes "g0" ∷ []) ∷ just [] ∷ just [] ∷ [])
 random_131_runs = (
   record { inputs_given = refl; latches_kept = refl; tables_met = (refl, tt) },
@@ -179,7 +179,7 @@ random_132 : reading (codes ".model # c" ++ (10 ∷ []) ++ codes " " ++ (10 ∷ 
     ".inputs a" ++ (10 ∷ []) ++ codes ".end" ++ (10 ∷ [])) ≡ Ok random_132_circuit
 random_132 = refl
 
-random_132_runs : IsRun random_132_circuit (Reset ∷ Event (true ∷ false ∷ []) ∷ Event (true ∷ true ∷ []) ∷ []) (just (codes "b" ∷ codes "s1" ∷ codes
+random_132_runs : IsCircuitRun random_132_circuit (Reset ∷ Event (true ∷ false ∷ []) ∷ Event (true ∷ true ∷ []) ∷ []) (just (codes "b" ∷ codes "s1" ∷ codes
     "g1" ∷ []) ∷ just (codes "b" ∷ codes "a" ∷ codes "s0" ∷ codes "g1" ∷ codes "g0" ∷ []) ∷ [])
 random_132_runs = (
   record { inputs_given = refl; latches_kept = refl; tables_met = (refl, (refl, tt)) },
@@ -209,7 +209,7 @@ random_134 : reading (codes ".model # c" ++ (10 ∷ []) ++ codes ".names" ++ (9 
     (10 ∷ []) ++ codes "-01 1" ++ (13 ∷ []) ++ (10 ∷ []) ++ codes ".end" ++ (10 ∷ [])) ≡ Ok random_134_circuit
 random_134 = refl
 
-random_134_runs : IsRun random_134_circuit (Event (true ∷ []) ∷ Event (true ∷ []) ∷ Reset ∷ Event (true ∷ []) ∷ Event (true ∷ []) ∷ []) (just (codes
+random_134_runs : IsCircuitRun random_134_circuit (Event (true ∷ []) ∷ Event (true ∷ []) ∷ Reset ∷ Event (true ∷ []) ∷ Event (true ∷ []) ∷ []) (just (codes
     "a" ∷ codes "g0" ∷ []) ∷ just (codes "a" ∷ codes "g0" ∷ []) ∷ just (codes "a" ∷ codes "g0" ∷ []) ∷ just (codes "a" ∷ codes "g0" ∷ []) ∷ [])
 random_134_runs = (
   record { inputs_given = refl; latches_kept = refl; tables_met = (refl, (refl, tt)) },
@@ -244,7 +244,7 @@ random_135 : reading (codes ".model" ++ (9 ∷ []) ++ codes "m" ++ (10 ∷ []) +
     ∷ [])) ≡ Ok random_135_circuit
 random_135 = refl
 
-random_135_runs : IsRun random_135_circuit (Reset ∷ Event [] ∷ Reset ∷ Event [] ∷ Event [] ∷ Event [] ∷ []) (just [] ∷ just [] ∷ just [] ∷ just [] ∷
+random_135_runs : IsCircuitRun random_135_circuit (Reset ∷ Event [] ∷ Reset ∷ Event [] ∷ Event [] ∷ Event [] ∷ []) (just [] ∷ just [] ∷ just [] ∷ just [] ∷
     [])
 random_135_runs = (
   record { inputs_given = refl; latches_kept = refl; tables_met = (refl, tt) },
@@ -278,7 +278,7 @@ random_136 : reading (codes ".model " ++ (92 ∷ []) ++ (10 ∷ []) ++ codes "m 
     ∷ []) ++ (10 ∷ []) ++ codes ".end " ++ (10 ∷ [])) ≡ Ok random_136_circuit
 random_136 = refl
 
-random_136_runs : IsRun random_136_circuit (Event (true ∷ true ∷ []) ∷ Event (false ∷ true ∷ []) ∷ Reset ∷ Event (true ∷ false ∷ []) ∷ []) (just
+random_136_runs : IsCircuitRun random_136_circuit (Event (true ∷ true ∷ []) ∷ Event (false ∷ true ∷ []) ∷ Reset ∷ Event (true ∷ false ∷ []) ∷ []) (just
     (codes "a" ∷ codes "b" ∷ codes "s0" ∷ []) ∷ just (codes "b" ∷ codes "s0" ∷ []) ∷ just (codes "a" ∷ codes "s0" ∷ []) ∷ [])
 random_136_runs = (
   record { inputs_given = refl; latches_kept = refl; tables_met = tt },
@@ -299,7 +299,7 @@ random_137 : reading (codes ".model" ++ (13 ∷ []) ++ (10 ∷ []) ++ codes ".in
     random_137_circuit
 random_137 = refl
 
-random_137_runs : IsRun random_137_circuit (Reset ∷ Event (true ∷ []) ∷ Event (false ∷ []) ∷ []) (just (codes "a" ∷ []) ∷ just [] ∷ [])
+random_137_runs : IsCircuitRun random_137_circuit (Reset ∷ Event (true ∷ []) ∷ Event (false ∷ []) ∷ []) (just (codes "a" ∷ []) ∷ just [] ∷ [])
 random_137_runs = (
   record { inputs_given = refl; latches_kept = refl; tables_met = tt },
   (
@@ -337,7 +337,7 @@ random_140 : reading (codes ".model#c " ++ (92 ∷ []) ++ (10 ∷ []) ++ codes "
     ++ codes " ") ≡ Ok random_140_circuit
 random_140 = refl
 
-random_140_runs : IsRun random_140_circuit (Event (true ∷ []) ∷ Event (true ∷ []) ∷ Event (false ∷ []) ∷ []) (just (codes "a" ∷ []) ∷ just (codes "a"
+random_140_runs : IsCircuitRun random_140_circuit (Event (true ∷ []) ∷ Event (true ∷ []) ∷ Event (false ∷ []) ∷ []) (just (codes "a" ∷ []) ∷ just (codes "a"
     ∷ []) ∷ just (codes "g0" ∷ []) ∷ [])
 random_140_runs = (
   record { inputs_given = refl; latches_kept = refl; tables_met = (refl, (refl, tt)) },
@@ -379,7 +379,7 @@ random_144 : reading (codes ".model" ++ (10 ∷ []) ++ codes "# c" ++ (10 ∷ []
     []) ++ codes ".latch b s1 1" ++ (13 ∷ []) ++ (10 ∷ []) ++ codes ".end#c " ++ (92 ∷ []) ++ (13 ∷ []) ++ (10 ∷ [])) ≡ Ok random_144_circuit
 random_144 = refl
 
-random_144_runs : IsRun random_144_circuit (Event (false ∷ true ∷ true ∷ []) ∷ Reset ∷ Reset ∷ Event (false ∷ false ∷ false ∷ []) ∷ []) (just (codes
+random_144_runs : IsCircuitRun random_144_circuit (Event (false ∷ true ∷ true ∷ []) ∷ Reset ∷ Reset ∷ Event (false ∷ false ∷ false ∷ []) ∷ []) (just (codes
     "b" ∷ codes "c" ∷ codes "s1" ∷ []) ∷ just (codes "s1" ∷ []) ∷ [])
 random_144_runs = (
   record { inputs_given = refl; latches_kept = refl; tables_met = tt },
@@ -410,7 +410,7 @@ random_146 : reading (codes ".model" ++ (10 ∷ []) ++ codes ".latch g0 s1 1" ++
     []) ++ codes "1" ++ (10 ∷ []) ++ codes ".end" ++ (13 ∷ []) ++ (10 ∷ [])) ≡ Ok random_146_circuit
 random_146 = refl
 
-random_146_runs : IsRun random_146_circuit (Event [] ∷ Event [] ∷ Event [] ∷ []) (just (codes "s1" ∷ codes "s0" ∷ codes "g0" ∷ []) ∷ just (codes "s1"
+random_146_runs : IsCircuitRun random_146_circuit (Event [] ∷ Event [] ∷ Event [] ∷ []) (just (codes "s1" ∷ codes "s0" ∷ codes "g0" ∷ []) ∷ just (codes "s1"
     ∷ codes "g1" ∷ codes "g2" ∷ []) ∷ just (codes "s0" ∷ codes "g0" ∷ []) ∷ [])
 random_146_runs = (
   record { inputs_given = refl; latches_kept = refl; tables_met = (refl, (refl, (refl, tt))) },
@@ -453,7 +453,7 @@ random_148 : reading (codes ".model" ++ (10 ∷ []) ++ codes ".names" ++ (9 ∷ 
     (10 ∷ []) ++ codes ".inputs b" ++ (10 ∷ []) ++ codes ".end # c" ++ (10 ∷ []) ++ codes " " ++ (10 ∷ [])) ≡ Ok random_148_circuit
 random_148 = refl
 
-random_148_runs : IsRun random_148_circuit (Event (true ∷ true ∷ []) ∷ Event (true ∷ false ∷ []) ∷ []) (just (codes "a" ∷ codes "b" ∷ codes "g0" ∷ [])
+random_148_runs : IsCircuitRun random_148_circuit (Event (true ∷ true ∷ []) ∷ Event (true ∷ false ∷ []) ∷ []) (just (codes "a" ∷ codes "b" ∷ codes "g0" ∷ [])
     ∷ just (codes "a" ∷ codes "g0" ∷ []) ∷ [])
 random_148_runs = (
   record { inputs_given = refl; latches_kept = refl; tables_met = (refl, (refl, (refl, tt))) },

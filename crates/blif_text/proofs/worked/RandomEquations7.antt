@@ -1,10 +1,10 @@
 -- Inner: equations between the definitions of BLIF and an independent implementation of them in Python.
 -- Each text is read as the circuit, or refused with the fault, that the other implementation answers. Generated.
 use Rattle.std.proofs.Common.{◌≡◌, true, false, [], ◌∷◌, ◌++◌, Ok, Err, codes, refl}
-use Rattle.est_base.specs.Items.{Event, Reset}
+use Rattle.base_types.specs.Items.{Event, Reset}
 use Rattle.blif_text.specs.Statements.{Zero, One, Any}
 use Rattle.blif_text.specs.Circuits.{Circuit, reading, Line, TwoDrivers, NoDriver}
-use Rattle.blif_text.specs.Runs.{IsRun}
+use Rattle.blif_text.specs.Runs.{IsCircuitRun}
 use Rattle.blif_text.proofs.worked.PlainWords.{latch, table, circuit, just}
 
 abbrev random_150_circuit : Circuit
@@ -14,7 +14,7 @@ random_150 : reading (codes ".model # c" ++ (10 ∷ []) ++ codes ".inputs" ++ (9
     (10 ∷ []) ++ codes ".end#c " ++ (92 ∷ []) ++ (10 ∷ []) ++ codes " " ++ (10 ∷ [])) ≡ Ok random_150_circuit
 random_150 = refl
 
-random_150_runs : IsRun random_150_circuit (Event (false ∷ false ∷ []) ∷ Reset ∷ Event (true ∷ true ∷ []) ∷ Reset ∷ Event (false ∷ false ∷ []) ∷ [])
+random_150_runs : IsCircuitRun random_150_circuit (Event (false ∷ false ∷ []) ∷ Reset ∷ Event (true ∷ true ∷ []) ∷ Reset ∷ Event (false ∷ false ∷ []) ∷ [])
     (just [] ∷ just (codes "a" ∷ codes "b" ∷ []) ∷ just [] ∷ [])
 random_150_runs = (
   record { inputs_given = refl; latches_kept = refl; tables_met = tt },
@@ -58,7 +58,7 @@ random_154 : reading (codes ".model  0" ++ (10 ∷ []) ++ codes ".inputs " ++ (9
     random_154_circuit
 random_154 = refl
 
-random_154_runs : IsRun random_154_circuit (Event (false ∷ true ∷ []) ∷ Event (true ∷ true ∷ []) ∷ Event (false ∷ true ∷ []) ∷ Event (true ∷ true ∷
+random_154_runs : IsCircuitRun random_154_circuit (Event (false ∷ true ∷ []) ∷ Event (true ∷ true ∷ []) ∷ Event (false ∷ true ∷ []) ∷ Event (true ∷ true ∷
     []) ∷ []) (just (codes "a" ∷ codes "s0" ∷ []) ∷ just (codes "b" ∷ codes "a" ∷ codes "s0" ∷ codes "g0" ∷ []) ∷ just (codes "a" ∷ codes "s0" ∷ []) ∷
     just (codes "b" ∷ codes "a" ∷ codes "s0" ∷ codes "g0" ∷ []) ∷ [])
 random_154_runs = (
@@ -104,7 +104,7 @@ random_156 : reading (codes ".model m" ++ (10 ∷ []) ++ codes " " ++ (10 ∷ []
     codes ".end" ++ (13 ∷ []) ++ (10 ∷ [])) ≡ Ok random_156_circuit
 random_156 = refl
 
-random_156_runs : IsRun random_156_circuit (Event (true ∷ false ∷ true ∷ []) ∷ Event (false ∷ true ∷ true ∷ []) ∷ Reset ∷ Reset ∷ Event (true ∷ true ∷
+random_156_runs : IsCircuitRun random_156_circuit (Event (true ∷ false ∷ true ∷ []) ∷ Event (false ∷ true ∷ true ∷ []) ∷ Reset ∷ Reset ∷ Event (true ∷ true ∷
     true ∷ []) ∷ Event (false ∷ false ∷ false ∷ []) ∷ []) (just (codes "a" ∷ codes "c" ∷ codes "s0" ∷ codes "g0" ∷ []) ∷ just (codes "b" ∷ codes "c" ∷
     codes "s1" ∷ codes "g0" ∷ []) ∷ just (codes "a" ∷ codes "b" ∷ codes "c" ∷ codes "s0" ∷ codes "g0" ∷ []) ∷ just (codes "s1" ∷ codes "s0" ∷ codes
     "g0" ∷ []) ∷ [])
@@ -139,7 +139,7 @@ random_157 : reading (codes ".model m # c" ++ (13 ∷ []) ++ (10 ∷ []) ++ code
     "s0" ++ (9 ∷ []) ++ codes "1" ++ (10 ∷ []) ++ codes ".end#c " ++ (92 ∷ []) ++ (10 ∷ []) ++ codes " ") ≡ Ok random_157_circuit
 random_157 = refl
 
-random_157_runs : IsRun random_157_circuit (Event (false ∷ []) ∷ Event (true ∷ []) ∷ Event (false ∷ []) ∷ Event (true ∷ []) ∷ Reset ∷ Reset ∷ [])
+random_157_runs : IsCircuitRun random_157_circuit (Event (false ∷ []) ∷ Event (true ∷ []) ∷ Event (false ∷ []) ∷ Event (true ∷ []) ∷ Reset ∷ Reset ∷ [])
     (just (codes "s1" ∷ codes "s0" ∷ []) ∷ just (codes "a" ∷ []) ∷ just (codes "s1" ∷ codes "s0" ∷ []) ∷ just (codes "a" ∷ []) ∷ [])
 random_157_runs = (
   record { inputs_given = refl; latches_kept = refl; tables_met = tt },
@@ -174,7 +174,7 @@ random_158 : reading (codes ".model" ++ (9 ∷ []) ++ codes "m#c " ++ (92 ∷ []
     ≡ Ok random_158_circuit
 random_158 = refl
 
-random_158_runs : IsRun random_158_circuit (Event (false ∷ []) ∷ Reset ∷ Event (false ∷ []) ∷ Event (false ∷ []) ∷ Event (true ∷ []) ∷ []) (just
+random_158_runs : IsCircuitRun random_158_circuit (Event (false ∷ []) ∷ Reset ∷ Event (false ∷ []) ∷ Event (false ∷ []) ∷ Event (true ∷ []) ∷ []) (just
     (codes "g0" ∷ []) ∷ just (codes "g0" ∷ []) ∷ just (codes "s0" ∷ codes "g0" ∷ []) ∷ just (codes "a" ∷ codes "s0" ∷ codes "g0" ∷ []) ∷ [])
 random_158_runs = (
   record { inputs_given = refl; latches_kept = refl; tables_met = (refl, tt) },
@@ -208,7 +208,7 @@ random_159 : reading (codes ".model " ++ (92 ∷ []) ++ (10 ∷ []) ++ codes "m#
     ++ codes ".end " ++ (10 ∷ [])) ≡ Ok random_159_circuit
 random_159 = refl
 
-random_159_runs : IsRun random_159_circuit (Event [] ∷ Event [] ∷ []) (just (codes "s0" ∷ codes "g0" ∷ []) ∷ just (codes "s0" ∷ codes "g0" ∷ []) ∷ [])
+random_159_runs : IsCircuitRun random_159_circuit (Event [] ∷ Event [] ∷ []) (just (codes "s0" ∷ codes "g0" ∷ []) ∷ just (codes "s0" ∷ codes "g0" ∷ []) ∷ [])
 random_159_runs = (
   record { inputs_given = refl; latches_kept = refl; tables_met = (refl, tt) },
   (
@@ -228,7 +228,7 @@ random_160 : reading (codes ".model " ++ (92 ∷ []) ++ (10 ∷ []) ++ codes "m"
     []) ++ codes ".inputs a" ++ (13 ∷ []) ++ (10 ∷ []) ++ codes ".end" ++ (10 ∷ [])) ≡ Ok random_160_circuit
 random_160 = refl
 
-random_160_runs : IsRun random_160_circuit (Reset ∷ Event (true ∷ []) ∷ Event (true ∷ []) ∷ []) (just (codes "a" ∷ []) ∷ just (codes "a" ∷ []) ∷ [])
+random_160_runs : IsCircuitRun random_160_circuit (Reset ∷ Event (true ∷ []) ∷ Event (true ∷ []) ∷ []) (just (codes "a" ∷ []) ∷ just (codes "a" ∷ []) ∷ [])
 random_160_runs = (
   record { inputs_given = refl; latches_kept = refl; tables_met = tt },
   (
@@ -249,7 +249,7 @@ random_161 : reading (codes ".model" ++ (10 ∷ []) ++ codes ".outputs s0 g0#c "
     (10 ∷ []) ++ codes ".latch  s0  s0  1" ++ (10 ∷ []) ++ codes ".end # c" ++ (13 ∷ []) ++ (10 ∷ [])) ≡ Ok random_161_circuit
 random_161 = refl
 
-random_161_runs : IsRun random_161_circuit (Event [] ∷ Event [] ∷ Event [] ∷ Event [] ∷ []) (just (codes "s0" ∷ []) ∷ just (codes "s0" ∷ []) ∷ just
+random_161_runs : IsCircuitRun random_161_circuit (Event [] ∷ Event [] ∷ Event [] ∷ Event [] ∷ []) (just (codes "s0" ∷ []) ∷ just (codes "s0" ∷ []) ∷ just
     (codes "s0" ∷ []) ∷ just (codes "s0" ∷ []) ∷ [])
 random_161_runs = (
   record { inputs_given = refl; latches_kept = refl; tables_met = (refl, tt) },
@@ -288,7 +288,7 @@ random_162 : reading (codes ".model" ++ (13 ∷ []) ++ (10 ∷ []) ++ codes ".la
     ++ (10 ∷ []) ++ codes "-- 1#c " ++ (92 ∷ []) ++ (10 ∷ []) ++ codes "0- 1" ++ (10 ∷ []) ++ codes ".end" ++ (10 ∷ [])) ≡ Ok random_162_circuit
 random_162 = refl
 
-random_162_runs : IsRun random_162_circuit (Event [] ∷ Event [] ∷ []) (just (codes "s0" ∷ codes "s1" ∷ codes "g1" ∷ codes "g2" ∷ []) ∷ just (codes
+random_162_runs : IsCircuitRun random_162_circuit (Event [] ∷ Event [] ∷ []) (just (codes "s0" ∷ codes "s1" ∷ codes "g1" ∷ codes "g2" ∷ []) ∷ just (codes
     "s0" ∷ codes "g2" ∷ []) ∷ [])
 random_162_runs = (
   record { inputs_given = refl; latches_kept = refl; tables_met = (refl, (refl, (refl, tt))) },
@@ -323,7 +323,7 @@ random_165 : reading (codes ".model" ++ (13 ∷ []) ++ (10 ∷ []) ++ codes ".in
     "g0" ++ (10 ∷ []) ++ codes "1 " ++ (10 ∷ []) ++ (10 ∷ []) ++ codes "1" ++ (10 ∷ []) ++ codes ".end # c" ++ (10 ∷ [])) ≡ Ok random_165_circuit
 random_165 = refl
 
-random_165_runs : IsRun random_165_circuit (Event [] ∷ Event [] ∷ Event [] ∷ Event [] ∷ Reset ∷ []) (just (codes "g0" ∷ []) ∷ just (codes "g0" ∷ []) ∷
+random_165_runs : IsCircuitRun random_165_circuit (Event [] ∷ Event [] ∷ Event [] ∷ Event [] ∷ Reset ∷ []) (just (codes "g0" ∷ []) ∷ just (codes "g0" ∷ []) ∷
     just (codes "g0" ∷ []) ∷ just (codes "g0" ∷ []) ∷ [])
 random_165_runs = (
   record { inputs_given = refl; latches_kept = refl; tables_met = (refl, tt) },
@@ -359,7 +359,7 @@ random_166 : reading (codes ".model " ++ (13 ∷ []) ++ (10 ∷ []) ++ codes ".o
     ∷ [])) ≡ Ok random_166_circuit
 random_166 = refl
 
-random_166_runs : IsRun random_166_circuit (Event (true ∷ false ∷ true ∷ []) ∷ Event (false ∷ false ∷ true ∷ []) ∷ []) (just (codes "a" ∷ codes "c" ∷
+random_166_runs : IsCircuitRun random_166_circuit (Event (true ∷ false ∷ true ∷ []) ∷ Event (false ∷ false ∷ true ∷ []) ∷ []) (just (codes "a" ∷ codes "c" ∷
     []) ∷ just (codes "c" ∷ []) ∷ [])
 random_166_runs = (
   record { inputs_given = refl; latches_kept = refl; tables_met = (refl, (refl, tt)) },
@@ -394,7 +394,7 @@ random_169 : reading (codes ".model " ++ (92 ∷ []) ++ (10 ∷ []) ++ codes "m"
     []) ++ (10 ∷ []) ++ codes "1" ++ (10 ∷ []) ++ codes ".end#c " ++ (92 ∷ []) ++ (13 ∷ []) ++ (10 ∷ [])) ≡ Ok random_169_circuit
 random_169 = refl
 
-random_169_runs : IsRun random_169_circuit (Event (true ∷ []) ∷ Event (true ∷ []) ∷ Reset ∷ Event (false ∷ []) ∷ []) (just (codes "a" ∷ []) ∷ just
+random_169_runs : IsCircuitRun random_169_circuit (Event (true ∷ []) ∷ Event (true ∷ []) ∷ Reset ∷ Event (false ∷ []) ∷ []) (just (codes "a" ∷ []) ∷ just
     (codes "a" ∷ []) ∷ just (codes "g0" ∷ []) ∷ [])
 random_169_runs = (
   record { inputs_given = refl; latches_kept = refl; tables_met = (refl, tt) },
@@ -418,7 +418,7 @@ random_170 : reading (codes ".model # c" ++ (13 ∷ []) ++ (10 ∷ []) ++ codes 
     ++ (10 ∷ []) ++ codes ".outputs # c" ++ (10 ∷ []) ++ codes ".end # c" ++ (13 ∷ [])) ≡ Ok random_170_circuit
 random_170 = refl
 
-random_170_runs : IsRun random_170_circuit (Event (false ∷ true ∷ []) ∷ Event (false ∷ true ∷ []) ∷ Event (false ∷ false ∷ []) ∷ Reset ∷ Event (true ∷
+random_170_runs : IsCircuitRun random_170_circuit (Event (false ∷ true ∷ []) ∷ Event (false ∷ true ∷ []) ∷ Event (false ∷ false ∷ []) ∷ Reset ∷ Event (true ∷
     false ∷ []) ∷ []) (just (codes "b" ∷ []) ∷ just (codes "b" ∷ codes "s1" ∷ codes "s0" ∷ []) ∷ just (codes "s1" ∷ codes "s0" ∷ []) ∷ just (codes "a"
     ∷ []) ∷ [])
 random_170_runs = (
@@ -452,7 +452,7 @@ random_171 : reading (codes ".model" ++ (9 ∷ []) ++ codes "m" ++ (10 ∷ []) +
     ∷ []) ++ (10 ∷ []) ++ codes ".end " ++ (13 ∷ []) ++ (10 ∷ [])) ≡ Ok random_171_circuit
 random_171 = refl
 
-random_171_runs : IsRun random_171_circuit (Event (true ∷ []) ∷ Event (false ∷ []) ∷ []) (just (codes "a" ∷ []) ∷ just (codes "g0" ∷ []) ∷ [])
+random_171_runs : IsCircuitRun random_171_circuit (Event (true ∷ []) ∷ Event (false ∷ []) ∷ []) (just (codes "a" ∷ []) ∷ just (codes "g0" ∷ []) ∷ [])
 random_171_runs = (
   record { inputs_given = refl; latches_kept = refl; tables_met = (refl, tt) },
   (
@@ -476,7 +476,7 @@ random_172 : reading (codes ".model  m" ++ (10 ∷ []) ++ codes ".outputs # c" +
     ++ (10 ∷ []) ++ codes " " ++ (10 ∷ []) ++ codes ".end " ++ (10 ∷ [])) ≡ Ok random_172_circuit
 random_172 = refl
 
-random_172_runs : IsRun random_172_circuit (Event (false ∷ true ∷ true ∷ []) ∷ Reset ∷ Reset ∷ Event (false ∷ false ∷ false ∷ []) ∷ []) (just (codes
+random_172_runs : IsCircuitRun random_172_circuit (Event (false ∷ true ∷ true ∷ []) ∷ Reset ∷ Reset ∷ Event (false ∷ false ∷ false ∷ []) ∷ []) (just (codes
     "c" ∷ codes "a" ∷ []) ∷ just [] ∷ [])
 random_172_runs = (
   record { inputs_given = refl; latches_kept = refl; tables_met = (refl, (refl, (refl, tt))) },
@@ -505,7 +505,7 @@ random_174 : reading (codes ".model" ++ (9 ∷ []) ++ codes "m" ++ (13 ∷ []) +
     (9 ∷ []) ++ codes "0#c " ++ (92 ∷ []) ++ (10 ∷ []) ++ codes ".end # c" ++ (13 ∷ []) ++ (10 ∷ [])) ≡ Ok random_174_circuit
 random_174 = refl
 
-random_174_runs : IsRun random_174_circuit (Event [] ∷ Event [] ∷ Event [] ∷ []) (just [] ∷ just [] ∷ just [] ∷ [])
+random_174_runs : IsCircuitRun random_174_circuit (Event [] ∷ Event [] ∷ Event [] ∷ []) (just [] ∷ just [] ∷ just [] ∷ [])
 random_174_runs = (
   record { inputs_given = refl; latches_kept = refl; tables_met = tt },
   (

@@ -1,10 +1,10 @@
 -- Inner: equations between the definitions of BLIF and an independent implementation of them in Python.
 -- Each text is read as the circuit, or refused with the fault, that the other implementation answers. Generated.
 use Rattle.std.proofs.Common.{◌≡◌, true, false, [], ◌∷◌, ◌++◌, Ok, Err, codes, refl}
-use Rattle.est_base.specs.Items.{Event, Reset}
+use Rattle.base_types.specs.Items.{Event, Reset}
 use Rattle.blif_text.specs.Statements.{Zero, One, Any}
 use Rattle.blif_text.specs.Circuits.{Circuit, reading, Line}
-use Rattle.blif_text.specs.Runs.{IsRun}
+use Rattle.blif_text.specs.Runs.{IsCircuitRun}
 use Rattle.blif_text.proofs.worked.PlainWords.{latch, table, circuit, just}
 
 abbrev random_175_circuit : Circuit
@@ -16,7 +16,7 @@ random_175 : reading (codes ".model" ++ (13 ∷ []) ++ (10 ∷ []) ++ (10 ∷ []
     ∷ []) ++ codes "s0" ++ (9 ∷ []) ++ codes "0" ++ (10 ∷ []) ++ codes ".end # c" ++ (13 ∷ []) ++ (10 ∷ [])) ≡ Ok random_175_circuit
 random_175 = refl
 
-random_175_runs : IsRun random_175_circuit (Reset ∷ Event (false ∷ false ∷ true ∷ []) ∷ Event (true ∷ false ∷ false ∷ []) ∷ Event (false ∷ true ∷
+random_175_runs : IsCircuitRun random_175_circuit (Reset ∷ Event (false ∷ false ∷ true ∷ []) ∷ Event (true ∷ false ∷ false ∷ []) ∷ Event (false ∷ true ∷
     false ∷ []) ∷ []) (just (codes "a" ∷ codes "s1" ∷ []) ∷ just (codes "b" ∷ []) ∷ just (codes "c" ∷ codes "s0" ∷ []) ∷ [])
 random_175_runs = (
   record { inputs_given = refl; latches_kept = refl; tables_met = tt },
@@ -39,7 +39,7 @@ random_176 : reading (codes ".model # c" ++ (10 ∷ []) ++ codes ".inputs " ++ (
     ∷ [])) ≡ Ok random_176_circuit
 random_176 = refl
 
-random_176_runs : IsRun random_176_circuit (Reset ∷ Event [] ∷ Event [] ∷ []) (just [] ∷ just [] ∷ [])
+random_176_runs : IsCircuitRun random_176_circuit (Reset ∷ Event [] ∷ Event [] ∷ []) (just [] ∷ just [] ∷ [])
 random_176_runs = (
   record { inputs_given = refl; latches_kept = refl; tables_met = (refl, tt) },
   (
@@ -75,7 +75,7 @@ random_180 : reading (codes ".model  m " ++ (10 ∷ []) ++ codes "# c" ++ (10 �
     []) ++ codes ".outputs a a " ++ (10 ∷ []) ++ codes ".inputs" ++ (9 ∷ []) ++ codes "a " ++ (10 ∷ []) ++ codes ".end ") ≡ Ok random_180_circuit
 random_180 = refl
 
-random_180_runs : IsRun random_180_circuit (Event (false ∷ []) ∷ Event (true ∷ []) ∷ Event (true ∷ []) ∷ Event (true ∷ []) ∷ []) (just [] ∷ just
+random_180_runs : IsCircuitRun random_180_circuit (Event (false ∷ []) ∷ Event (true ∷ []) ∷ Event (true ∷ []) ∷ Event (true ∷ []) ∷ []) (just [] ∷ just
     (codes "a" ∷ []) ∷ just (codes "a" ∷ []) ∷ just (codes "a" ∷ []) ∷ [])
 random_180_runs = (
   record { inputs_given = refl; latches_kept = refl; tables_met = tt },
@@ -109,7 +109,7 @@ random_181 : reading (codes ".model # c" ++ (10 ∷ []) ++ codes ".outputs g1 g0
     ++ (92 ∷ []) ++ (10 ∷ []) ++ (10 ∷ []) ++ codes ".end " ++ (10 ∷ [])) ≡ Ok random_181_circuit
 random_181 = refl
 
-random_181_runs : IsRun random_181_circuit (Reset ∷ Event (true ∷ false ∷ []) ∷ Event (true ∷ false ∷ []) ∷ Event (true ∷ true ∷ []) ∷ Event (true ∷
+random_181_runs : IsCircuitRun random_181_circuit (Reset ∷ Event (true ∷ false ∷ []) ∷ Event (true ∷ false ∷ []) ∷ Event (true ∷ true ∷ []) ∷ Event (true ∷
     true ∷ []) ∷ []) (just (codes "a" ∷ codes "g1" ∷ []) ∷ just (codes "a" ∷ codes "g1" ∷ []) ∷ just (codes "a" ∷ codes "b" ∷ codes "g1" ∷ []) ∷ just
     (codes "a" ∷ codes "b" ∷ codes "g1" ∷ []) ∷ [])
 random_181_runs = (
@@ -157,7 +157,7 @@ random_183 : reading (codes ".model " ++ (10 ∷ []) ++ codes " " ++ (10 ∷ [])
     random_183_circuit
 random_183 = refl
 
-random_183_runs : IsRun random_183_circuit (Reset ∷ Event (false ∷ false ∷ false ∷ []) ∷ Event (false ∷ true ∷ false ∷ []) ∷ []) (just (codes "s0" ∷
+random_183_runs : IsCircuitRun random_183_circuit (Reset ∷ Event (false ∷ false ∷ false ∷ []) ∷ Event (false ∷ true ∷ false ∷ []) ∷ []) (just (codes "s0" ∷
     codes "s1" ∷ codes "g0" ∷ codes "g1" ∷ []) ∷ just (codes "b" ∷ codes "g0" ∷ codes "g1" ∷ []) ∷ [])
 random_183_runs = (
   record { inputs_given = refl; latches_kept = refl; tables_met = (refl, (refl, tt)) },
@@ -182,7 +182,7 @@ random_184 : reading (codes ".model#c " ++ (92 ∷ []) ++ (13 ∷ []) ++ (10 ∷
     (10 ∷ []) ++ codes ".inputs  a # c" ++ (10 ∷ []) ++ codes ".end" ++ (10 ∷ [])) ≡ Ok random_184_circuit
 random_184 = refl
 
-random_184_runs : IsRun random_184_circuit (Event (true ∷ true ∷ false ∷ []) ∷ Reset ∷ Event (false ∷ true ∷ false ∷ []) ∷ Event (false ∷ false ∷
+random_184_runs : IsCircuitRun random_184_circuit (Event (true ∷ true ∷ false ∷ []) ∷ Reset ∷ Event (false ∷ true ∷ false ∷ []) ∷ Event (false ∷ false ∷
     false ∷ []) ∷ Event (false ∷ true ∷ true ∷ []) ∷ []) (just (codes "b" ∷ codes "c" ∷ codes "g1" ∷ []) ∷ just (codes "c" ∷ codes "g1" ∷ []) ∷ just
     (codes "g1" ∷ []) ∷ just (codes "c" ∷ codes "a" ∷ codes "g1" ∷ []) ∷ [])
 random_184_runs = (
@@ -218,7 +218,7 @@ random_185 : reading (codes ".model " ++ (10 ∷ []) ++ codes ".names g0 g1" ++ 
     ≡ Ok random_185_circuit
 random_185 = refl
 
-random_185_runs : IsRun random_185_circuit (Event (false ∷ true ∷ []) ∷ Event (true ∷ true ∷ []) ∷ []) (just (codes "a" ∷ codes "s0" ∷ codes "g0" ∷
+random_185_runs : IsCircuitRun random_185_circuit (Event (false ∷ true ∷ []) ∷ Event (true ∷ true ∷ []) ∷ []) (just (codes "a" ∷ codes "s0" ∷ codes "g0" ∷
     []) ∷ just (codes "b" ∷ codes "a" ∷ codes "g0" ∷ []) ∷ [])
 random_185_runs = (
   record { inputs_given = refl; latches_kept = refl; tables_met = (refl, (refl, tt)) },
@@ -249,7 +249,7 @@ random_187 : reading (codes ".model" ++ (9 ∷ []) ++ codes "m" ++ (13 ∷ []) +
     (10 ∷ []) ++ codes " ") ≡ Ok random_187_circuit
 random_187 = refl
 
-random_187_runs : IsRun random_187_circuit (Reset ∷ Event (true ∷ true ∷ []) ∷ Reset ∷ Event (true ∷ true ∷ []) ∷ Event (false ∷ false ∷ []) ∷ Event
+random_187_runs : IsCircuitRun random_187_circuit (Reset ∷ Event (true ∷ true ∷ []) ∷ Reset ∷ Event (true ∷ true ∷ []) ∷ Event (false ∷ false ∷ []) ∷ Event
     (true ∷ false ∷ []) ∷ []) (just (codes "b" ∷ codes "a" ∷ codes "g0" ∷ []) ∷ just (codes "b" ∷ codes "a" ∷ codes "g0" ∷ []) ∷ just (codes "s0" ∷
     codes "s1" ∷ codes "g0" ∷ []) ∷ just (codes "b" ∷ codes "s0" ∷ codes "g0" ∷ []) ∷ [])
 random_187_runs = (
@@ -289,7 +289,7 @@ random_189 : reading (codes ".model" ++ (13 ∷ []) ++ (10 ∷ []) ++ codes ".in
     ".outputs g0 s0" ++ (13 ∷ []) ++ (10 ∷ []) ++ codes ".inputs b" ++ (10 ∷ []) ++ codes ".end" ++ (13 ∷ []) ++ (10 ∷ [])) ≡ Ok random_189_circuit
 random_189 = refl
 
-random_189_runs : IsRun random_189_circuit (Event (true ∷ true ∷ []) ∷ Event (false ∷ true ∷ []) ∷ Reset ∷ Event (true ∷ false ∷ []) ∷ []) (just
+random_189_runs : IsCircuitRun random_189_circuit (Event (true ∷ true ∷ []) ∷ Event (false ∷ true ∷ []) ∷ Reset ∷ Event (true ∷ false ∷ []) ∷ []) (just
     (codes "a" ∷ codes "b" ∷ codes "g0" ∷ []) ∷ just (codes "b" ∷ codes "s0" ∷ codes "g0" ∷ []) ∷ just (codes "a" ∷ codes "g0" ∷ []) ∷ [])
 random_189_runs = (
   record { inputs_given = refl; latches_kept = refl; tables_met = (refl, tt) },
@@ -316,7 +316,7 @@ random_191 : reading (codes ".model # c" ++ (10 ∷ []) ++ (10 ∷ []) ++ codes 
     (10 ∷ [])) ≡ Ok random_191_circuit
 random_191 = refl
 
-random_191_runs : IsRun random_191_circuit (Reset ∷ Event (true ∷ []) ∷ Event (false ∷ []) ∷ []) (just (codes "a" ∷ []) ∷ just [] ∷ [])
+random_191_runs : IsCircuitRun random_191_circuit (Reset ∷ Event (true ∷ []) ∷ Event (false ∷ []) ∷ []) (just (codes "a" ∷ []) ∷ just [] ∷ [])
 random_191_runs = (
   record { inputs_given = refl; latches_kept = refl; tables_met = (refl, tt) },
   (
@@ -338,7 +338,7 @@ random_192 : reading (codes ".model m " ++ (13 ∷ []) ++ (10 ∷ []) ++ codes "
     "g0" ++ (9 ∷ []) ++ codes "a" ++ (10 ∷ []) ++ codes ".end" ++ (13 ∷ []) ++ (10 ∷ []) ++ (10 ∷ [])) ≡ Ok random_192_circuit
 random_192 = refl
 
-random_192_runs : IsRun random_192_circuit (Event (true ∷ []) ∷ Event (true ∷ []) ∷ Event (false ∷ []) ∷ []) (just (codes "a" ∷ []) ∷ just (codes "a"
+random_192_runs : IsCircuitRun random_192_circuit (Event (true ∷ []) ∷ Event (true ∷ []) ∷ Event (false ∷ []) ∷ []) (just (codes "a" ∷ []) ∷ just (codes "a"
     ∷ []) ∷ just [] ∷ [])
 random_192_runs = (
   record { inputs_given = refl; latches_kept = refl; tables_met = (refl, tt) },
@@ -360,7 +360,7 @@ random_193 : reading (codes ".model" ++ (10 ∷ []) ++ codes ".names c g0" ++ (1
     (10 ∷ []) ++ codes ".inputs  b  c" ++ (13 ∷ []) ++ (10 ∷ []) ++ codes ".end # c" ++ (10 ∷ [])) ≡ Ok random_193_circuit
 random_193 = refl
 
-random_193_runs : IsRun random_193_circuit (Event (false ∷ true ∷ true ∷ []) ∷ Reset ∷ Reset ∷ Event (false ∷ false ∷ false ∷ []) ∷ []) (just (codes
+random_193_runs : IsCircuitRun random_193_circuit (Event (false ∷ true ∷ true ∷ []) ∷ Reset ∷ Reset ∷ Event (false ∷ false ∷ false ∷ []) ∷ []) (just (codes
     "b" ∷ codes "c" ∷ []) ∷ just [] ∷ [])
 random_193_runs = (
   record { inputs_given = refl; latches_kept = refl; tables_met = (refl, tt) },
@@ -387,7 +387,7 @@ random_194 : reading (codes ".model" ++ (9 ∷ []) ++ codes "1 # c" ++ (10 ∷ [
     []) ++ (10 ∷ []) ++ codes ".names  g1" ++ (10 ∷ []) ++ codes ".end " ++ (10 ∷ [])) ≡ Ok random_194_circuit
 random_194 = refl
 
-random_194_runs : IsRun random_194_circuit (Event (false ∷ []) ∷ Event (false ∷ []) ∷ Event (false ∷ []) ∷ []) (just (codes "s1" ∷ codes "g0" ∷ []) ∷
+random_194_runs : IsCircuitRun random_194_circuit (Event (false ∷ []) ∷ Event (false ∷ []) ∷ Event (false ∷ []) ∷ []) (just (codes "s1" ∷ codes "g0" ∷ []) ∷
     just (codes "g0" ∷ []) ∷ just (codes "g0" ∷ []) ∷ [])
 random_194_runs = (
   record { inputs_given = refl; latches_kept = refl; tables_met = (refl, (refl, (refl, tt))) },
@@ -429,7 +429,7 @@ random_195 : reading (codes ".model " ++ (92 ∷ []) ++ (10 ∷ []) ++ codes "m"
     random_195_circuit
 random_195 = refl
 
-random_195_runs : IsRun random_195_circuit (Event (true ∷ []) ∷ Event (false ∷ []) ∷ []) (just (codes "a" ∷ codes "g0" ∷ codes "g1" ∷ []) ∷ just
+random_195_runs : IsCircuitRun random_195_circuit (Event (true ∷ []) ∷ Event (false ∷ []) ∷ []) (just (codes "a" ∷ codes "g0" ∷ codes "g1" ∷ []) ∷ just
     (codes "s0" ∷ codes "s1" ∷ []) ∷ [])
 random_195_runs = (
   record { inputs_given = refl; latches_kept = refl; tables_met = (refl, (refl, tt)) },
@@ -468,7 +468,7 @@ random_198 : reading (codes ".model m " ++ (13 ∷ []) ++ (10 ∷ []) ++ codes "
     ++ (13 ∷ []) ++ (10 ∷ []) ++ codes ".end") ≡ Ok random_198_circuit
 random_198 = refl
 
-random_198_runs : IsRun random_198_circuit (Event (true ∷ true ∷ []) ∷ Event (false ∷ true ∷ []) ∷ Event (false ∷ true ∷ []) ∷ Event (true ∷ true ∷
+random_198_runs : IsCircuitRun random_198_circuit (Event (true ∷ true ∷ []) ∷ Event (false ∷ true ∷ []) ∷ Event (false ∷ true ∷ []) ∷ Event (true ∷ true ∷
     []) ∷ []) (just (codes "a" ∷ codes "b" ∷ codes "s1" ∷ codes "g0" ∷ []) ∷ just (codes "b" ∷ codes "s1" ∷ codes "s0" ∷ codes "g0" ∷ []) ∷ just
     (codes "b" ∷ codes "s1" ∷ codes "s0" ∷ codes "g0" ∷ []) ∷ just (codes "a" ∷ codes "b" ∷ codes "s1" ∷ codes "s0" ∷ codes "g0" ∷ []) ∷ [])
 random_198_runs = (
@@ -505,7 +505,7 @@ random_199 : reading (codes ".model#c " ++ (92 ∷ []) ++ (13 ∷ []) ++ (10 ∷
     ++ (10 ∷ []) ++ codes ".end#c " ++ (92 ∷ []) ++ (13 ∷ []) ++ (10 ∷ [])) ≡ Ok random_199_circuit
 random_199 = refl
 
-random_199_runs : IsRun random_199_circuit (Event (true ∷ true ∷ []) ∷ Reset ∷ Event (false ∷ false ∷ []) ∷ []) (just (codes "a" ∷ codes "b" ∷ codes
+random_199_runs : IsCircuitRun random_199_circuit (Event (true ∷ true ∷ []) ∷ Reset ∷ Event (false ∷ false ∷ []) ∷ []) (just (codes "a" ∷ codes "b" ∷ codes
     "g0" ∷ codes "g1" ∷ []) ∷ just (codes "g0" ∷ codes "g1" ∷ []) ∷ [])
 random_199_runs = (
   record { inputs_given = refl; latches_kept = refl; tables_met = (refl, (refl, tt)) },

@@ -1,18 +1,18 @@
 -- What is seen of a small program by each kind of text, by hand, and what it means that a text keeps a program, field by field.
 use Rattle.std.proofs.Common.{◌≡◌, ◌++◌, ℕ, Bool, true, false, List, [], ◌∷◌, map, Some, Ok, codes, refl, arith}
 use Rattle.std.proofs.lemmas.Bool.{false≢true}
-use Rattle.est_base.specs.Items.{Item}
-use Rattle.est_base.specs.Names.{is_same_name}
-use Rattle.est_base.specs.Relations.{Implies}
+use Rattle.base_types.specs.Items.{Item}
+use Rattle.base_types.specs.Names.{is_same_name}
+use Rattle.base_types.specs.Relations.{Implies}
 use Rattle.est_kernel.specs.Plain.{Program, given_names, outgoing_names}
 use Rattle.est_kernel.specs.Reactions.{Answer, run_of}
 use Rattle.est_kernel.specs.Terms.{Pause}
-use Rattle.machines.specs.Machines.{Machine, Shows}
-use Rattle.machines.specs.Machines as machines
+use Rattle.base_machines.specs.Machines.{Machine, Shows}
+use Rattle.base_machines.specs.Machines as machines
 use Rattle.net_ir.specs.Netlists.{Netlist, output_names}
 use Rattle.net_ir.specs.Runs.{Shown, net_run}
 use Rattle.blif_text.specs.Circuits.{reading}
-use Rattle.blif_text.specs.Runs.{circuit_machine, IsRun, driven_names}
+use Rattle.blif_text.specs.Runs.{circuit_machine, IsCircuitRun, driven_names}
 use Rattle.csub_text.specs.Machine.{program_machine}
 use Rattle.csub_text.specs.Names.{inputs_of, outputs_of}
 use Rattle.csub_text.specs.Texts.{Describes}
@@ -114,7 +114,8 @@ by_texts : (text : List ℕ) (p : Program) (h : TextKeeps text p) → (reading t
 by_texts text p h = (h.reads, h.name, h.inputs, h.outputs, h.keeps)
 
 by_one_run : (text : List ℕ) (p : Program) (h : TextKeeps text p) → (items : List Item) → AreItems p items → (us vs : List (List ℕ → Bool))
-    → IsRun h.circuit items us → IsRun h.circuit items vs → map (λ u. map u (driven_names h.circuit)) us ≡ map (λ v. map v (driven_names h.circuit)) vs
+    → IsCircuitRun h.circuit items us → IsCircuitRun h.circuit items vs
+    → map (λ u. map u (driven_names h.circuit)) us ≡ map (λ v. map v (driven_names h.circuit)) vs
 by_one_run text p h = h.one_run
 
 by_c_texts : (text : List ℕ) (p : Program) (h : CTextKeeps text p) → Describes text h.program

@@ -4,11 +4,11 @@ use Rattle.est_kernel.specs.Plain.{Program}
 use Rattle.grc_graph.specs.GraphSizes.{graph_size}
 use Rattle.grc_graph.specs.Instances.{body_instances}
 use Rattle.grc_graph.specs.PlainWireNames.{wire_name_of}
-use Rattle.cec_front.specs.Refusals as front
-use Rattle.cec_front.specs.Sources.{StandsFor}
-use Rattle.cec_front.specs.declared.refusal.Fault.TheVariants as faults
-use Rattle.cec_front.specs.declared.refusal.Quantity.TheVariants as quantities
-use Rattle.cec_front.specs.declared.refusal.Refusal.TheVariants as fronts
+use Rattle.est_front.specs.Refusals as front
+use Rattle.est_front.specs.Sources.{StandsFor}
+use Rattle.est_front.specs.declared.refusal.Fault.TheVariants as faults
+use Rattle.est_front.specs.declared.refusal.Quantity.TheVariants as quantities
+use Rattle.est_front.specs.declared.refusal.SourceRefusal.TheVariants as fronts
 use Rattle.cec_compile.specs.Compiling.{IsVerilogOf}
 use Rattle.cec_compile.specs.Cycles.{ShowsCycle, IsAcyclic}
 use Rattle.cec_compile.specs.EncodedTexts.{IsEncodedBlifOf}
@@ -74,13 +74,13 @@ not_at_the_bound_of_sources : (text : List ℕ) → length text ≡ 1048576 → 
 not_at_the_bound_of_sources text long h = omega (arith, long, h)
 
 by_the_front : (text : List ℕ) (main : Option (List ℕ))
-    → (IsRefused text main (Limit limits.Nesting) → front.IsRefused text main (fronts.Limit quantities.Nesting))
-    × (IsRefused text main (Limit limits.Statements) → front.IsRefused text main (fronts.Limit quantities.Statements))
-    × (IsRefused text main (Limit limits.Signals) → front.IsRefused text main (fronts.Limit quantities.Signals))
-    × (IsRefused text main (Limit limits.Kernel) → front.IsRefused text main (fronts.Limit quantities.Kernel))
-    × (IsRefused text main (Limit limits.Height) → front.IsRefused text main (fronts.Limit quantities.Height))
-    × (IsRefused text main (Limit limits.Traps) → front.IsRefused text main (fronts.Limit quantities.Traps))
-    × (IsRefused text main (Static (faults.BadByte 3)) → front.IsRefused text main (fronts.Static (faults.BadByte 3)))
+    → (IsRefused text main (Limit limits.Nesting) → front.IsSourceRefused text main (fronts.Limit quantities.Nesting))
+    × (IsRefused text main (Limit limits.Statements) → front.IsSourceRefused text main (fronts.Limit quantities.Statements))
+    × (IsRefused text main (Limit limits.Signals) → front.IsSourceRefused text main (fronts.Limit quantities.Signals))
+    × (IsRefused text main (Limit limits.Kernel) → front.IsSourceRefused text main (fronts.Limit quantities.Kernel))
+    × (IsRefused text main (Limit limits.Height) → front.IsSourceRefused text main (fronts.Limit quantities.Height))
+    × (IsRefused text main (Limit limits.Traps) → front.IsSourceRefused text main (fronts.Limit quantities.Traps))
+    × (IsRefused text main (Static (faults.BadByte 3)) → front.IsSourceRefused text main (fronts.Static (faults.BadByte 3)))
 by_the_front text main = (λ h. h, λ h. h, λ h. h, λ h. h, λ h. h, λ h. h, λ h. h)
 
 by_the_graph : (text : List ℕ) (main : Option (List ℕ)) (c : Cycle)

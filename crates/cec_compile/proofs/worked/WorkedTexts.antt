@@ -1,8 +1,8 @@
 -- Worked texts of cycles, and refusals of passes, by hand.
 use Rattle.std.proofs.Common.{◌≡◌, [], ◌∷◌, map, codes, refl, arith}
 use Rattle.std.specs.Fmt.{digits}
-use Rattle.cec_front.specs.declared.refusal.Quantity.TheVariants as quantities
-use Rattle.cec_front.specs.declared.refusal.Refusal.TheVariants as front
+use Rattle.est_front.specs.declared.refusal.Quantity.TheVariants as quantities
+use Rattle.est_front.specs.declared.refusal.SourceRefusal.TheVariants as front
 use Rattle.grc_build.specs.declared.refusal.BuildFault.TheVariants as building
 use Rattle.grc_layout.specs.declared.refusal.CopyFault.TheVariants as copying
 use Rattle.grc_graph.specs.Edges.{edge}

@@ -3,12 +3,12 @@ use Rattle.std.proofs.Common.{◌≡◌, ◌+◌, ◌*◌, ◌<◌, ◌≤◌, �
 use Rattle.std.specs.Fmt.{digits}
 use Rattle.std.specs.Prelude.{is_some, replicate, slice_index_or}
 use Rattle.std.specs.List.{AllZip, list_any}
-use Rattle.est_base.specs.Items.{Item}
+use Rattle.base_types.specs.Items.{Item}
 use Rattle.est_kernel.specs.Plain.{Program, program_of}
 use Rattle.est_kernel.specs.StaticCodes.{NoInstantLoop}
 use Rattle.est_kernel.specs.Terms.{Pause, Seq, Par, Nothing}
 use Rattle.est_kernel.specs.WellFormed.{IsWellFormed, HasNames}
-use Rattle.machines.specs.Machines.{Machine, IsRun}
+use Rattle.base_machines.specs.Machines.{Machine, IsRun}
 use Rattle.grc_graph.specs.declared.graph.Graph.{Graph}
 use Rattle.grc_graph.specs.BuiltGraphs.{IsGraphOf}
 use Rattle.grc_graph.specs.GraphRuns.{program_edges, program_wires}
@@ -20,25 +20,25 @@ use Rattle.grc_graph.specs.PlainGraphs.{formula_of, instances_of, names_of}
 use Rattle.grc_graph.specs.Reads.{IsReadingOrder}
 use Rattle.grc_graph.specs.Readings.{Valuation}
 use Rattle.grc_graph.specs.SelectionTrees.{body_leaves, body_tree}
-use Rattle.grc_graph.specs.TreeForms.{node_of}
+use Rattle.grc_graph.specs.TreeForms.{tree_node}
 use Rattle.grc_graph.specs.Walk.{Selecting}
 use Rattle.grc_graph.specs.WireOrders.{AreRanks, IsWireOrder}
 use Rattle.grc_graph.specs.Wires.{Wire, Go}
-use Rattle.grc_sem.specs.GraphWalks.{IsWalkOf, graph_walk}
+use Rattle.grc_solutions_laws.specs.GraphWalks.{IsWalkOf, graph_walk}
 use Rattle.grc_share.specs.SharedSizes.{shared_size}
 use Rattle.grc_share.specs.SharedWires.{members, shared_edges, shared_wires}
-use Rattle.guard_owners.specs.Blocks.{guarded_text}
-use Rattle.guard_owners.specs.Owners.{owners}
-use Rattle.guard_regions.specs.Regions.{AreRegions, HeadsAreFree}
-use Rattle.guard_text.specs.Regions.{region_by}
+use Rattle.csub_guard_blocks.specs.Blocks.{guarded_text}
+use Rattle.csub_guard_blocks.specs.Owners.{owners}
+use Rattle.grc_regions.specs.Regions.{AreRegions, HeadsAreFree}
+use Rattle.csub_guard_writer.specs.Regions.{region_by}
 use Rattle.net_ir.specs.Gates.{carried}
 use Rattle.net_ir.specs.Netlists.{Netlist, output_names}
 use Rattle.net_ir.specs.Runs.{netlist_of, initial_latches}
 use Rattle.net_simp.specs.SameRuns.{SameRuns}
 use Rattle.net_simp.specs.SimpleNets.{IsSimple}
 use Rattle.net_gen.specs.Costs.{linear_bound}
-use Rattle.rest_laws.specs.Guarded.{GuardedRuns}
-use Rattle.state_enc.specs.EncodedCounts.{encoded_bits, encoded_count}
+use Rattle.csub_guard_writer_laws.specs.Guarded.{GuardedRuns}
+use Rattle.net_state_enc.specs.EncodedCounts.{encoded_bits, encoded_count}
 use Rattle.blif_text.specs.Circuits.{reading}
 use Rattle.blif_text.specs.Runs.{circuit_machine}
 use Rattle.blif_text.specs.Written as blif_texts
@@ -48,7 +48,7 @@ use Rattle.csub_text.specs.Written as c_texts
 use Rattle.vlog_text.specs.Machine.{vlog_machine}
 use Rattle.vlog_text.specs.Texts as modules
 use Rattle.vlog_text.specs.Written as verilog_texts
-use Rattle.cec_front.specs.Sources.{StandsFor}
+use Rattle.est_front.specs.Sources.{StandsFor}
 use Rattle.cec_compile.specs.Compiling.{IsGraphed, FollowsEdges, IsCompiled, StandsForGraph, StandsForNet, StandsForText, StandsForC, StandsForVerilog}
 use Rattle.cec_compile.specs.Compiling.{IsBlifOf, IsCOf, IsVerilogOf}
 use Rattle.cec_compile.specs.Cycles.{IsCycle}
@@ -138,7 +138,7 @@ of_verilog_texts n text p h = (h.describes, h.stored, h.wires)
 
 what_is_graphed : (g : Graphed) (p : Program) (h : IsGraphed g p) → IsWellFormed p × HasNames p × NoInstantLoop p.body × (length (body_instances
     p.body) ≤ 131072)
-    × IsGraphOf g.graph p × (map node_of g.graph.tree.nodes.items ≡ body_tree p.body) × (g.graph.tree.leaves ≡ length (body_leaves p.body))
+    × IsGraphOf g.graph p × (map tree_node g.graph.tree.nodes.items ≡ body_tree p.body) × (g.graph.tree.leaves ≡ length (body_leaves p.body))
     × (g.edges.count ≡ length g.graph.wires.items) × AreEdgesOf (names_of g.graph) (program_edges p) g.edges.pairs.items
     × AreRanks g.edges.count g.edges.pairs.items g.ranks.of.items
 what_is_graphed g p h = (h.formed, h.names, h.no_loop, h.few, h.graph, h.tree, h.leaves, h.count, h.edges, h.ranks)
@@ -149,7 +149,7 @@ along_edges c p h = (h.edges, h.order)
 
 what_is_compiled : (c : Compiled) (p : Program) (h : IsCompiled c p) → IsWellFormed p × NoInstantLoop p.body × Compiles p
     × (program_of c.graph.program ≡ p) × (names_of c.graph ≡ graph_wires (is_shared c.graph) p) × (is_shared c.graph ≡ false → IsGraphOf c.graph p)
-    × (map node_of c.graph.tree.nodes.items ≡ body_tree p.body) × (c.graph.tree.leaves ≡ length (body_leaves p.body))
+    × (map tree_node c.graph.tree.nodes.items ≡ body_tree p.body) × (c.graph.tree.leaves ≡ length (body_leaves p.body))
     × IsReadingOrder (names_of c.graph) (map (formula_of (instances_of c.graph) (names_of c.graph)) c.graph.equations.items) c.order.list.items
     × FollowsEdges c p × (carried c.net.gates.items ≡ map (λ v. v.0) c.order.list.items) × (length c.net.gates.items ≤ linear_bound p)
     × (is_shared c.graph ≡ true → length c.net.gates.items ≤ 15 * shared_size p)

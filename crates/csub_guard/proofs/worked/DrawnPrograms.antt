@@ -1,8 +1,8 @@
 -- Drawn programs: the first fault of their names, what their calls show, and how many assignments these run. The values
 -- are those of an implementation in Python.
 use Rattle.std.proofs.Common.{◌≡◌, Bool, true, false, List, [], ◌∷◌, map, codes, refl, Some, None, ℕ}
-use Rattle.est_base.specs.Items.{Event, Reset}
-use Rattle.csub_text.specs.Machine.{Seen}
+use Rattle.base_types.specs.Items.{Event, Reset}
+use Rattle.csub_text.specs.Machine.{SeenCall}
 use Rattle.csub_text.specs.Trees.{Assign, Expr, Exprs, Name, Const, Not, And, Or, NoExprs, MoreExprs}
 use Rattle.csub_guard.specs.Machine.{calls, run}
 use Rattle.csub_guard.specs.Names.{Twice, Undeclared, Again, Unset, name_fault}
@@ -14,7 +14,7 @@ two a b = MoreExprs a (MoreExprs b NoExprs)
 abbrev sets : List ℕ → Expr → Assign
 sets target value = record { target = target; value = value }
 
-abbrev shows : List Bool → Bool → Seen
+abbrev shows : List Bool → Bool → SeenCall
 shows outputs answer = record { outputs = outputs; answer = answer }
 
 abbrev the_k : Expr

@@ -1,12 +1,12 @@
 -- A worked text: what its tokens spell, and the program that it describes; how deep pieces are nested, and what they mean.
 use Rattle.std.proofs.Common.{◌≡◌, ◌<◌, ℕ, true, false, List, [], ◌∷◌, None, Some, map, codes, refl, arith, lit≤}
-use Rattle.est_base.specs.Items.{Event, Reset}
+use Rattle.base_types.specs.Items.{Event, Reset}
 use Rattle.csub_text.specs.Grammar.{WrittenAssign}
 use Rattle.csub_text.specs.Tokens.{Static, Int, Return, Void, React, If, Else, LeftParenthesis, RightParenthesis, LeftBrace, RightBrace}
 use Rattle.csub_text.specs.Tokens.{Semicolon, Equals, Zero, One, Bang, Named}
 use Rattle.csub_text.specs.Trees.{Assign, Name, Const}
 use Rattle.csub_text.specs.Trees as expressions
-use Rattle.expr_text.specs.Grammar.{Written, Word, Bit, Not, Round}
+use Rattle.net_expressions.specs.Grammar.{Written, Word, Bit, Not, Round}
 use Rattle.csub_guard.specs.Grammar.{OneWritten, IfWritten, WrittenProgram, SpellsText, piece_nesting, pieces_nesting, text_nesting}
 use Rattle.csub_guard.specs.Grammar.{piece_meant, program_meant}
 use Rattle.csub_guard.specs.Machine.{count_of}

@@ -1,8 +1,8 @@
 -- Worked programs: the rules of places and of reads, one by one, and calls with their counts. The values are those of
 -- an implementation in Python.
 use Rattle.std.proofs.Common.{◌≡◌, Bool, true, false, List, [], ◌∷◌, map, codes, refl, Some, None, ℕ}
-use Rattle.est_base.specs.Items.{Event}
-use Rattle.csub_text.specs.Machine.{Seen}
+use Rattle.base_types.specs.Items.{Event}
+use Rattle.csub_text.specs.Machine.{SeenCall}
 use Rattle.csub_text.specs.Trees.{Assign, Expr, Name, Const}
 use Rattle.csub_guard.specs.Machine.{calls, run}
 use Rattle.csub_guard.specs.Names.{Undeclared, Again, Unset, name_fault}
@@ -11,7 +11,7 @@ use Rattle.csub_guard.specs.Trees.{One, If, Program}
 abbrev sets : List ℕ → Expr → Assign
 sets target value = record { target = target; value = value }
 
-abbrev shows : List Bool → Bool → Seen
+abbrev shows : List Bool → Bool → SeenCall
 shows outputs answer = record { outputs = outputs; answer = answer }
 
 abbrev the_y : Expr

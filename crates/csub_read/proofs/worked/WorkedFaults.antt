@@ -1,6 +1,6 @@
 -- What a fault says of a text, row by row, and where the bound on texts lies.
 use Rattle.std.proofs.Common.{◌≡◌, ◌≤◌, ℕ, List, [], length, Some, sym, ◌∙◌, arith}
-use Rattle.expr_text.specs.Lexemes.{IsFaultPlace}
+use Rattle.net_expressions.specs.Lexemes.{IsFaultPlace}
 use Rattle.csub_text.specs.Grammar.{WrittenProgram}
 use Rattle.csub_text.specs.Tokens.{tokens, kinds}
 use Rattle.csub_text.specs.Grammar.{IsText, program_meant}

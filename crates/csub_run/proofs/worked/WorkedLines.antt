@@ -1,13 +1,13 @@
 -- A worked program and its lines. The values are those of an implementation in Python.
 use Rattle.std.proofs.Common.{◌≡◌, true, false, List, [], ◌∷◌, map, codes, refl}
-use Rattle.est_base.specs.Items.{Item, Event, Reset}
-use Rattle.est_base.specs.Names.{is_same_name}
+use Rattle.base_types.specs.Items.{Item, Event, Reset}
+use Rattle.base_types.specs.Names.{is_same_name}
 use Rattle.csub_text.specs.Trees.{Expr, Exprs, Name, Not, And, Or, NoExprs, MoreExprs, Program}
 use Rattle.csub_text.specs.Machine.{first_memory, program_machine, run}
-use Rattle.machines.specs.Machines.{Shows}
+use Rattle.base_machines.specs.Machines.{Shows}
 use Rattle.csub_run.specs.ProgramAnswers.{answer_seen, bare_inputs, bare_outputs, call_answer, program_shows}
-use Rattle.trace_io.specs.declared.lines.Word.TheVariants.{Paused}
-use Rattle.trace_run.specs.Machines.{Answer, answer_lines}
+use Rattle.run_trace_io.specs.declared.lines.Word.TheVariants.{Paused}
+use Rattle.run_over_traces.specs.Machines.{ShownAnswer, answer_lines}
 
 abbrev two : Expr → Expr → Exprs
 two a b = MoreExprs a (MoreExprs b NoExprs)
@@ -42,6 +42,6 @@ lines = refl
 of_a_memory : call_answer signs (is_same_name (codes "O_A")) ≡ record { present = false ∷ true ∷ []; word = Paused }
 of_a_memory = refl
 
-what_is_shown_over_items : (p : Program) (items : List Item) (answers : List Answer) → program_shows p items answers
+what_is_shown_over_items : (p : Program) (items : List Item) (answers : List ShownAnswer) → program_shows p items answers
     → Shows (program_machine p) (call_answer p) (first_memory p.states) items answers
 what_is_shown_over_items p items answers h = h

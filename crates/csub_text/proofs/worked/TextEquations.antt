@@ -2,27 +2,27 @@
 -- tokens of texts, the faults of names and the runs of programs, and the texts and runs of nets. Generated.
 use Rattle.std.proofs.Common.{◌≡◌, ℕ, Bool, true, false, List, [], ◌∷◌, ◌++◌, None, Some, codes, refl}
 use Rattle.std.specs.Fmt.{digits}
-use Rattle.est_base.specs.Items.{Event, Reset}
+use Rattle.base_types.specs.Items.{Event, Reset}
 use Rattle.net_ir.specs.declared.netlist.Op.TheVariants as ops
 use Rattle.net_ir.specs.Netlists.{Netlist}
-use Rattle.csub_text.specs.Trees.{Expr, Name, Const, Not, And, Or, NoExprs, MoreExprs, State, Assign, Program}
+use Rattle.csub_text.specs.Trees.{Expr, Name, Const, Not, And, Or, NoExprs, MoreExprs, StateVariable, Assign, Program}
 use Rattle.csub_text.specs.Tokens.{Token, Kind, Static, Int, Return, Void, React, LeftParenthesis, RightParenthesis}
 use Rattle.csub_text.specs.Tokens.{LeftBrace, RightBrace, Semicolon, Equals, Zero, One, Bar, Ampersand, Bang, Named, Bad}
 use Rattle.csub_text.specs.Tokens.{tokens}
 use Rattle.csub_text.specs.Names.{name_fault, Twice, Undeclared, Unset}
-use Rattle.csub_text.specs.Machine.{Seen, run}
+use Rattle.csub_text.specs.Machine.{SeenCall, run}
 use Rattle.csub_text.specs.Written.{written, net_program}
 
 abbrev tok : Kind → ℕ → Token
 tok kind at = record { kind = kind; at = at }
 
-abbrev state : List ℕ → Bool → State
+abbrev state : List ℕ → Bool → StateVariable
 state name init = record { name = name; init = init }
 
 abbrev assign : List ℕ → Expr → Assign
 assign target value = record { target = target; value = value }
 
-abbrev seen_as : List Bool → Bool → Seen
+abbrev seen_as : List Bool → Bool → SeenCall
 seen_as outputs answer = record { outputs = outputs; answer = answer }
 
 tokens_0 : tokens [] ≡ []

@@ -1,6 +1,6 @@
 -- Worked tests of single tokens, by hand: each kind's number, and what it is in an expression and in a declaration.
 use Rattle.std.proofs.Common.{◌≡◌, true, false, List, [], ◌∷◌, map, None, Some, codes, refl}
-use Rattle.expr_text.specs.Signs.{NameSign, BitSign, NotSign, OpenSign, CloseSign, AndSign, OrSign, OtherSign}
+use Rattle.net_expressions.specs.Signs.{NameSign, BitSign, NotSign, OpenSign, CloseSign, AndSign, OrSign, OtherSign}
 use Rattle.csub_text.specs.Tokens.{Kind, Static, Int, Return, Void, React, If, Else, LeftParenthesis, RightParenthesis, LeftBrace, RightBrace}
 use Rattle.csub_text.specs.Tokens.{Semicolon, Equals, Zero, One, Bar, Ampersand, Bang, Named, Bad}
 use Rattle.csub_text.specs.Grammar.{kind_number, is, sign, name, bit, global_name, own_name}

@@ -1,15 +1,15 @@
 -- Worked faults of names of C programs, by hand: which of several names is the fault, and which rule comes first.
 use Rattle.std.proofs.Common.{◌≡◌, ℕ, false, List, [], ◌∷◌, None, Some, Option, codes, refl}
-use Rattle.csub_text.specs.Trees.{Expr, Name, Const, Not, And, Or, NoExprs, MoreExprs, State, Assign}
+use Rattle.csub_text.specs.Trees.{Expr, Name, Const, Not, And, Or, NoExprs, MoreExprs, StateVariable, Assign}
 use Rattle.csub_text.specs.Names.{NameFault, name_fault, Twice, Undeclared, Unset}
 
-abbrev state : List ℕ → State
+abbrev state : List ℕ → StateVariable
 state name = record { name = name; init = false }
 
 abbrev assign : List ℕ → Expr → Assign
 assign target value = record { target = target; value = value }
 
-abbrev fault : List State → List (List ℕ) → List (List ℕ) → List Assign → Expr → Option NameFault
+abbrev fault : List StateVariable → List (List ℕ) → List (List ℕ) → List Assign → Expr → Option NameFault
 fault states globals locals body answer =
     name_fault (record { states = states; globals = globals; locals = locals; body = body; answer = answer })
 

@@ -1,6 +1,6 @@
 -- A worked text: its tokens, what they spell, and the program that it describes; and what describes none.
 use Rattle.std.proofs.Common.{◌≡◌, ◌<◌, ℕ, true, false, List, [], ◌∷◌, Some, map, codes, refl, arith, lit≤}
-use Rattle.expr_text.specs.Grammar.{Word, Bit, Not, Round}
+use Rattle.net_expressions.specs.Grammar.{Word, Bit, Not, Round}
 use Rattle.csub_text.specs.Trees.{Program, Name}
 use Rattle.csub_text.specs.Trees as trees
 use Rattle.csub_text.specs.Tokens.{Static, Int, Return, Void, React, LeftParenthesis, RightParenthesis, LeftBrace, RightBrace}

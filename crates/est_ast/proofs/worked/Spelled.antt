@@ -1,7 +1,7 @@
 -- Tokens, trees and spellings, as worked examples write them.
 use Rattle.std.specs.Prelude.{◌≡◌, ℕ, List, [], ◌∷◌, ◌++◌, Option, Some}
 use Rattle.std.proofs.Common.{refl}
-use Rattle.est_base.specs.declared.place.Span.{Span}
+use Rattle.base_types.specs.declared.place.Span.{Span}
 use Rattle.est_ast.specs.declared.tokens.Token.{Token}
 use Rattle.est_ast.specs.declared.tokens.Kind.{Kind}
 use Rattle.est_ast.specs.declared.tokens.Kind.TheVariants as kinds
@@ -10,7 +10,7 @@ use Rattle.est_ast.specs.declared.tokens.Mark.{Mark}
 use Rattle.est_ast.specs.declared.trees.Name.{Name}
 use Rattle.est_ast.specs.declared.trees.Rename.{Rename}
 use Rattle.est_ast.specs.Trees.{Decl, Stmt, Module}
-use Rattle.read_rules.specs.Languages.{One, Then, Led}
+use Rattle.base_reader.specs.Languages.{One, Then, Led}
 
 abbrev pub w : Reserved → Kind
 w word = kinds.Reserved word

@@ -1,6 +1,6 @@
 -- What no text spells, by hand: the trees that the grammar has no production for.
 use Rattle.std.proofs.Common.{ℕ, List, []}
-use Rattle.est_base.specs.declared.place.Span.{Span}
+use Rattle.base_types.specs.declared.place.Span.{Span}
 use Rattle.est_ast.specs.declared.tokens.Token.{Token}
 use Rattle.est_ast.specs.Trees.{Expr, Not, And, Or, Round, Exprs, NoExprs, MoreExprs, Immediate, Count, Seq, Par, Stmts, NoCases, Excludes}
 use Rattle.est_ast.specs.Grammar.{SpellsExpr, Disjunction, Conjunction, Negation, SpellsEvent, SpellsCount, SpellsTest, SpellsItem, SpellsCases}

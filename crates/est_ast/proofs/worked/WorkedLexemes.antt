@@ -5,7 +5,7 @@ use Rattle.est_ast.specs.declared.tokens.Kind.TheVariants as kinds
 use Rattle.est_ast.specs.declared.tokens.Reserved.TheVariants as words
 use Rattle.est_ast.specs.Lexing.{Makes}
 use Rattle.est_ast.specs.Lexemes.{IsSpace, IsLetter, IsDigit, IsNameByte, HasByte, OpensComment, ClosesComment, BeginsWithSpace, BeginsWithLineComment}
-use Rattle.est_ast.specs.Lexemes.{BeginsWithBlockComment, BeginsWithWord, BeginsWithNumeral, BeginsWithMark, Begins}
+use Rattle.est_ast.specs.Lexemes.{BeginsWithBlockComment, BeginsWithWord, BeginsWithNumeral, BeginsWithMark, BeginsPart}
 use Rattle.est_ast.specs.Lexemes.{Space, LineComment, BlockComment, Word, Numeral, Sign}
 use Rattle.est_ast.specs.Lexemes.{BeginsLongest}
 
@@ -154,7 +154,7 @@ no_numeral_with_a_letter h = let l = h.digits 1 (lit< tt) in omega (arith, l)
 a_mark : BeginsWithMark (codes "=>a") 2
 a_mark = record { mark = marks.Arrow; length_is = refl; written = refl }
 
-of_each_kind : Begins Space (codes " a") 1 × Begins Word (codes "a_ ") 2 × Begins Numeral (codes "10a") 2
+of_each_kind : BeginsPart Space (codes " a") 1 × BeginsPart Word (codes "a_ ") 2 × BeginsPart Numeral (codes "10a") 2
 of_each_kind = (a_space, a_word, a_numeral)
 
 no_shorter_word : BeginsLongest Word (codes "a_ ") 1 → ⊥

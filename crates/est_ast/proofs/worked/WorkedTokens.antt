@@ -7,7 +7,7 @@ use Rattle.est_ast.specs.declared.tokens.Reserved.TheVariants as words
 use Rattle.est_ast.specs.declared.tokens.Mark.{Mark}
 use Rattle.est_ast.specs.declared.tokens.Mark.TheVariants as marks
 use Rattle.est_ast.specs.Spelling.{spelling, sign}
-use Rattle.est_ast.specs.Lexing.{BeginsWithBadByte, Piece, number_of, width_of, tokens_from}
+use Rattle.est_ast.specs.Lexing.{BeginsWithBadByte, TextPiece, number_of, width_of, tokens_from}
 use Rattle.est_ast.specs.Grammar.{span_of}
 use Rattle.est_ast.proofs.worked.Spelled.{w, m, i, t, at}
 
@@ -49,7 +49,7 @@ greatest_number = refl
 
 -- ---- places: of `ab ; 12`, cut into a word, a space, a mark, a space and a numeral
 
-abbrev pieces : List Piece
+abbrev pieces : List TextPiece
 pieces =
     record { width = 2; token = Some (i (codes "ab")) } ∷ record { width = 1; token = None } ∷ record { width = 1; token = Some (m marks.Semicolon) }
     ∷ record { width = 1; token = None } ∷ record { width = 2; token = Some (kinds.Number 12) } ∷ []

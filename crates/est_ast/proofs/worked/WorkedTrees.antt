@@ -1,6 +1,6 @@
 -- Worked lists of parts, by hand, of source trees and of flat ones.
 use Rattle.std.proofs.Common.{◌≡◌, [], ◌∷◌, refl}
-use Rattle.est_base.specs.declared.place.Span.{Span}
+use Rattle.base_types.specs.declared.place.Span.{Span}
 use Rattle.est_ast.specs.Trees as trees
 use Rattle.est_ast.specs.FlatTrees as flat
 

@@ -2,7 +2,7 @@
 -- bad counts in each part, in the order of the text. The kernel terms are from an independent implementation in Python.
 use Rattle.std.specs.Prelude.{◌≡◌, ℕ, [], ◌∷◌}
 use Rattle.std.proofs.Common.{refl}
-use Rattle.est_base.specs.declared.place.Span.{Span}
+use Rattle.base_types.specs.declared.place.Span.{Span}
 use Rattle.est_kernel.specs.Terms as terms
 use Rattle.est_ast.specs.FlatTrees.{Sig, Plain, Immediate, Count, Stmt, At, Pause, Emit, Await, AwaitCase, Present, PresentCase, Loop, LoopEach, Every}
 use Rattle.est_ast.specs.FlatTrees.{Repeat, Abort, AbortCase, WeakAbort, Suspend, Trap, Exit, Signal, Seq, Par, Missing, Written, NoStmts, MoreStmts}

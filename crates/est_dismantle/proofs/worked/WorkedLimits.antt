@@ -1,7 +1,7 @@
 -- What is just within the limits on size, height and traps is a program; one above each is refused, the size first and the traps last.
 use Rattle.std.specs.Prelude.{◌≡◌, nat_lt, if◌then◌else◌}
 use Rattle.std.proofs.Common.{ap, ◌∙◌}
-use Rattle.est_base.specs.declared.bounds.TheConstants.Limits.{KERNEL_NODES, KERNEL_HEIGHT, TRAPS}
+use Rattle.base_types.specs.declared.bounds.TheConstants.Limits.{KERNEL_NODES, KERNEL_HEIGHT, TRAPS}
 use Rattle.est_kernel.specs.Terms.{Term}
 use Rattle.est_kernel.specs.Sizes.{size_of, height_of, trap_depth}
 use Rattle.est_ast.specs.FlatTrees.{Flat}

@@ -2,7 +2,7 @@
 -- names are resolved, and each limit one below and one above.
 use Rattle.std.specs.Prelude.{◌≡◌, ℕ, ◌+◌, true, false, List, [], ◌∷◌, Option, Some, None, Result, Ok, Err, codes, replicate}
 use Rattle.std.proofs.Common.{refl}
-use Rattle.est_base.specs.declared.place.Span.{Span}
+use Rattle.base_types.specs.declared.place.Span.{Span}
 use Rattle.est_ast.specs.declared.trees.Name.{Name}
 use Rattle.est_ast.specs.FlatTrees as flat
 use Rattle.est_ast.specs.Trees.{Expr, Sig, Not, And, Or, Round, Square, NoExprs, MoreExprs, Delay, Plain, Immediate, Count, Stmt, At, Form, Nothing, Pause}
@@ -11,9 +11,9 @@ use Rattle.est_ast.specs.Trees.{Sustain, Await, AwaitCase, Present, PresentCase,
 use Rattle.est_ast.specs.Trees.{Exit}
 use Rattle.est_ast.specs.Trees.{Signal, Run, Seq, Par, Group, Missing, Written, NoHandler, Handled, NoStmts, MoreStmts, NoCases, MoreCases, Output, Module}
 use Rattle.est_names.proofs.worked.PlainTrees.{at, n, modul, as_}
-use Rattle.est_expand.specs.Faults.{Fault, UnknownModule, Recursive, BadRename, UnknownSignal, Unbound, UnknownTrap, EmitInput}
+use Rattle.est_expand.specs.Faults.{FlattenFault, UnknownModule, Recursive, BadRename, UnknownSignal, Unbound, UnknownTrap, EmitInput}
 use Rattle.est_expand.specs.Faults.{TooManyStatements, TooDeep, TooManySignals}
-use Rattle.est_expand.specs.Walks.{Met, meet_statement, meet_signals, meet_added}
+use Rattle.est_expand.specs.Walks.{WalkCounts, meet_statement, meet_signals, meet_added}
 use Rattle.est_expand.specs.Flattening.{Around, flattening, main_flattening, around_main}
 
 -- around a statement of a main module with an input A and an output O, in one trap T
@@ -29,17 +29,17 @@ abbrev module_n : Module
 module_n = modul (n (codes "N") 1 2) (Output (n (codes "F") 3 4 ∷ []) ∷ []) (At (at 0 99) Pause)
 
 -- so many statements, signals and signals to add have been met
-abbrev met : ℕ → ℕ → ℕ → Met
+abbrev met : ℕ → ℕ → ℕ → WalkCounts
 met statements signals added = record { statements = statements; signals = replicate signals (codes "S"); added = added }
 
-abbrev walked : Met → Stmt → Result (flat.Stmt × Met) Fault
+abbrev walked : WalkCounts → Stmt → Result (flat.Stmt × WalkCounts) FlattenFault
 walked before p = flattening (module_n ∷ []) 1 9 around p before
 
-abbrev found : Form → Result (flat.Stmt × Met) Fault
+abbrev found : Form → Result (flat.Stmt × WalkCounts) FlattenFault
 found form = walked (met 1 2 0) (At (at 0 99) form)
 
 -- an unknown signal at this place
-abbrev unknown : ℕ → Result (flat.Stmt × Met) Fault
+abbrev unknown : ℕ → Result (flat.Stmt × WalkCounts) FlattenFault
 unknown k = Err (UnknownSignal (at k (k + 1)))
 
 -- a statement, a test, a delay and a count that have it
@@ -324,7 +324,7 @@ main_depth : main_flattening [] module_n ≡ flattening [] 0 2049 (around_main m
 main_depth = refl
 
 -- the own signals of a statement are counted before its names are resolved: in local signals, and in abortions by a count
-abbrev full : Form → Result (flat.Stmt × Met) Fault
+abbrev full : Form → Result (flat.Stmt × WalkCounts) FlattenFault
 full form = walked (met 0 4095 1) (At (at 0 99) form)
 
 full_signal : full (Signal (n (codes "Y") 5 6 ∷ []) (p 10)) ≡ Err TooManySignals

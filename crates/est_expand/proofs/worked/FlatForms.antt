@@ -1,11 +1,11 @@
 -- Inner: flat programs, as equations write them.
 use Rattle.std.proofs.Common.{ℕ, List, [], Result}
 use Rattle.std.specs.Prelude.{slice_index_or}
-use Rattle.est_base.specs.Relations.{Relation}
+use Rattle.base_types.specs.Relations.{Relation}
 use Rattle.est_ast.specs.FlatTrees.{Stmt, Flat}
-use Rattle.est_ast.specs.Trees.{At, Nothing, Program}
+use Rattle.est_ast.specs.Trees.{At, Nothing, SourceProgram}
 use Rattle.est_names.proofs.worked.PlainTrees.{at, n, modul}
-use Rattle.est_expand.specs.Faults.{Fault}
+use Rattle.est_expand.specs.Faults.{FlattenFault}
 use Rattle.est_expand.specs.Flattening.{flattened}
 
 abbrev pub made : List ℕ → List (List ℕ) → ℕ → ℕ → ℕ → List Relation → Stmt → Flat
@@ -20,5 +20,5 @@ made name signals inputs both outputs relations body = record {
 }
 
 -- the flat form of a program with the main module at this place
-abbrev pub flattened_at : ℕ → Program → Result Flat Fault
+abbrev pub flattened_at : ℕ → SourceProgram → Result Flat FlattenFault
 flattened_at place modules = flattened modules (slice_index_or modules place (modul (n [] 0 0) [] (At (at 0 0) Nothing)))

@@ -1,6 +1,6 @@
 -- Inner: worked programs that are the same but for the names of what they bind, and names that would be captured.
 use Rattle.std.proofs.Common.{◌≡◌, ℕ, true, false, List, [], ◌∷◌, codes, refl, subst}
-use Rattle.est_ast.specs.Trees.{Stmt, At, Emit, Signal, Run, Seq, MoreStmts, NoStmts, Output, Module, Program}
+use Rattle.est_ast.specs.Trees.{Stmt, At, Emit, Signal, Run, Seq, MoreStmts, NoStmts, Output, Module, SourceProgram}
 use Rattle.est_names.proofs.worked.PlainTrees.{at, n, modul, as_}
 use Rattle.est_expand.specs.Flattening.{flattened}
 use Rattle.est_expand.specs.Renaming.{Pairs, Binders, no_binders, are_same, is_same_formal, SameRun, BothMoreRenames, BothNoRenames, SameStmt, BothAt, BothEmit}
@@ -22,14 +22,14 @@ body formal = At (at 20 60) (Signal (n (codes "X") 27 28 ∷ []) (At (at 32 50) 
 abbrev main : List ℕ → Module
 main formal = modul (n (codes "M") 7 8) (Output (n (codes "O") 17 18 ∷ []) ∷ []) (body formal)
 
-abbrev program : List ℕ → List ℕ → Program
+abbrev program : List ℕ → List ℕ → SourceProgram
 program formal hidden = main formal ∷ inner formal hidden ∷ []
 
 -- The formal S gets the name of its actual, and the local signal T the former name of the formal.
-abbrev before : Program
+abbrev before : SourceProgram
 before = program (codes "S") (codes "T")
 
-abbrev renamed : Program
+abbrev renamed : SourceProgram
 renamed = program (codes "X") (codes "S")
 
 bodies_same : (b : Binders) → SameStmt before renamed b (body (codes "S")) (body (codes "X"))

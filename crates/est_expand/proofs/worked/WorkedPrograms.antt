@@ -1,6 +1,6 @@
 -- Inner: equations between the flat form and an independent implementation of it in Python. Generated.
 use Rattle.std.proofs.Common.{◌≡◌, [], ◌∷◌, Ok, Err, codes, refl}
-use Rattle.est_base.specs.Relations as flat_relations
+use Rattle.base_types.specs.Relations as flat_relations
 use Rattle.est_ast.specs.FlatTrees as flat
 use Rattle.est_ast.specs.Trees.{Tick, Sig, Not, And, Or, Round, Square, NoExprs, MoreExprs, Plain, Immediate, Count, At, Nothing, Pause, Halt, Emit, Sustain}
 use Rattle.est_ast.specs.Trees.{Await, AwaitCase, Present, PresentCase, Loop, LoopEach, Every, Repeat, Abort, AbortCase, WeakAbort, Suspend, Trap, Exit, Signal}

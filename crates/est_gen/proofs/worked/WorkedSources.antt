@@ -1,7 +1,7 @@
 -- Worked events and sources, as an implementation of the same rules in another language gives them.
 use Rattle.std.proofs.Common.{◌≡◌, true, false, [], ◌∷◌, codes, refl}
 use Rattle.std.specs.Fmt.{digits}
-use Rattle.est_base.specs.Draws.{first_state, state_after}
+use Rattle.base_types.specs.Draws.{first_state, state_after}
 use Rattle.est_gen.specs.Events.{event_from}
 use Rattle.est_gen.specs.Sources.{source_text}
 

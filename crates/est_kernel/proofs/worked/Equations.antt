@@ -3,12 +3,12 @@
 -- computation. Signal 0 is an input, 1 is input and output, 2 and 3 are outputs, 4 to 6 are local.
 use Rattle.std.specs.Prelude.{◌≡◌, ℕ, ◌+◌, Bool, true, false, List, [], ◌∷◌, filter, map, slice_index_or, Option, Some, None}
 use Rattle.std.proofs.Common.{refl}
-use Rattle.est_base.specs.declared.place.Span.{Span}
+use Rattle.base_types.specs.declared.place.Span.{Span}
 use Rattle.est_kernel.specs.Terms.{Term, Tick, Sig, Not, And, Or, Nothing, Pause, Emit, Exit, Present, Suspend, Seq, Loop, Par, Trap, Local}
 use Rattle.est_kernel.specs.Statuses.{Status, Plus, Minus, Unknown, Environment}
 use Rattle.est_kernel.specs.Potentials.{Potential, must, can, may}
 use Rattle.est_kernel.specs.Steps.{Step, step}
-use Rattle.est_base.specs.Items.{Event, Reset}
+use Rattle.base_types.specs.Items.{Event, Reset}
 use Rattle.est_kernel.specs.Plain.{Interface}
 use Rattle.est_kernel.specs.Reactions.{react, run}
 use Rattle.est_kernel.specs.StaticCodes.{started_codes, resumed_codes, instant_loops}

@@ -2,13 +2,13 @@
 use Rattle.std.specs.Prelude.{◌≡◌, ℕ, ◌+◌, Bool, true, false, List, [], ◌∷◌, filter, map, nat_lt}
 use Rattle.std.proofs.Common.{refl, arith}
 use Rattle.std.proofs.lemmas.Bool.{false≢true}
-use Rattle.est_base.specs.declared.place.Span.{Span}
+use Rattle.base_types.specs.declared.place.Span.{Span}
 use Rattle.est_kernel.specs.Statuses.{Status, Plus, Minus, Unknown, opposite, conjunction, disjunction}
 use Rattle.est_kernel.specs.Terms.{Term, Tick, Sig, Not, And, Or, Nothing, Pause, Emit, Exit, Present, Suspend, Seq, Loop, Par, Trap, Local}
 use Rattle.est_kernel.specs.StaticCodes.{started_codes, resumed_codes, instant_loops}
 use Rattle.est_kernel.specs.Sizes.{size_of, height_of, trap_depth}
 use Rattle.est_kernel.specs.Preorder.{preorder, statement_count}
-use Rattle.est_base.specs.Relations.{Implies, Excludes, Meets}
+use Rattle.base_types.specs.Relations.{Implies, Excludes, Meets}
 use Rattle.est_kernel.specs.WellFormed.{ExitsStandInTraps, SignalsFit}
 
 -- the place of a loop

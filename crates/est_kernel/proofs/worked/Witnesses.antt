@@ -4,12 +4,12 @@ use Rattle.std.specs.Prelude.{◌≡◌, zero, suc, ◌<◌, ◌≤◌, true, fa
 use Rattle.std.proofs.Common.{refl, arith, Box, Global}
 use Rattle.std.proofs.lemmas.Bool.{false≢true}
 use Rattle.std.proofs.lemmas.List.Elements.{All-cons, All-nil}
-use Rattle.est_base.specs.declared.place.Span.{Span}
-use Rattle.est_base.specs.declared.interface.InputRelation.TheVariants as relations_of_inputs
-use Rattle.est_base.specs.Codes.{only}
-use Rattle.est_base.specs.CodeSet.{members}
-use Rattle.est_base.specs.Relations.{relation_of, Implies, Excludes, Meets, MeetsAll}
-use Rattle.est_base.specs.Names.{is_name}
+use Rattle.base_types.specs.declared.place.Span.{Span}
+use Rattle.base_types.specs.declared.interface.InputRelation.TheVariants as relations_of_inputs
+use Rattle.base_types.specs.Codes.{only}
+use Rattle.base_types.specs.CodeSet.{members}
+use Rattle.base_types.specs.Relations.{relation_of, Implies, Excludes, Meets, MeetsAll}
+use Rattle.base_types.specs.Names.{is_name}
 use Rattle.est_kernel.specs.declared.code_lists.Codes.{Codes}
 use Rattle.est_kernel.specs.declared.programs.KernelProgram.{KernelProgram}
 use Rattle.est_kernel.specs.declared.signal_tests.Test.TheVariants as tests

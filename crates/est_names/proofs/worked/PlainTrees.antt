@@ -1,6 +1,6 @@
 -- Inner: plain trees with their places, as equations write them.
 use Rattle.std.proofs.Common.{ℕ, List}
-use Rattle.est_base.specs.declared.place.Span.{Span}
+use Rattle.base_types.specs.declared.place.Span.{Span}
 use Rattle.est_ast.specs.declared.trees.Name.{Name}
 use Rattle.est_ast.specs.declared.trees.Rename.{Rename}
 use Rattle.est_ast.specs.Trees.{Decl, Stmt, Module}

@@ -5,7 +5,7 @@ use Rattle.std.proofs.Common.{refl}
 use Rattle.est_ast.specs.declared.trees.Name.{Name}
 use Rattle.est_ast.specs.Trees.{Expr, Sig, Delay, Plain, Stmt, At, Form, Nothing, Pause, Halt, Emit, Sustain, Await, AwaitCase, Present, PresentCase, Loop}
 use Rattle.est_ast.specs.Trees.{LoopEach, Every, Repeat, Abort, AbortCase, WeakAbort, Suspend, Trap, Exit, Signal, Run, Seq, Par, Group, Missing, Written}
-use Rattle.est_ast.specs.Trees.{NoHandler, Handled, NoStmts, MoreStmts, NoCases, MoreCases, Decl, Input, InputOutput, Output, Relations, Relation, Implies}
+use Rattle.est_ast.specs.Trees.{NoHandler, Handled, NoStmts, MoreStmts, NoCases, MoreCases, Decl, Input, InputOutput, Output, Relations, NamedRelation, Implies}
 use Rattle.est_ast.specs.Trees.{Excludes}
 use Rattle.est_names.specs.declared.refusal.NameFault.{NameFault}
 use Rattle.est_names.specs.declared.refusal.NameFault.TheVariants.{DuplicateModule, NoMain, DuplicateSignal, RelationName}
@@ -104,7 +104,7 @@ many_times = refl
 
 -- ---- interfaces: each with input A, B; inputoutput C; output O
 
-abbrev with_relation : Relation → List Decl
+abbrev with_relation : NamedRelation → List Decl
 with_relation relation =
     Input (n (codes "A") 10 11 ∷ n (codes "B") 12 13 ∷ []) ∷ InputOutput (n (codes "C") 14 15 ∷ []) ∷ Output (n (codes "O") 16 17 ∷ []) ∷
     Relations (relation ∷ []) ∷ []

@@ -3,7 +3,7 @@ use Rattle.std.proofs.Common.{◌≡◌, ℕ, ◌==◌, Bool, true, false, List,
 use Rattle.std.specs.List.{list_any}
 use Rattle.est_kernel.specs.Plain.{Program}
 use Rattle.est_kernel.specs.Terms.{Sig, Pause, Emit, Present}
-use Rattle.grc_graph.specs.GraphRuns.{PlainGraph, Shown, graph_of, program_wires, formula_value, next_state, shown}
+use Rattle.grc_graph.specs.GraphRuns.{PlainGraph, ShownInstant, graph_of, program_wires, formula_value, next_state, shown}
 use Rattle.grc_graph.specs.Layers.{Resumed, Started}
 use Rattle.grc_graph.specs.Walk.{State, Initial, Selecting}
 use Rattle.grc_graph.specs.Wires.{Wire, Out, Go, End, same_wire, listed, codes_below}
@@ -63,7 +63,7 @@ it_ends : asked (Selecting (λ n. n == 2)) (true ∷ []) resumed ≡ had resumed
 unfolding listed codes_below
 it_ends = refl
 
-abbrev shows : Bool → Bool → Shown
+abbrev shows : Bool → Bool → ShownInstant
 shows output paused = record { outputs = output ∷ []; paused = paused }
 
 -- a pause is shown in either layer

@@ -1,6 +1,6 @@
 -- Worked loop bodies, by hand: how many stand around each statement below each form, what tells layers apart, and what a shared instance sees of ends.
 use Rattle.std.proofs.Common.{◌≡◌, ℕ, Bool, true, false, List, [], ◌∷◌, map, refl}
-use Rattle.est_base.specs.declared.place.Span.{Span}
+use Rattle.base_types.specs.declared.place.Span.{Span}
 use Rattle.est_kernel.specs.Terms.{Tick, Term, Nothing, Pause, Emit, Exit, Present, Suspend, Seq, Loop, Par, Trap, Local, Awake}
 use Rattle.grc_graph.specs.Layers.{Resumed, Started, layers_of}
 use Rattle.grc_graph.specs.LoopKeys.{Sharing, loops_at, loops_above, body_sharing, key, lasting}

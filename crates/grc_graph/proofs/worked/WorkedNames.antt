@@ -1,6 +1,6 @@
 -- Worked names of wires, by hand: the paths of a body with every form, what its wires are called, and how many test nodes are live.
 use Rattle.std.proofs.Common.{◌≡◌, ℕ, List, [], ◌∷◌, map, None, Some, codes, refl}
-use Rattle.est_base.specs.declared.place.Span.{Span}
+use Rattle.base_types.specs.declared.place.Span.{Span}
 use Rattle.est_kernel.specs.Plain.{Program}
 use Rattle.est_kernel.specs.Terms.{Tick, Sig, And, Term, Nothing, Pause, Emit, Exit, Present, Suspend, Seq, Loop, Par, Trap, Local}
 use Rattle.grc_graph.specs.GraphSizes.{live_tests}

@@ -1,6 +1,6 @@
 -- Worked plain forms, by hand: what numbers of instances and wires stand for in formulas, nodes and names.
 use Rattle.std.proofs.Common.{◌≡◌, true, false, List, [], ◌∷◌, map, None, Some, codes, refl, ap, ap₂, ◌∙◌, Vec, Global}
-use Rattle.est_base.specs.declared.indices.WireId.{WireId}
+use Rattle.base_types.specs.declared.indices.WireId.{WireId}
 use Rattle.est_kernel.specs.Plain.{program_of, interface_of, interface_count}
 use Rattle.est_kernel.specs.Terms.{Term, Pause, Loop}
 use Rattle.grc_graph.specs.declared.formulas.Formula.TheVariants as formulas
@@ -16,7 +16,7 @@ use Rattle.grc_graph.specs.Formulas as plain_formulas
 use Rattle.grc_graph.specs.Instances.{Instance}
 use Rattle.grc_graph.specs.Layers.{Resumed, Started}
 use Rattle.grc_graph.specs.Nodes as plain_nodes
-use Rattle.grc_graph.specs.PlainGraphs.{wire_at, formula_of, node_of, equations_of, instances_of, names_of, lasting_in, plain_graph}
+use Rattle.grc_graph.specs.PlainGraphs.{wire_at, formula_of, node_form, equations_of, instances_of, names_of, lasting_in, plain_graph}
 use Rattle.grc_graph.specs.PlainInstances.{instance_of, instance_at, wire_of}
 use Rattle.grc_graph.specs.PlainWireNames.{wire_name_of}
 use Rattle.grc_graph.specs.Scopes.{program_scope}
@@ -74,7 +74,7 @@ of_lists v is = ap (λ ws. plain_formulas.any_of (map (λ w. plain_formulas.Valu
 
 -- ---- nodes
 
-of_nodes : map (node_of insts names) (nodes.Fork (record { 0 = 1 }) (record { 0 = 0 }) ∷ nodes.Sync (record { 0 = 1 }) ∷ nodes.Switch (record { 0 = 1 })
+of_nodes : map (node_form insts names) (nodes.Fork (record { 0 = 1 }) (record { 0 = 0 }) ∷ nodes.Sync (record { 0 = 1 }) ∷ nodes.Switch (record { 0 = 1 })
     ∷ nodes.Test (record { 0 = 1 }) ∷ nodes.Enter (record { 0 = 1 }) ∷ nodes.Emit (record { 0 = 1 }) (record { 0 = 0 })
     ∷ nodes.Define (record { 0 = 1 }) (record { 0 = 0 }) ∷ nodes.Exit (record { 0 = 1 }) 4 ∷ nodes.Through (record { 0 = 1 }) ∷ [])
     ≡ plain_nodes.Fork 5 3 (Started 2) ∷ plain_nodes.Sync 5 (Started 2) ∷ plain_nodes.Switch 5 (Started 2) ∷ plain_nodes.Tested 5 (Started 2)

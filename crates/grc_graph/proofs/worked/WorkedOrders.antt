@@ -3,21 +3,21 @@ use Rattle.std.proofs.Common.{◌≡◌, ◌<◌, ◌≤◌, ◌⊎◌, ℕ, zer
 use Rattle.std.proofs.Common.{slice_index_or, codes, refl, inl, inr, ⊎_elim, arith, lit<}
 use Rattle.std.proofs.lemmas.Bool.{false≢true, true≢false}
 use Rattle.std.proofs.lemmas.List.Elements.{All-cons, All-nil}
-use Rattle.est_base.specs.Items.{Event, Reset}
-use Rattle.est_base.specs.declared.bounds.TheConstants.Limits.{WIRES}
-use Rattle.est_base.specs.declared.indices.WireId.{WireId}
-use Rattle.est_base.specs.declared.place.Span.{Span}
+use Rattle.base_types.specs.Items.{Event, Reset}
+use Rattle.base_types.specs.declared.bounds.TheConstants.Limits.{WIRES}
+use Rattle.base_types.specs.declared.indices.WireId.{WireId}
+use Rattle.base_types.specs.declared.place.Span.{Span}
 use Rattle.est_kernel.specs.Plain.{Program, program_of}
 use Rattle.est_kernel.specs.Terms.{Tick, Sig, Term, Nothing, Pause, Emit, Exit, Present, Suspend, Seq, Loop, Par, Trap, Local, Awake}
 use Rattle.grc_graph.specs.BuiltGraphs.{IsGraphOf}
 use Rattle.grc_graph.specs.Edges.{edge}
 use Rattle.grc_graph.specs.Formulas.{Formula, Const, Boot, Value, Conjunction, all_of}
-use Rattle.grc_graph.specs.GraphRuns.{PlainGraph, Solves, IsGraphRun, graph_of, next_state, program_edges, program_spots, program_wires}
+use Rattle.grc_graph.specs.GraphRuns.{PlainGraph, SolvesGraph, IsGraphRun, graph_of, next_state, program_edges, program_spots, program_wires}
 use Rattle.grc_graph.specs.GraphSizes.{graph_size}
 use Rattle.grc_graph.specs.Instances.{Instance, LayerBefore, Before, Ascends, enclosing, body_instances}
 use Rattle.grc_graph.specs.Layers.{Layer, Resumed, Started}
 use Rattle.grc_graph.specs.Nodes as plain
-use Rattle.grc_graph.specs.PlainGraphs.{wire_at, instances_of, names_of, node_of, plain_graph}
+use Rattle.grc_graph.specs.PlainGraphs.{wire_at, instances_of, names_of, node_form, plain_graph}
 use Rattle.grc_graph.specs.Readings.{Valuation}
 use Rattle.grc_graph.specs.Reads.{ReadsOnly, StandsBefore, IsReadingOrder}
 use Rattle.grc_graph.specs.Walk.{State, Initial, Selecting, state_holds, remaining}
@@ -111,19 +111,19 @@ its_edges : program_edges program ≡ edge (Go 0 (Started 0)) (End 0 (Started 0)
 unfolding listed codes_below
 its_edges = refl
 
-it_begins : Solves graph Initial [] (λ w. false) → ⊥
+it_begins : SolvesGraph graph Initial [] (λ w. false) → ⊥
 unfolding listed codes_below
 it_begins h = false≢true (h.met 0 (record { wire = Out 0; formula = Boot }) (lit< tt))
 
-others_are_false : Solves graph Initial [] (λ w. true) → ⊥
+others_are_false : SolvesGraph graph Initial [] (λ w. true) → ⊥
 unfolding listed codes_below
 others_are_false h = true≢false (h.others (Out 9) refl)
 
 of_the_first_instant : (q : State) (V W : Valuation) → IsGraphRun graph q (Event [] ∷ Event [] ∷ []) (V ∷ W ∷ [])
-    → Solves graph q [] V × Solves graph (next_state graph q [] V) [] W
+    → SolvesGraph graph q [] V × SolvesGraph graph (next_state graph q [] V) [] W
 of_the_first_instant q V W h = (h.0, h.1.0)
 
-behind_a_reset : (q : State) (V : Valuation) → IsGraphRun graph q (Reset ∷ Event [] ∷ []) (V ∷ []) → Solves graph Initial [] V
+behind_a_reset : (q : State) (V : Valuation) → IsGraphRun graph q (Reset ∷ Event [] ∷ []) (V ∷ []) → SolvesGraph graph Initial [] V
 behind_a_reset q V h = h.0
 
 -- ---- orders in which the first of two wires reads the second
@@ -188,6 +188,6 @@ in_the_other_order = record {
 
 it_is_of_the_program : (g : Graph) (p : Program) → IsGraphOf g p
     → (program_of g.program ≡ p) × (instances_of g ≡ body_instances p.body) × (names_of g ≡ program_wires p)
-    × (map (node_of (instances_of g) (names_of g)) g.nodes.items ≡ map plain.node_of (program_spots p)) × (plain_graph g ≡ graph_of p)
+    × (map (node_form (instances_of g) (names_of g)) g.nodes.items ≡ map plain.spot_node (program_spots p)) × (plain_graph g ≡ graph_of p)
     × (graph_size p ≤ WIRES) × (g.loops ≡ None)
 it_is_of_the_program g p h = (h.program, h.instances, h.wires, h.nodes, h.graph, h.few, h.own)

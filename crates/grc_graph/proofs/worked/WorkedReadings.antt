@@ -2,8 +2,8 @@
 -- is an order of three wires.
 use Rattle.std.proofs.Common.{◌≡◌, ℕ, ◌==◌, Bool, true, false, List, [], ◌∷◌, Some, map, refl, arith, lit<}
 use Rattle.std.specs.Prelude.{⊤, ◌&&◌}
-use Rattle.est_base.specs.declared.indices.WireId.{WireId}
-use Rattle.est_base.specs.declared.place.Span.{Span}
+use Rattle.base_types.specs.declared.indices.WireId.{WireId}
+use Rattle.base_types.specs.declared.place.Span.{Span}
 use Rattle.est_kernel.specs.Terms.{Tick, Sig, Term, Nothing, Pause, Emit, Exit, Present, Suspend, Seq, Loop, Par, Trap, Local}
 use Rattle.grc_graph.specs.Formulas.{Value, Upto, Kept, Held, Negation, Conjunction, Disjunction}
 use Rattle.grc_graph.specs.Layers.{Resumed, Started}

@@ -1,7 +1,7 @@
 -- Worked counts, by hand: the gates of each form of formula, the live test nodes of each form of statement, and the size of a small graph.
 use Rattle.std.proofs.Common.{◌≡◌, ℕ, true, List, [], ◌∷◌, length, map, codes, refl, ap, arith, Vec, Global}
-use Rattle.est_base.specs.declared.indices.WireId.{WireId}
-use Rattle.est_base.specs.declared.place.Span.{Span}
+use Rattle.base_types.specs.declared.indices.WireId.{WireId}
+use Rattle.base_types.specs.declared.place.Span.{Span}
 use Rattle.est_kernel.specs.Terms.{Tick, Sig, And, Term, Nothing, Pause, Emit, Exit, Present, Suspend, Seq, Loop, Par, Trap, Local, Awake}
 use Rattle.grc_graph.specs.declared.formulas.Formula.TheVariants as formulas
 use Rattle.grc_graph.specs.GateCosts.{any_cost, cost_of}

@@ -5,7 +5,7 @@ use Rattle.grc_graph.specs.declared.trees.SelForm.{SelForm}
 use Rattle.grc_graph.specs.declared.trees.SelForm.TheVariants as forms
 use Rattle.grc_graph.specs.declared.trees.SelNode.{SelNode}
 use Rattle.grc_graph.specs.SelectionTrees.{Leaf, Exclusive, Parallel, Passing}
-use Rattle.grc_graph.specs.TreeForms.{form_of, node_of, is_leaf, end_of, SubtreesNest, leaves_before, is_numbered, LeavesAscend, LeafWithin}
+use Rattle.grc_graph.specs.TreeForms.{form_of, tree_node, is_leaf, end_of, SubtreesNest, leaves_before, is_numbered, LeavesAscend, LeafWithin}
 
 abbrev each : List SelForm
 each = forms.Leaf 4 ∷ forms.Excl ∷ forms.Par true false ∷ forms.Pass ∷ []
@@ -33,7 +33,7 @@ each_within = (lit< tt, tt, tt, tt)
 abbrev node : ℕ → ℕ → SelForm → SelNode
 node path after form = record { path = record { 0 = path }; after = after; form = form }
 
-plain_node : node_of (node 7 3 forms.Excl) ≡ record { path = 7; after = 3; form = Exclusive }
+plain_node : tree_node (node 7 3 forms.Excl) ≡ record { path = 7; after = 3; form = Exclusive }
 plain_node = refl
 
 abbrev any_node : SelNode

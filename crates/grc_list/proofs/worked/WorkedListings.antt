@@ -2,7 +2,7 @@
 use Rattle.std.proofs.Common.{◌≡◌, ℕ, ◌+◌, [], ◌∷◌, codes, refl}
 use Rattle.std.specs.List.{concat}
 use Rattle.std.specs.Fmt.{digits}
-use Rattle.est_base.specs.declared.place.Span.{Span}
+use Rattle.base_types.specs.declared.place.Span.{Span}
 use Rattle.est_kernel.specs.Plain.{Program}
 use Rattle.est_kernel.specs.Terms.{Sig, Nothing, Pause, Emit, Present, Suspend, Seq, Loop, Par, Local}
 use Rattle.grc_graph.specs.Wires.{listed, codes_below}

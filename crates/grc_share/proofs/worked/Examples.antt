@@ -3,7 +3,7 @@
 use Rattle.std.specs.Prelude.{◌≡◌, Bool, true, false, ◌&&◌, List, [], ◌∷◌, filter, length, map, zip}
 use Rattle.std.specs.List.{list_all, list_any}
 use Rattle.std.proofs.Common.{refl}
-use Rattle.est_base.specs.declared.place.Span.{Span}
+use Rattle.base_types.specs.declared.place.Span.{Span}
 use Rattle.est_kernel.specs.Plain.{Program}
 use Rattle.est_kernel.specs.Terms.{Sig, Term, Nothing, Pause, Emit, Present, Seq, Loop, Par, Local}
 use Rattle.grc_graph.specs.Edges.{Edge, edge}

@@ -1,7 +1,7 @@
 -- Worked shared instances, by hand: which instances, statuses and wires are one, and how many are counted. The body is a loop around a sequence of two
 -- pauses: 0 loop, 1 sequence, 2 pause, 3 pause; starts are 0, 1 and 3.
 use Rattle.std.proofs.Common.{◌≡◌, true, false, List, [], ◌∷◌, map, codes, refl}
-use Rattle.est_base.specs.declared.place.Span.{Span}
+use Rattle.base_types.specs.declared.place.Span.{Span}
 use Rattle.est_kernel.specs.Terms.{Sig, Term, Nothing, Pause, Present, Seq, Loop}
 use Rattle.grc_graph.specs.Layers.{Resumed, Started}
 use Rattle.grc_graph.specs.LoopKeys.{Sharing, body_sharing}

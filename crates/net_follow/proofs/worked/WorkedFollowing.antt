@@ -1,7 +1,7 @@
 -- Two small netlists, by hand, of which one does not follow the other; and what it means that one does.
 use Rattle.std.proofs.Common.{◌≡◌, Bool, true, false, List, [], ◌∷◌, None, map, codes, refl, arith, ap}
-use Rattle.est_base.specs.Items.{Item, EachEvent}
-use Rattle.machines.specs.Machines.{Follows}
+use Rattle.base_types.specs.Items.{Item, EachEvent}
+use Rattle.base_machines.specs.Machines.{Follows}
 use Rattle.net_ir.specs.declared.netlist.Op.TheVariants.{Copy, Not}
 use Rattle.net_ir.specs.declared.netlist.Op.{Op}
 use Rattle.net_ir.specs.Netlists.{Netlist}

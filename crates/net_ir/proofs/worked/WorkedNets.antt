@@ -1,12 +1,12 @@
 -- Worked nets: the definitions compute what a reader finds by hand.
 use Rattle.std.proofs.Common.{◌≡◌, ◌^◌, ◌<◌, Bool, true, false, List, [], ◌∷◌, None, Some, codes, refl, sym, map, arith, rules, lit<, lit≤}
 use Rattle.std.proofs.lemmas.Bool.{true≢false}
-use Rattle.est_base.specs.Items.{Event, Reset}
+use Rattle.base_types.specs.Items.{Event, Reset}
 use Rattle.net_ir.specs.declared.netlist.Op.TheVariants.{Const, Copy, Not, And, Or}
 use Rattle.net_ir.specs.declared.netlist.Gate.{Gate}
 use Rattle.net_ir.specs.declared.netlist.NetOut.{NetOut}
 use Rattle.net_ir.specs.Gates.{carried, gate_values, operand_end, value_in}
-use Rattle.est_base.specs.Names.{is_name}
+use Rattle.base_types.specs.Names.{is_name}
 use Rattle.net_ir.specs.NameLists.{is_among, first_again}
 use Rattle.net_ir.specs.Netlists.{Netlist, IsNet, net_count}
 use Rattle.net_ir.specs.Numbered.{numbered}

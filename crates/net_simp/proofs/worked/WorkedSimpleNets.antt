@@ -2,8 +2,8 @@
 use Rattle.std.proofs.Common.{◌≡◌, ℕ, true, false, None, Some, List, [], ◌∷◌, map, codes, refl, sym, ap}
 use Rattle.std.proofs.Common.{length, slice_index_or, inl, inr, arith, rules, lit<, lit≤}
 use Rattle.std.proofs.lemmas.Bool.{true≢false}
-use Rattle.est_base.specs.Items.{Event}
-use Rattle.est_base.specs.declared.indices.NetId.{NetId}
+use Rattle.base_types.specs.Items.{Event}
+use Rattle.base_types.specs.declared.indices.NetId.{NetId}
 use Rattle.net_ir.specs.declared.netlist.Op.{Op}
 use Rattle.net_ir.specs.declared.netlist.Op.TheVariants.{Const, Copy, Not, And, Or}
 use Rattle.net_ir.specs.declared.netlist.Gate.{Gate}

@@ -1,14 +1,14 @@
 -- What a fault says of a text, row by row, and where the bound on texts lies.
 use Rattle.std.proofs.Common.{◌≡◌, ◌≤◌, ℕ, List, length, Some, sym, ◌∙◌, arith}
-use Rattle.expr_text.specs.Lexemes.{IsFaultPlace}
-use Rattle.expr_text.specs.Grammar.{Written}
+use Rattle.net_expressions.specs.Lexemes.{IsFaultPlace}
+use Rattle.net_expressions.specs.Grammar.{Written}
 use Rattle.vlog_text.specs.Trees.{Source}
 use Rattle.vlog_text.specs.Tokens.{tokens, kinds}
 use Rattle.vlog_text.specs.Grammar.{IsText, source_meant}
 use Rattle.vlog_text.specs.Names as names
 use Rattle.vlog_text.specs.Names.{NameFault, name_fault}
 use Rattle.vlog_text.specs.Texts.{Describes}
-use Rattle.vlog_text.specs.Trees.{Module}
+use Rattle.vlog_text.specs.Trees.{VerilogModule}
 use Rattle.vlog_read.specs.declared.refusal.VlogFault.TheVariants as faults
 use Rattle.vlog_read.specs.Faults.{ReadsAs, ReadsFault}
 
@@ -20,15 +20,15 @@ one_byte_too_long text long = omega (arith, long)
 not_at_the_bound : (text : List ℕ) → length text ≡ 268435456 → ReadsFault text faults.TooLong → ⊥
 not_at_the_bound text whole h = omega (arith, whole, h)
 
-read_at_the_bound : (text : List ℕ) (p : Module) → ReadsAs text p → length text ≤ 268435456
+read_at_the_bound : (text : List ℕ) (p : VerilogModule) → ReadsAs text p → length text ≤ 268435456
 read_at_the_bound text p h = h.short
 
 -- ---- what is read
 
-it_is_described : (text : List ℕ) (p : Module) → ReadsAs text p → Describes text p
+it_is_described : (text : List ℕ) (p : VerilogModule) → ReadsAs text p → Describes text p
 it_is_described text p h = h.describes
 
-one_text_has_one_reading : (text : List ℕ) (p q : Module) → ReadsAs text p → ReadsAs text q → p ≡ q
+one_text_has_one_reading : (text : List ℕ) (p q : VerilogModule) → ReadsAs text p → ReadsAs text q → p ≡ q
 one_text_has_one_reading text p q h k = h.only p h.describes ∙ sym (h.only q k.describes)
 
 -- ---- faults of the grammar, and of names in what is written

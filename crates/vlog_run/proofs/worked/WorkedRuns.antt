@@ -1,15 +1,15 @@
 -- Worked modules: their valuations over items, their lines, and a combinational cycle. The values are those of an
 -- implementation in Python.
 use Rattle.std.proofs.Common.{◌≡◌, ℕ, ◌+◌, ◌<◌, zero, suc, Bool, true, false, List, [], ◌∷◌, map, codes, refl, arith}
-use Rattle.est_base.specs.Items.{Item, Event, Reset}
-use Rattle.expr_text.specs.Trees.{Expr, Exprs, Name, Const, Not, And, Or, NoExprs, MoreExprs}
-use Rattle.machines.specs.Machines.{IsRun, Shows}
+use Rattle.base_types.specs.Items.{Item, Event, Reset}
+use Rattle.net_expressions.specs.Trees.{Expr, Exprs, Name, Const, Not, And, Or, NoExprs, MoreExprs}
+use Rattle.base_machines.specs.Machines.{IsRun, Shows}
 use Rattle.net_ir.proofs.Exports.{looked_up}
-use Rattle.trace_run.specs.Machines.{Answer, answer_lines}
+use Rattle.run_over_traces.specs.Machines.{ShownAnswer, answer_lines}
 use Rattle.vlog_text.specs.Machine.{initial_registers, vlog_machine}
 use Rattle.vlog_text.specs.Texts.{Describes}
-use Rattle.vlog_text.specs.Trees.{Module}
-use Rattle.step_run.specs.Equations.{NeedsName, name_at}
+use Rattle.vlog_text.specs.Trees.{VerilogModule}
+use Rattle.run_steps.specs.Equations.{NeedsName, name_at}
 use Rattle.vlog_run.specs.Loops.{IsDescribed, IsLoop, equation_of, equations_of}
 use Rattle.vlog_run.specs.ModuleAnswers.{bare_inputs, bare_outputs, module_answer, module_shows, tells_pause}
 
@@ -17,7 +17,7 @@ abbrev two : Expr → Expr → Exprs
 two a b = MoreExprs a (MoreExprs b NoExprs)
 
 -- assign g0 = i_A & s0; assign g1 = ~g0; assign o_O = g0; assign paused = s0; s0, at first 0, gets g1
-abbrev toggle : Module
+abbrev toggle : VerilogModule
 toggle = record {
   name = codes "m_T";
   inputs = codes "clk" ∷ codes "i_A" ∷ [];
@@ -73,7 +73,7 @@ toggle_lines = refl
 
 -- assign o_Z = w | ~(i_A & p); assign w = q & ~i_B & (p | 1'b0); assign o_Y = ~~p; p, at first 1, gets o_Z; q, at first
 -- 0, gets p
-abbrev turned : Module
+abbrev turned : VerilogModule
 turned = record {
   name = codes "turn";
   inputs = codes "tick" ∷ codes "i_B" ∷ codes "i_A" ∷ [];
@@ -132,7 +132,7 @@ turned_lines : answer_lines (bare_outputs turned) (map (module_answer turned) (m
 turned_lines = refl
 
 -- assign g0 = g1; assign g1 = ~g0;
-abbrev turning : Module
+abbrev turning : VerilogModule
 turning = record {
   name = codes "m_T";
   inputs = codes "clk" ∷ [];
@@ -169,9 +169,9 @@ turning_loop = record {
 who_tells : map tells_pause (toggle.outputs ∷ turned.outputs ∷ [] ∷ []) ≡ true ∷ false ∷ false ∷ []
 who_tells = refl
 
-what_is_shown_over_items : (design : Module) (items : List Item) (answers : List Answer) → module_shows design items answers
+what_is_shown_over_items : (design : VerilogModule) (items : List Item) (answers : List ShownAnswer) → module_shows design items answers
     → Shows (vlog_machine design) (module_answer design) (initial_registers design) items answers
 what_is_shown_over_items design items answers h = h
 
-described : (design : Module) (text : List ℕ) → Describes text design → IsDescribed design
+described : (design : VerilogModule) (text : List ℕ) → Describes text design → IsDescribed design
 described design text is = (text, is)

@@ -2,10 +2,10 @@
 use Rattle.std.proofs.Common.{◌≡◌, ℕ, List, Vec, Global}
 use Rattle.net_ir.specs.Netlists.{Netlist}
 use Rattle.vlog_text.specs.Names as names
-use Rattle.vlog_text.specs.Trees.{Module}
+use Rattle.vlog_text.specs.Trees.{VerilogModule}
 use Rattle.vlog_text.specs.Written.{written, Means}
 use Rattle.vlog_read.specs.Faults.{ReadsAs, IsSyntaxFault, IsNameFault}
-use Rattle.vlog_run.specs.declared.language.TextFault.TheVariants.{Syntax, Twice, Port, Undeclared, TwoDrivers, NoDriver, Loop}
+use Rattle.vlog_run.specs.declared.language.VerilogTextFault.TheVariants.{Syntax, Twice, Port, Undeclared, TwoDrivers, NoDriver, Loop}
 use Rattle.vlog_run.specs.Loops.{IsLoop, HasNoLoop}
 use Rattle.vlog_run.specs.Texts.{IsTextFault, ReadsModule, IsWritten}
 
@@ -27,10 +27,11 @@ two_drivers text name h = h
 no_driver : (text name : List ℕ) → IsTextFault text (NoDriver name) → IsNameFault text (names.NoDriver name)
 no_driver text name h = h
 
-a_cycle : (text : List ℕ) (names : Vec (List ℕ) Global) → IsTextFault text (Loop names) → (design : Module) × ReadsAs text design × IsLoop design names.items
+a_cycle : (text : List ℕ) (names : Vec (List ℕ) Global) → IsTextFault text (Loop names)
+    → (design : VerilogModule) × ReadsAs text design × IsLoop design names.items
 a_cycle text names h = h
 
-what_can_be_run : (text : List ℕ) (design : Module) → ReadsModule text design → ReadsAs text design × HasNoLoop design
+what_can_be_run : (text : List ℕ) (design : VerilogModule) → ReadsModule text design → ReadsAs text design × HasNoLoop design
 what_can_be_run text design h = (h.is_read, h.acyclic)
 
 what_is_written : (text : List ℕ) (net : Netlist) → IsWritten text net → (text ≡ written net) × Means text net

@@ -2,14 +2,14 @@
 -- tokens of texts, the faults of names and the modules of sources, and the texts of nets. Generated.
 use Rattle.std.proofs.Common.{◌≡◌, ℕ, Bool, true, false, List, [], ◌∷◌, ◌++◌, None, Some, codes, refl}
 use Rattle.std.specs.Fmt.{digits}
-use Rattle.est_base.specs.Items.{Event, Reset}
-use Rattle.machines.specs.Machines.{IsRun}
+use Rattle.base_types.specs.Items.{Event, Reset}
+use Rattle.base_machines.specs.Machines.{IsRun}
 use Rattle.net_ir.specs.NameLists.{is_among}
 use Rattle.net_ir.specs.declared.netlist.Op.TheVariants as ops
 use Rattle.net_ir.specs.Netlists.{Netlist}
-use Rattle.expr_text.specs.Trees.{Expr, Name, Const, Not, And, Or, NoExprs, MoreExprs}
+use Rattle.net_expressions.specs.Trees.{Expr, Name, Const, Not, And, Or, NoExprs, MoreExprs}
 use Rattle.vlog_text.specs.Trees.{Sort, Input, Output, Wire, Reg, Declaration, Initial, Assign, Next, Source, Register}
-use Rattle.vlog_text.specs.Trees.{Module}
+use Rattle.vlog_text.specs.Trees.{VerilogModule}
 use Rattle.vlog_text.specs.Tokens.{Token, Kind, ModuleWord, InitialWord, AssignWord, AlwaysWord, PosedgeWord, BeginWord}
 use Rattle.vlog_text.specs.Tokens.{EndWord, EndmoduleWord, LeftParenthesis, RightParenthesis, Comma, Semicolon, Equals}
 use Rattle.vlog_text.specs.Tokens.{At, Bar, Ampersand, Tilde, Becomes, Zero, One, Declares, Named, Bad, tokens}
@@ -144,7 +144,7 @@ case_0 = record {
 case_0_fault : name_fault case_0 ≡ None
 case_0_fault = refl
 
-abbrev case_0_module : Module
+abbrev case_0_module : VerilogModule
 case_0_module = record {
   name = (codes "m_T");
   inputs = ((codes "clk") ∷ (codes "i_A") ∷ []);
@@ -430,7 +430,7 @@ case_17 = record {
 case_17_fault : name_fault case_17 ≡ None
 case_17_fault = refl
 
-abbrev case_17_module : Module
+abbrev case_17_module : VerilogModule
 case_17_module = record {
   name = (codes "m_T");
   inputs = ((codes "clk") ∷ (codes "i_A") ∷ []);
@@ -508,7 +508,7 @@ case_21 = record {
 case_21_fault : name_fault case_21 ≡ None
 case_21_fault = refl
 
-abbrev case_21_module : Module
+abbrev case_21_module : VerilogModule
 case_21_module = record {
   name = (codes "m_T");
   inputs = ((codes "o_x") ∷ (codes "i_A") ∷ []);
@@ -583,7 +583,7 @@ case_25 = record {
 case_25_fault : name_fault case_25 ≡ None
 case_25_fault = refl
 
-abbrev case_25_module : Module
+abbrev case_25_module : VerilogModule
 case_25_module = record {
   name = (codes "m");
   inputs = ((codes "clk") ∷ (codes "i_a") ∷ (codes "i__") ∷ []);
@@ -611,7 +611,7 @@ case_26 = record {
 case_26_fault : name_fault case_26 ≡ None
 case_26_fault = refl
 
-abbrev case_26_module : Module
+abbrev case_26_module : VerilogModule
 case_26_module = record {
   name = (codes "m");
   inputs = ((codes "c") ∷ (codes "i__") ∷ []);
@@ -641,7 +641,7 @@ case_27 = record {
 case_27_fault : name_fault case_27 ≡ None
 case_27_fault = refl
 
-abbrev case_27_module : Module
+abbrev case_27_module : VerilogModule
 case_27_module = record {
   name = (codes "m");
   inputs = ((codes "i_x") ∷ (codes "i_b") ∷ []);
@@ -689,7 +689,7 @@ case_29 = record {
 case_29_fault : name_fault case_29 ≡ None
 case_29_fault = refl
 
-abbrev case_29_module : Module
+abbrev case_29_module : VerilogModule
 case_29_module = record {
   name = (codes "m");
   inputs = ((codes "clk") ∷ (codes "i__") ∷ []);
@@ -768,7 +768,7 @@ case_33 = record {
 case_33_fault : name_fault case_33 ≡ None
 case_33_fault = refl
 
-abbrev case_33_module : Module
+abbrev case_33_module : VerilogModule
 case_33_module = record {
   name = (codes "m");
   inputs = ((codes "clk") ∷ []);
@@ -802,7 +802,7 @@ case_34 = record {
 case_34_fault : name_fault case_34 ≡ None
 case_34_fault = refl
 
-abbrev case_34_module : Module
+abbrev case_34_module : VerilogModule
 case_34_module = record {
   name = (codes "m");
   inputs = ((codes "clk") ∷ (codes "i_a") ∷ []);
@@ -834,7 +834,7 @@ case_35 = record {
 case_35_fault : name_fault case_35 ≡ None
 case_35_fault = refl
 
-abbrev case_35_module : Module
+abbrev case_35_module : VerilogModule
 case_35_module = record {
   name = (codes "m");
   inputs = ((codes "c") ∷ (codes "i_a") ∷ (codes "i__") ∷ []);
@@ -864,7 +864,7 @@ case_36 = record {
 case_36_fault : name_fault case_36 ≡ None
 case_36_fault = refl
 
-abbrev case_36_module : Module
+abbrev case_36_module : VerilogModule
 case_36_module = record {
   name = (codes "m");
   inputs = ((codes "clk") ∷ (codes "i__") ∷ (codes "i_a") ∷ []);
@@ -913,7 +913,7 @@ case_38 = record {
 case_38_fault : name_fault case_38 ≡ None
 case_38_fault = refl
 
-abbrev case_38_module : Module
+abbrev case_38_module : VerilogModule
 case_38_module = record {
   name = (codes "m");
   inputs = ((codes "clk") ∷ []);
@@ -961,7 +961,7 @@ case_40 = record {
 case_40_fault : name_fault case_40 ≡ None
 case_40_fault = refl
 
-abbrev case_40_module : Module
+abbrev case_40_module : VerilogModule
 case_40_module = record {
   name = (codes "m");
   inputs = ((codes "c") ∷ (codes "i_a") ∷ (codes "i__") ∷ []);
@@ -989,7 +989,7 @@ case_41 = record {
 case_41_fault : name_fault case_41 ≡ None
 case_41_fault = refl
 
-abbrev case_41_module : Module
+abbrev case_41_module : VerilogModule
 case_41_module = record {
   name = (codes "m");
   inputs = ((codes "clk") ∷ []);
@@ -1017,7 +1017,7 @@ case_42 = record {
 case_42_fault : name_fault case_42 ≡ None
 case_42_fault = refl
 
-abbrev case_42_module : Module
+abbrev case_42_module : VerilogModule
 case_42_module = record {
   name = (codes "m");
   inputs = ((codes "clk") ∷ []);
@@ -1047,7 +1047,7 @@ case_43 = record {
 case_43_fault : name_fault case_43 ≡ None
 case_43_fault = refl
 
-abbrev case_43_module : Module
+abbrev case_43_module : VerilogModule
 case_43_module = record {
   name = (codes "m");
   inputs = ((codes "i_x") ∷ []);
@@ -1078,7 +1078,7 @@ case_44 = record {
 case_44_fault : name_fault case_44 ≡ None
 case_44_fault = refl
 
-abbrev case_44_module : Module
+abbrev case_44_module : VerilogModule
 case_44_module = record {
   name = (codes "m");
   inputs = ((codes "i_x") ∷ (codes "i__") ∷ (codes "i_a") ∷ []);
@@ -1108,7 +1108,7 @@ case_45 = record {
 case_45_fault : name_fault case_45 ≡ None
 case_45_fault = refl
 
-abbrev case_45_module : Module
+abbrev case_45_module : VerilogModule
 case_45_module = record {
   name = (codes "m");
   inputs = ((codes "c") ∷ (codes "i__") ∷ []);
@@ -1138,7 +1138,7 @@ case_46 = record {
 case_46_fault : name_fault case_46 ≡ None
 case_46_fault = refl
 
-abbrev case_46_module : Module
+abbrev case_46_module : VerilogModule
 case_46_module = record {
   name = (codes "m");
   inputs = ((codes "i_x") ∷ (codes "i__") ∷ (codes "i_b") ∷ []);

@@ -1,6 +1,6 @@
 -- Worked tests of single tokens, by hand: each kind's number, and what it is in an expression and in a declaration.
 use Rattle.std.proofs.Common.{◌≡◌, true, false, List, [], ◌∷◌, map, None, Some, codes, refl}
-use Rattle.expr_text.specs.Signs.{NameSign, BitSign, NotSign, OpenSign, CloseSign, AndSign, OrSign, OtherSign}
+use Rattle.net_expressions.specs.Signs.{NameSign, BitSign, NotSign, OpenSign, CloseSign, AndSign, OrSign, OtherSign}
 use Rattle.vlog_text.specs.Trees.{Input}
 use Rattle.vlog_text.specs.Tokens.{Kind, ModuleWord, InitialWord, AssignWord, AlwaysWord, PosedgeWord, BeginWord, EndWord, EndmoduleWord}
 use Rattle.vlog_text.specs.Tokens.{LeftParenthesis, RightParenthesis, Comma, Semicolon, Equals, At, Bar, Ampersand, Tilde, Becomes, Zero, One}

@@ -1,9 +1,9 @@
 -- A worked text: its tokens, what they spell, and the module that it describes; and what describes none.
 use Rattle.std.proofs.Common.{◌≡◌, ◌<◌, ℕ, true, false, List, [], ◌∷◌, ◌++◌, Some, map, codes, refl, arith, lit≤}
-use Rattle.expr_text.specs.Grammar.{Word, Bit, Not, Round, Written}
-use Rattle.expr_text.specs.Trees.{Name}
-use Rattle.expr_text.specs.Trees as trees
-use Rattle.vlog_text.specs.Trees.{Sort, Input, Output, Reg, Declaration, Assign, Source, Module}
+use Rattle.net_expressions.specs.Grammar.{Word, Bit, Not, Round, Written}
+use Rattle.net_expressions.specs.Trees.{Name}
+use Rattle.net_expressions.specs.Trees as trees
+use Rattle.vlog_text.specs.Trees.{Sort, Input, Output, Reg, Declaration, Assign, Source, VerilogModule}
 use Rattle.vlog_text.specs.Tokens.{ModuleWord, InitialWord, AssignWord, AlwaysWord, PosedgeWord, BeginWord, EndWord, EndmoduleWord}
 use Rattle.vlog_text.specs.Tokens.{LeftParenthesis, RightParenthesis, Comma, Semicolon, Equals, At, Tilde, Becomes, One, Declares, Named, kinds}
 use Rattle.vlog_text.specs.Grammar.{SpellsPorts, SpellsText, assigns_nesting, assign_meant, source_meant}
@@ -29,7 +29,7 @@ written = record {
   nexts = record { target = codes "s"; source = codes "i_A" } ∷ [];
 }
 
-abbrev design : Module
+abbrev design : VerilogModule
 design = record {
   name = codes "m";
   inputs = codes "clk" ∷ codes "i_A" ∷ [];
@@ -425,7 +425,7 @@ described = record { written = written; spelled = (spelled, lit≤ tt); means = 
 driven : driven_names design ≡ codes "i_A" ∷ codes "s" ∷ codes "o_O" ∷ []
 driven = refl
 
-what_it_describes : (text : List ℕ) (m : Module) (h : Describes text m) → module_said (source_meant h.written) ≡ m
+what_it_describes : (text : List ℕ) (m : VerilogModule) (h : Describes text m) → module_said (source_meant h.written) ≡ m
 what_it_describes text m h = h.means
 
 -- a module has a port
@@ -447,8 +447,8 @@ without_brackets = refl
 as_deep_as_they_may_be : nesting_limit ≡ 200
 as_deep_as_they_may_be = refl
 
-too_deep : (text : List ℕ) (m : Module) (h : Describes text m) → 200 < assigns_nesting h.written.assigns → ⊥
+too_deep : (text : List ℕ) (m : VerilogModule) (h : Describes text m) → 200 < assigns_nesting h.written.assigns → ⊥
 too_deep text m h deep = let low = h.spelled.1 in omega (arith, low, deep)
 
-names_that_do_not_fit : (text : List ℕ) (m : Module) (h : Describes text m) → name_fault (source_meant h.written) ≡ Some (Twice (codes "x")) → ⊥
+names_that_do_not_fit : (text : List ℕ) (m : VerilogModule) (h : Describes text m) → name_fault (source_meant h.written) ≡ Some (Twice (codes "x")) → ⊥
 names_that_do_not_fit text m h faulty = let fit = h.names_fit in cc

@@ -3,7 +3,7 @@ use Rattle.std.proofs.lemmas.List.{length-map, get_or-map}
 use Rattle.blif_text.specs.declared.circuit.BlifLatch.{BlifLatch}
 use Rattle.blif_text.specs.Circuits.{CircuitLatch}
 use Rattle.blif_text.specs.Plain.{plain_latch}
-use Rattle.step_run.specs.Slots.{slot_in}
+use Rattle.run_steps.specs.Slots.{slot_in}
 use Rattle.blif_net.proofs.assembling.named_latches.Goals as goal
 
 pub bounds-nets-slot_of : goal.bounds-nets-slot_of

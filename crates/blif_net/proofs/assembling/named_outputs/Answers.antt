@@ -1,5 +1,5 @@
 use Rattle.std.proofs.Common.{◌<◌, ℕ, List, length, map, sym, ap, subst, ◌∙◌, arith, rules, Bor}
-use Rattle.step_run.specs.Slots.{slot_in}
+use Rattle.run_steps.specs.Slots.{slot_in}
 use Rattle.blif_net.specs.Interfaces.{HasName}
 use Rattle.blif_net.proofs.assembling.named_outputs.Goals as goal
 

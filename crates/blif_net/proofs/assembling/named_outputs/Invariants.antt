@@ -1,5 +1,5 @@
 use Rattle.std.proofs.Common.{◌≡◌, ℕ, ◌<◌, length, map, take, IsTrue, slice_index_or}
-use Rattle.est_base.specs.Names.{is_name}
+use Rattle.base_types.specs.Names.{is_name}
 use Rattle.net_ir.specs.declared.netlist.NetOut.{NetOut}
 use Rattle.blif_text.specs.OutputNames.{output_word}
 use Rattle.blif_net.specs.Tables.{net_named}

@@ -1,11 +1,11 @@
 use Rattle.std.proofs.Common.{◌≡◌, ◌<◌, ℕ, List, length, map, get_or, ap, ◌∙◌, arith, rules, Bor, slice_index_or}
-use Rattle.est_base.specs.declared.indices.NetId.{NetId}
+use Rattle.base_types.specs.declared.indices.NetId.{NetId}
 use Rattle.blif_text.specs.OutputNames.{paused_word}
 use Rattle.blif_text.specs.Plain.{plain_circuit}
 use Rattle.blif_text.specs.Runs.{driven_names}
 use Rattle.blif_text.proofs.Exports.{described-sound}
 use Rattle.blif_run.specs.CircuitAnswers.{listed_count}
-use Rattle.step_run.specs.Slots.{slot_in}
+use Rattle.run_steps.specs.Slots.{slot_in}
 use Rattle.blif_net.proofs.Netlists.{paused-at, paused-slot, listed-slots, source-slots}
 use Rattle.blif_net.proofs.assembling.named_parts.Goals as goal
 

@@ -1,5 +1,5 @@
 use Rattle.std.proofs.Common.{◌+◌, ◌<◌, List, length, map, All, slice_index_or, sym, ap, subst, ◌∙◌}
-use Rattle.est_base.specs.declared.indices.NetId.{NetId}
+use Rattle.base_types.specs.declared.indices.NetId.{NetId}
 use Rattle.blif_text.specs.Plain.{plain_row}
 use Rattle.blif_net.proofs.Slots.{settles-table, nets-low}
 use Rattle.blif_net.proofs.drawing.draw_table.Goals as goal

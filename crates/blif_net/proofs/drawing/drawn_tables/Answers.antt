@@ -5,9 +5,9 @@ use Rattle.std.proofs.lemmas.List.{length-map, take_all}
 use Rattle.std.proofs.lemmas.List.Elements.{recursion_from_All}
 use Rattle.blif_text.specs.Plain.{plain_circuit, plain_table, plain_row}
 use Rattle.blif_text.proofs.Exports.{described-sound}
-use Rattle.step_run.specs.Solvers.{ordered_steps}
-use Rattle.step_run.specs.Steps.{Step}
-use Rattle.step_run.proofs.Exports.{reads-within, parts-within}
+use Rattle.run_steps.specs.Solvers.{ordered_steps}
+use Rattle.run_steps.specs.Steps.{Step}
+use Rattle.run_steps.proofs.Exports.{reads-within, parts-within}
 use Rattle.blif_run.specs.Loops.{equation_of, equations_of}
 use Rattle.blif_run.specs.Plans.{given_names}
 use Rattle.blif_run.proofs.Exports.{sound-equations, tables-count}

@@ -1,5 +1,5 @@
 use Rattle.std.proofs.Common.{◌≡◌, ℕ, ◌<◌, length, min, slice_index_or}
-use Rattle.est_base.specs.declared.indices.NetId.{NetId}
+use Rattle.base_types.specs.declared.indices.NetId.{NetId}
 use Rattle.blif_net.proofs.drawing.first_nets.Given as goal
 
 abbrev pub invariant-loop-slot : goal.invariant-loop-slot

@@ -1,6 +1,6 @@
 use Rattle.std.proofs.Common.{ℕ, List, IsTrue, sym, ap, ◌∙◌, arith}
 use Rattle.std.proofs.lemmas.Bool.{false≢true}
-use Rattle.est_base.specs.Names.{is_name}
+use Rattle.base_types.specs.Names.{is_name}
 use Rattle.blif_net.proofs.Faults.{first-copied}
 use Rattle.blif_net.proofs.interface.check_inputs.Goals as goal
 

@@ -1,5 +1,5 @@
 use Rattle.std.proofs.Common.{ℕ, ◌<◌, List, IsTrue, slice_index_or}
-use Rattle.est_base.specs.Names.{is_name}
+use Rattle.base_types.specs.Names.{is_name}
 use Rattle.blif_net.proofs.interface.check_inputs.Given as goal
 
 abbrev pub invariant-loop-input : goal.invariant-loop-input

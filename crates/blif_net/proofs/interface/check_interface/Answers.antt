@@ -1,7 +1,7 @@
 use Rattle.std.proofs.Common.{◌≡◌, ℕ, true, List, [], None, All, IsTrue, sym, ap, ◌∙◌, subst}
 use Rattle.std.specs.Result.{OnOk}
-use Rattle.est_base.specs.Names.{is_name}
-use Rattle.est_base.specs.Stops.{IfFault}
+use Rattle.base_types.specs.Names.{is_name}
+use Rattle.base_types.specs.Stops.{IfFault}
 use Rattle.net_ir.specs.NameLists.{first_again}
 use Rattle.blif_text.specs.Plain.{plain_circuit}
 use Rattle.blif_run.specs.CircuitAnswers.{tells_pause, listed_names}

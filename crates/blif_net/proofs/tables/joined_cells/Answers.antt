@@ -1,6 +1,6 @@
 use Rattle.std.proofs.Common.{◌≡◌, ◌+◌, true, false, ◌&&◌, Some, take, get_or, slice_index_or, sym, ap, ◌∙◌, arith, Bool, List}
 use Rattle.std.proofs.lemmas.List.{get_or-map, length-map}
-use Rattle.est_base.specs.declared.indices.NetId.{NetId}
+use Rattle.base_types.specs.declared.indices.NetId.{NetId}
 use Rattle.net_ir.specs.Gates.{value_in, gate_values}
 use Rattle.blif_text.specs.declared.circuit.Cell.{Cell}
 use Rattle.blif_text.specs.Runs.{cell_fits, row_fits}

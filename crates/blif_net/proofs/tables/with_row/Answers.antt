@@ -1,7 +1,7 @@
 use Rattle.std.proofs.Common.{◌≡◌, true, false, ◌||◌, Some, sym, ap, ◌∙◌, arith, Bool, List}
 use Rattle.std.proofs.lemmas.List.{length-map}
-use Rattle.facts.proofs.Tests.{or-false}
-use Rattle.est_base.specs.declared.indices.NetId.{NetId}
+use Rattle.base_facts.proofs.Tests.{or-false}
+use Rattle.base_types.specs.declared.indices.NetId.{NetId}
 use Rattle.net_ir.specs.Gates.{value_in, gate_values}
 use Rattle.blif_text.specs.Runs.{row_fits}
 use Rattle.blif_net.specs.Drawings.{said, read_values}

@@ -2,7 +2,7 @@ use Rattle.std.proofs.Common.{◌≡◌, ℕ, List, [], not, map, sym, ap, ◌�
 use Rattle.std.specs.Prelude.{find, flat_map}
 use Rattle.std.specs.HashSet.{contains_by}
 use Rattle.std.proofs.lemmas.Result.{IfErr-weaker}
-use Rattle.est_base.specs.Names.{is_same_name}
+use Rattle.base_types.specs.Names.{is_same_name}
 use Rattle.net_ir.specs.NameLists.{is_among, first_again}
 use Rattle.blif_text.specs.Circuits.{driven_by, driven_again, not_driven}
 use Rattle.blif_read.specs.PlainStatements.{plain_statement, FoundFault, DriverFault}

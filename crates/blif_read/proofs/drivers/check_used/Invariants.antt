@@ -1,7 +1,7 @@
 use Rattle.std.proofs.Common.{◌≡◌, not, map, drop}
 use Rattle.std.specs.Prelude.{find}
 use Rattle.std.specs.HashSet.{contains_by}
-use Rattle.est_base.specs.Names.{is_same_name}
+use Rattle.base_types.specs.Names.{is_same_name}
 use Rattle.blif_read.proofs.drivers.check_used.Given as goal
 
 -- the first that is lacking is among those that are left

@@ -5,8 +5,8 @@ use Rattle.std.proofs.lemmas.List.{length-map}
 use Rattle.std.proofs.lemmas.List.Elements.{All-from_recursion}
 use Rattle.blif_text.specs.Plain.{plain_circuit, plain_table}
 use Rattle.blif_text.proofs.Exports.{described-sound}
-use Rattle.step_run.specs.Plans.{Makes}
-use Rattle.step_run.proofs.Exports.{each-name, reads-within, parts-within}
+use Rattle.run_steps.specs.Plans.{Makes}
+use Rattle.run_steps.proofs.Exports.{each-name, reads-within, parts-within}
 use Rattle.blif_run.specs.Loops.{equation_of, equations_of}
 use Rattle.blif_run.specs.Plans.{given_names}
 use Rattle.blif_run.specs.Truths.{step_at}

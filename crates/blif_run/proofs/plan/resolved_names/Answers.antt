@@ -4,7 +4,7 @@ use Rattle.net_ir.proofs.Exports.{once-differ}
 use Rattle.blif_text.specs.Plain.{plain_circuit, plain_table}
 use Rattle.blif_text.specs.Runs.{driven_names}
 use Rattle.blif_text.proofs.Exports.{described-sound}
-use Rattle.step_run.proofs.Exports.{driven-count}
+use Rattle.run_steps.proofs.Exports.{driven-count}
 use Rattle.blif_run.specs.Loops.{equation_of, equations_of}
 use Rattle.blif_run.specs.Plans.{given_names, all_names}
 use Rattle.blif_run.proofs.CircuitEquations.{names-are, reads-same}

@@ -2,7 +2,7 @@ use Rattle.std.proofs.Common.{◌<◌, ◌+◌, sym, subst, length, map, All, ar
 use Rattle.std.proofs.lemmas.List.{length-map}
 use Rattle.blif_text.specs.Plain.{plain_circuit}
 use Rattle.blif_text.proofs.Exports.{described-sound}
-use Rattle.step_run.proofs.Exports.{reads-within, each-name, ordered, acyclic, loop, parts-within}
+use Rattle.run_steps.proofs.Exports.{reads-within, each-name, ordered, acyclic, loop, parts-within}
 use Rattle.blif_run.specs.Loops.{equations_of}
 use Rattle.blif_run.specs.Plans.{given_names}
 use Rattle.blif_run.proofs.CircuitEquations.{sound-equations}

@@ -1,6 +1,6 @@
 use Rattle.std.proofs.Common.{◌≡◌, map, take}
 use Rattle.blif_text.specs.Plain.{plain_table}
-use Rattle.step_run.specs.Slots.{slot_in}
+use Rattle.run_steps.specs.Slots.{slot_in}
 use Rattle.blif_run.proofs.slots.slots_read.Given as goal
 
 abbrev pub invariant-loop-table : goal.invariant-loop-table

@@ -1,6 +1,6 @@
 use Rattle.std.proofs.Common.{◌≡◌, map, take}
 use Rattle.blif_text.specs.Plain.{plain_latch}
-use Rattle.step_run.specs.Slots.{slot_in}
+use Rattle.run_steps.specs.Slots.{slot_in}
 use Rattle.blif_run.proofs.slots.source_slots.Given as goal
 
 abbrev pub invariant-loop-latch : goal.invariant-loop-latch

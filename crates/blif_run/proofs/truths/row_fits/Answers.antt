@@ -1,7 +1,7 @@
 use Rattle.std.proofs.Common.{◌+◌, ◌-◌, ◌/◌, sym, ap, ◌∙◌, arith, ◌&&◌, drop}
 use Rattle.blif_text.specs.Runs.{row_fits}
 use Rattle.blif_text.specs.declared.circuit.Cell.TheVariants.{Zero}
-use Rattle.step_run.specs.Plans.{digits}
+use Rattle.run_steps.specs.Plans.{digits}
 use Rattle.blif_run.proofs.TruthTables.{row_fits-width, row_fits-step}
 use Rattle.blif_run.proofs.truths.row_fits.Goals as goal
 

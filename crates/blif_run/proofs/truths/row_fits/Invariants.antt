@@ -1,6 +1,6 @@
 use Rattle.std.proofs.Common.{◌≡◌, ◌-◌, drop}
 use Rattle.blif_text.specs.Runs.{row_fits}
-use Rattle.step_run.specs.Plans.{digits}
+use Rattle.run_steps.specs.Plans.{digits}
 use Rattle.blif_run.proofs.truths.row_fits.Given as goal
 
 abbrev pub invariant-loop-cell : goal.invariant-loop-cell

@@ -1,8 +1,8 @@
 use Rattle.std.proofs.Common.{◌≡◌, ◌+◌, ◌<◌, ◌≤◌, ◌++◌, [], ◌∷◌, length, map, take, get_or, sym, ap, ◌∙◌, subst, arith}
 use Rattle.std.proofs.lemmas.List.{length-map, get_or-map, map-append, take_more}
-use Rattle.facts.proofs.Lists.{all-unmapped}
+use Rattle.base_facts.proofs.Lists.{all-unmapped}
 use Rattle.blif_text.specs.Plain.{plain_table}
-use Rattle.step_run.specs.Plans.{Adds, Makes}
+use Rattle.run_steps.specs.Plans.{Adds, Makes}
 use Rattle.blif_run.specs.Truths.{no_table, step_of, step_at}
 use Rattle.blif_run.proofs.truths.table_plan.Goals as goal
 

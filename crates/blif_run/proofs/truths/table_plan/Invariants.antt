@@ -1,6 +1,6 @@
 use Rattle.std.proofs.Common.{◌≡◌, map, take}
 use Rattle.blif_text.specs.Plain.{plain_table}
-use Rattle.step_run.specs.Plans.{Makes}
+use Rattle.run_steps.specs.Plans.{Makes}
 use Rattle.blif_run.specs.Truths.{step_at}
 use Rattle.blif_run.proofs.truths.table_plan.Given as goal
 

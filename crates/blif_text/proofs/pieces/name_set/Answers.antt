@@ -1,5 +1,5 @@
 use Rattle.std.proofs.Common.{cond, true, take, sym, ap, ◌∙◌, arith}
-use Rattle.est_base.specs.Names.{is_same_name}
+use Rattle.base_types.specs.Names.{is_same_name}
 use Rattle.net_ir.specs.NameLists.{is_among}
 use Rattle.net_ir.proofs.Exports.{is_among-more}
 use Rattle.blif_text.proofs.pieces.name_set.Goals as goal

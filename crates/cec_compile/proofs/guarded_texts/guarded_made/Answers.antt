@@ -1,7 +1,7 @@
 use Rattle.std.proofs.Common.{ap, ◌∙◌, sym, subst}
 use Rattle.std.specs.Prelude.{option_map}
 use Rattle.est_kernel.specs.Plain.{program_of}
-use Rattle.rest_laws.specs.Guarded.{GuardedRuns}
+use Rattle.csub_guard_writer_laws.specs.Guarded.{GuardedRuns}
 use Rattle.cec_compile.proofs.GuardedTexts.{guarded_is, own_made}
 use Rattle.cec_compile.proofs.guarded_texts.guarded_made.Goals as goal
 

@@ -1,5 +1,5 @@
 use Rattle.std.proofs.Common.{sym, subst}
-use Rattle.guard_regions.specs.Regions.{AreRegions, HeadsAreFree}
+use Rattle.grc_regions.specs.Regions.{AreRegions, HeadsAreFree}
 use Rattle.cec_compile.proofs.GuardedTexts.{guarded_by}
 use Rattle.cec_compile.proofs.guarded_texts.guarded_text.Goals as goal
 

@@ -1,9 +1,9 @@
 use Rattle.std.proofs.Common.{◌≡◌, sym, subst}
 use Rattle.std.specs.Prelude.{Some}
-use Rattle.est_base.specs.SinkChanges.{change}
+use Rattle.base_types.specs.SinkChanges.{change}
 use Rattle.est_kernel.specs.Plain.{Program}
-use Rattle.guard_regions.specs.Regions.{AreRegions, HeadsAreFree}
-use Rattle.text_io.proofs.Exports.{pieces_as}
+use Rattle.grc_regions.specs.Regions.{AreRegions, HeadsAreFree}
+use Rattle.cec_text_io.proofs.Exports.{pieces_as}
 use Rattle.cec_compile.specs.Compiling.{IsCompiled}
 use Rattle.cec_compile.specs.MadeGuarded.{IsGuardedBy}
 use Rattle.cec_compile.proofs.GuardedTexts.{guarded_by}

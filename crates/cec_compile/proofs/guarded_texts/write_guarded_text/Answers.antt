@@ -1,8 +1,8 @@
 use Rattle.std.specs.Prelude.{option_map, Some}
-use Rattle.est_base.specs.SinkChanges.{change}
-use Rattle.est_base.proofs.Exports.{appends-nothing}
+use Rattle.base_types.specs.SinkChanges.{change}
+use Rattle.base_types.proofs.Exports.{appends-nothing}
 use Rattle.est_kernel.specs.Plain.{Program}
-use Rattle.text_io.proofs.Exports.{pieces_as}
+use Rattle.cec_text_io.proofs.Exports.{pieces_as}
 use Rattle.cec_compile.specs.Compiling.{IsCompiled}
 use Rattle.cec_compile.specs.MadeGuarded.{IsGuardedBy}
 use Rattle.cec_compile.specs.SourceTexts.{IsSourceText}

@@ -1,9 +1,9 @@
 use Rattle.std.specs.Prelude.{option_map, Some}
-use Rattle.est_base.specs.SinkChanges.{change}
-use Rattle.est_base.proofs.Exports.{appends-nothing}
+use Rattle.base_types.specs.SinkChanges.{change}
+use Rattle.base_types.proofs.Exports.{appends-nothing}
 use Rattle.net_ir.specs.Runs.{netlist_of}
-use Rattle.text_io.specs.NetWriting.{IsWrittenIn}
-use Rattle.text_io.proofs.Exports.{pieces_as}
+use Rattle.cec_text_io.specs.NetWriting.{IsWrittenIn}
+use Rattle.cec_text_io.proofs.Exports.{pieces_as}
 use Rattle.cec_compile.specs.MadeNets.{IsWrittenOf}
 use Rattle.cec_compile.proofs.NetTexts.{made_source}
 use Rattle.cec_compile.proofs.source_texts.write_source_text.Goals as goal

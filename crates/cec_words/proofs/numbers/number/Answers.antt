@@ -2,7 +2,7 @@ use Rattle.std.proofs.Common.{◌∙◌, length, ap, sym, arith}
 use Rattle.std.specs.List.{list_all}
 use Rattle.std.proofs.lemmas.Bool.{eqb-false}
 use Rattle.std.proofs.lemmas.List.{take_all}
-use Rattle.est_base.specs.Names.{is_digit}
+use Rattle.base_types.specs.Names.{is_digit}
 use Rattle.cec_words.specs.Numbers.{decimal_value}
 use Rattle.cec_words.proofs.DecimalValues.{number-over, number-whole}
 use Rattle.cec_words.proofs.numbers.number.Goals as goal

@@ -1,6 +1,6 @@
 use Rattle.std.proofs.Common.{◌≡◌, ◌^◌, ◌<◌, take, true}
 use Rattle.std.specs.List.{list_all}
-use Rattle.est_base.specs.Names.{is_digit}
+use Rattle.base_types.specs.Names.{is_digit}
 use Rattle.cec_words.specs.Numbers.{decimal_value}
 use Rattle.cec_words.proofs.numbers.number.Given as goal
 

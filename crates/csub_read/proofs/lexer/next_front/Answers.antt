@@ -1,5 +1,5 @@
 use Rattle.std.proofs.Common.{sym, ◌∙◌, arith}
-use Rattle.expr_text.proofs.Exports.{differ-eqb}
+use Rattle.net_expressions.proofs.Exports.{differ-eqb}
 use Rattle.csub_read.proofs.LexLaws.{word-front}
 use Rattle.csub_read.proofs.lexer.next_front.Goals as goal
 

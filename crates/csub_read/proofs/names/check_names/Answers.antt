@@ -2,7 +2,7 @@ use Rattle.std.proofs.Common.{◌≡◌, ℕ, List, [], None, map, sym, ap, ◌�
 use Rattle.std.specs.Prelude.{find}
 use Rattle.std.specs.HashSet.{contains_by}
 use Rattle.std.proofs.lemmas.Result.{err_from_is_err_and, on_ok_weaker, IfErr-weaker}
-use Rattle.est_base.specs.Names.{is_same_name}
+use Rattle.base_types.specs.Names.{is_same_name}
 use Rattle.net_ir.specs.NameLists.{is_among, first_again}
 use Rattle.net_ir.proofs.Exports.{find-same}
 use Rattle.csub_text.specs.Names.{declared, declared_twice, is_wrong, name_found, uses, undeclared, unset}

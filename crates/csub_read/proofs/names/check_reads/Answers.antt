@@ -4,8 +4,8 @@ use Rattle.std.specs.HashSet.{contains_by}
 use Rattle.std.specs.List.{list_any}
 use Rattle.std.proofs.lemmas.List.{drop_all}
 use Rattle.std.proofs.lemmas.Result.{err_from_is_err_and, on_ok_weaker, IfErr-weaker}
-use Rattle.facts.proofs.Lists.{drop-at}
-use Rattle.est_base.specs.Names.{is_same_name}
+use Rattle.base_facts.proofs.Lists.{drop-at}
+use Rattle.base_types.specs.Names.{is_same_name}
 use Rattle.net_ir.specs.NameLists.{is_among}
 use Rattle.csub_text.specs.Names.{names_in, unset, unset_from}
 use Rattle.csub_text.specs.Views.{assign_of, expr_of, program_of}

@@ -1,7 +1,7 @@
 use Rattle.std.proofs.Common.{◌≡◌, not, map, drop}
 use Rattle.std.specs.Prelude.{filter}
 use Rattle.std.specs.HashSet.{contains_by}
-use Rattle.est_base.specs.Names.{is_same_name}
+use Rattle.base_types.specs.Names.{is_same_name}
 use Rattle.csub_text.specs.Names.{unset, unset_from}
 use Rattle.csub_text.specs.Views.{assign_of, expr_of, program_of}
 use Rattle.csub_read.proofs.names.check_reads.Given as goal

@@ -1,7 +1,7 @@
 use Rattle.std.proofs.Common.{◌≡◌, ◌&&◌, not, map, drop}
 use Rattle.std.specs.Prelude.{find}
 use Rattle.std.specs.HashSet.{contains_by}
-use Rattle.est_base.specs.Names.{is_same_name}
+use Rattle.base_types.specs.Names.{is_same_name}
 use Rattle.csub_text.specs.Names.{names_in}
 use Rattle.csub_text.specs.Views.{expr_of}
 use Rattle.csub_read.proofs.names.check_set.Given as goal

@@ -1,6 +1,6 @@
 use Rattle.std.proofs.Common.{◌≡◌, ◌<◌, [], true, cond, length, take, get_or, sym, ap, ◌∙◌, arith}
 use Rattle.std.proofs.lemmas.List.{get_or_default}
-use Rattle.est_base.specs.Names.{is_same_name}
+use Rattle.base_types.specs.Names.{is_same_name}
 use Rattle.net_ir.specs.NameLists.{is_among}
 use Rattle.net_ir.proofs.Exports.{is_among-more}
 use Rattle.csub_read.proofs.names.local_set.Goals as goal

@@ -2,13 +2,13 @@ use Rattle.std.proofs.Common.{Err, length, map, sym, ap, ◌∙◌, subst, arith
 use Rattle.std.proofs.lemmas.List.{length-map}
 use Rattle.csub_text.specs.Grammar.{IsText}
 use Rattle.csub_text.specs.Texts.{nesting_limit}
-use Rattle.read_rules.specs.Exact.{IsLeastPlace}
-use Rattle.read_rules.specs.Readings.{whole}
+use Rattle.base_reader.specs.Exact.{IsLeastPlace}
+use Rattle.base_reader.specs.Readings.{whole}
 use Rattle.csub_read.specs.Reading.{GivesKinds, parts_in, makes_expr, text_rule}
 use Rattle.csub_read.specs.Tokens.{kind_of, kind_in}
 use Rattle.csub_text.specs.Tokens.{tokens}
-use Rattle.expr_text.specs.Plain.{token_by}
-use Rattle.expr_text.proofs.Exports.{kinds-are, left-low, fault-place}
+use Rattle.net_expressions.specs.Plain.{token_by}
+use Rattle.net_expressions.proofs.Exports.{kinds-are, left-low, fault-place}
 use Rattle.csub_read.proofs.ReaderLaws.{spells-by, least-by}
 use Rattle.csub_read.proofs.reader.read_tokens.Goals as goal
 

@@ -1,11 +1,11 @@
 use Rattle.std.proofs.Common.{◌∙◌, map}
 use Rattle.std.proofs.lemmas.List.{map-append}
 use Rattle.csub_text.specs.Grammar.{name}
-use Rattle.read_rules.proofs.Exports.{loop-started, loop-grown}
+use Rattle.base_reader.proofs.Exports.{loop-started, loop-grown}
 use Rattle.csub_read.specs.Reading.{makes_expr, assign_behind, assign_step, pair_of}
 use Rattle.csub_read.specs.Tokens.{kind_in}
 use Rattle.csub_read.proofs.Makers.{assigns-mean}
-use Rattle.expr_text.proofs.Exports.{shorter, maybe-both}
+use Rattle.net_expressions.proofs.Exports.{shorter, maybe-both}
 use Rattle.csub_read.proofs.text.read_assigns.Goals as goal
 
 pub assigns-init : goal.assigns-init

@@ -1,11 +1,11 @@
 use Rattle.std.proofs.Common.{None, ◌∙◌, map}
 use Rattle.csub_text.specs.Tokens.{Int, React}
 use Rattle.csub_text.specs.Grammar.{is}
-use Rattle.read_rules.specs.Readings.{mapped, the}
-use Rattle.read_rules.proofs.Exports.{loop-started, loop-grown}
+use Rattle.base_reader.specs.Readings.{mapped, the}
+use Rattle.base_reader.proofs.Exports.{loop-started, loop-grown}
 use Rattle.csub_read.specs.Reading.{global_behind, global_step}
 use Rattle.csub_read.specs.Tokens.{kind_in}
-use Rattle.expr_text.proofs.Exports.{shorter, on-apart}
+use Rattle.net_expressions.proofs.Exports.{shorter, on-apart}
 use Rattle.csub_read.proofs.TextLaws.{global-advances}
 use Rattle.csub_read.proofs.text.read_globals.Goals as goal
 

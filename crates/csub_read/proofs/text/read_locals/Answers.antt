@@ -1,10 +1,10 @@
 use Rattle.std.proofs.Common.{◌∙◌, map}
 use Rattle.csub_text.specs.Tokens.{Int}
 use Rattle.csub_text.specs.Grammar.{is}
-use Rattle.read_rules.proofs.Exports.{loop-started, loop-grown}
+use Rattle.base_reader.proofs.Exports.{loop-started, loop-grown}
 use Rattle.csub_read.specs.Reading.{local_behind, local_step}
 use Rattle.csub_read.specs.Tokens.{kind_in}
-use Rattle.expr_text.proofs.Exports.{shorter, maybe-on}
+use Rattle.net_expressions.proofs.Exports.{shorter, maybe-on}
 use Rattle.csub_read.proofs.TextLaws.{local-advances}
 use Rattle.csub_read.proofs.text.read_locals.Goals as goal
 

@@ -1,7 +1,7 @@
 use Rattle.std.proofs.Common.{◌≡◌, ◌++◌, length, map}
 use Rattle.csub_read.specs.Reading.{local_step}
 use Rattle.csub_read.specs.Tokens.{kind_in}
-use Rattle.read_rules.specs.Readings.{mapped, loop}
+use Rattle.base_reader.specs.Readings.{mapped, loop}
 use Rattle.csub_read.proofs.text.read_locals.Given as goal
 
 -- What was read so far, in front of the steps on the rest, is the whole.

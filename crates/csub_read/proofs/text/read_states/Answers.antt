@@ -3,10 +3,10 @@ use Rattle.std.proofs.lemmas.List.{map-append}
 use Rattle.csub_text.specs.Tokens.{Static}
 use Rattle.csub_text.specs.Grammar.{is}
 use Rattle.csub_text.specs.Views.{state_of}
-use Rattle.read_rules.proofs.Exports.{loop-started, loop-grown}
+use Rattle.base_reader.proofs.Exports.{loop-started, loop-grown}
 use Rattle.csub_read.specs.Reading.{state_behind, state_step}
 use Rattle.csub_read.specs.Tokens.{kind_in}
-use Rattle.expr_text.proofs.Exports.{shorter, maybe-on}
+use Rattle.net_expressions.proofs.Exports.{shorter, maybe-on}
 use Rattle.csub_read.proofs.TextLaws.{state-advances}
 use Rattle.csub_read.proofs.text.read_states.Goals as goal
 

@@ -1,6 +1,6 @@
 use Rattle.std.proofs.Common.{◌≡◌, ◌++◌, map, drop, take}
 use Rattle.std.specs.Prelude.{filter}
-use Rattle.est_base.specs.Names.{is_same_name}
+use Rattle.base_types.specs.Names.{is_same_name}
 use Rattle.csub_run.specs.ProgramAnswers.{bare_name}
 use Rattle.csub_run.proofs.interface.bare_names.Given as goal
 

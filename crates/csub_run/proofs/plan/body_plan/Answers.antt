@@ -3,10 +3,10 @@ use Rattle.std.proofs.lemmas.List.{length-map, get_or-map}
 use Rattle.csub_text.specs.Machine.{value_of}
 use Rattle.csub_text.specs.Names.{declared}
 use Rattle.csub_text.specs.Views.{assign_of, program_of}
-use Rattle.step_run.specs.Slots.{slot_in, memory_in}
-use Rattle.step_run.specs.Plans.{Makes}
-use Rattle.step_run.proofs.Exports.{says-is, value-is}
-use Rattle.step_run.specs.Expressions.{expr_value}
+use Rattle.run_steps.specs.Slots.{slot_in, memory_in}
+use Rattle.run_steps.specs.Plans.{Makes}
+use Rattle.run_steps.proofs.Exports.{says-is, value-is}
+use Rattle.run_steps.specs.Expressions.{expr_value}
 use Rattle.csub_run.specs.Plans.{assign_step}
 use Rattle.csub_run.proofs.Machines.{targets-low}
 use Rattle.csub_run.proofs.plan.body_plan.Goals as goal

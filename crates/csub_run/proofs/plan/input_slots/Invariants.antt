@@ -1,7 +1,7 @@
 use Rattle.std.proofs.Common.{◌≡◌, ◌++◌, map, drop}
 use Rattle.std.specs.Prelude.{filter}
 use Rattle.csub_text.specs.Grammar.{begins_input}
-use Rattle.step_run.specs.Slots.{slot_in}
+use Rattle.run_steps.specs.Slots.{slot_in}
 use Rattle.csub_run.proofs.plan.input_slots.Given as goal
 
 abbrev pub invariant-loop-name : goal.invariant-loop-name

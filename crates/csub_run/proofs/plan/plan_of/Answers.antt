@@ -1,7 +1,7 @@
 use Rattle.std.proofs.Common.{◌≡◌, ap, ◌∙◌, map}
 use Rattle.csub_text.specs.Views.{program_of}
 use Rattle.csub_text.specs.Names.{declared, inputs_of, outputs_of}
-use Rattle.step_run.specs.Slots.{slot_in}
+use Rattle.run_steps.specs.Slots.{slot_in}
 use Rattle.csub_run.proofs.Machines.{names-once}
 use Rattle.csub_run.proofs.plan.plan_of.Goals as goal
 

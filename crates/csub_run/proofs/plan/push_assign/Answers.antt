@@ -1,8 +1,8 @@
 use Rattle.std.proofs.Common.{map, subst}
 use Rattle.std.specs.Prelude.{OnOk}
-use Rattle.expr_text.specs.Views.{expr_of}
-use Rattle.step_run.specs.Expressions.{expr_step}
-use Rattle.step_run.specs.Plans.{Adds}
+use Rattle.net_expressions.specs.Views.{expr_of}
+use Rattle.run_steps.specs.Expressions.{expr_step}
+use Rattle.run_steps.specs.Plans.{Adds}
 use Rattle.csub_run.proofs.plan.push_assign.Goals as goal
 
 pub returns-clause-adds : goal.returns-clause-adds

@@ -1,5 +1,5 @@
 use Rattle.std.proofs.Common.{◌<◌, map, sym, subst, arith}
-use Rattle.step_run.specs.Slots.{slot_in}
+use Rattle.run_steps.specs.Slots.{slot_in}
 use Rattle.csub_run.proofs.plan.push_assigns.Goals as goal
 
 pub push_assign-requires : goal.push_assign-requires

@@ -1,6 +1,6 @@
 use Rattle.std.proofs.Common.{◌≡◌, map, take}
 use Rattle.csub_text.specs.Views.{assign_of}
-use Rattle.step_run.specs.Plans.{Makes}
+use Rattle.run_steps.specs.Plans.{Makes}
 use Rattle.csub_run.specs.Plans.{assign_step}
 use Rattle.csub_run.proofs.plan.push_assigns.Given as goal
 

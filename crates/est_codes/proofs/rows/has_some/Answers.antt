@@ -1,7 +1,7 @@
 use Rattle.std.proofs.Common.{arith, sym, ◌∙◌}
 use Rattle.est_kernel.proofs.Exports.{upto-in}
-use Rattle.est_base.specs.CodeSet.{members}
-use Rattle.est_base.proofs.Exports.{upto-none}
+use Rattle.base_types.specs.CodeSet.{members}
+use Rattle.base_types.proofs.Exports.{upto-none}
 use Rattle.est_codes.proofs.rows.has_some.Goals as goal
 
 pub returns-then-has : goal.returns-then-has

@@ -1,5 +1,5 @@
 use Rattle.std.proofs.Common.{◌≡◌, ℕ, ◌<◌, false}
-use Rattle.est_base.specs.CodeSet.{members}
+use Rattle.base_types.specs.CodeSet.{members}
 use Rattle.est_codes.proofs.rows.has_some.Given as goal
 
 abbrev pub invariant-loop-k : goal.invariant-loop-k

@@ -1,6 +1,6 @@
 use Rattle.std.proofs.Common.{◌∙◌, sym}
-use Rattle.est_base.specs.CodeSet.{members}
-use Rattle.est_base.specs.Codes.{maxima}
+use Rattle.base_types.specs.CodeSet.{members}
+use Rattle.base_types.specs.Codes.{maxima}
 use Rattle.est_kernel.specs.StaticCodes.{has_code, branch_codes}
 use Rattle.est_codes.proofs.CodeSets.{resumed_parallel, test_first, test_second}
 use Rattle.est_codes.proofs.rows.resumed_in_parallel.Goals as goal

@@ -1,5 +1,5 @@
 use Rattle.std.proofs.Common.{◌∙◌, ap}
-use Rattle.est_base.specs.CodeSet.{members}
+use Rattle.base_types.specs.CodeSet.{members}
 use Rattle.est_kernel.specs.StaticCodes.{codes_if}
 use Rattle.est_codes.proofs.CodeSets.{resumed_sequence}
 use Rattle.est_codes.proofs.rows.resumed_in_sequence.Goals as goal

@@ -1,6 +1,6 @@
 use Rattle.std.proofs.Common.{◌≡◌, map, ◌++◌, codes, refl, sym, ◌∙◌, ap, subst}
 use Rattle.std.specs.Prelude.{replicate}
-use Rattle.est_base.specs.Relations.{relation_of}
+use Rattle.base_types.specs.Relations.{relation_of}
 use Rattle.est_kernel.specs.Plain.{term_of}
 use Rattle.est_ast.specs.FlatViews.{flat_of}
 use Rattle.est_ast.specs.NewSignals.{new_in}

@@ -1,6 +1,6 @@
 use Rattle.std.proofs.Common.{◌≡◌, ℕ, ◌+◌, ◌++◌, ◌∷◌, [], List, Bor, map, drop, ap, sym, ◌∙◌, append_assoc, arith}
 use Rattle.std.proofs.lemmas.List.{map-append, at_drop_more}
-use Rattle.est_base.specs.declared.indices.SigId.{SigId}
+use Rattle.base_types.specs.declared.indices.SigId.{SigId}
 use Rattle.est_expand.specs.Flattening.{numbers}
 use Rattle.est_expand.proofs.binders.signals_from.Goals as goal
 

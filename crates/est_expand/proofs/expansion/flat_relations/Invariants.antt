@@ -1,6 +1,6 @@
 use Rattle.std.proofs.Common.{◌≡◌, map, take}
 use Rattle.std.specs.Prelude.{flat_map}
-use Rattle.est_base.specs.Relations.{relation_of}
+use Rattle.base_types.specs.Relations.{relation_of}
 use Rattle.est_ast.specs.Views.{decl_of}
 use Rattle.est_expand.specs.Flattening.{relation_in, relations_in}
 use Rattle.est_expand.proofs.expansion.flat_relations.Given as goal

@@ -1,5 +1,5 @@
 use Rattle.std.proofs.Common.{◌≡◌, ◌++◌, map, take}
-use Rattle.est_base.specs.Relations.{relation_of as input_relation}
+use Rattle.base_types.specs.Relations.{relation_of as input_relation}
 use Rattle.est_ast.specs.Views.{relation_of}
 use Rattle.est_expand.specs.Flattening.{relation_in}
 use Rattle.est_expand.proofs.expansion.push_relations.Given as goal

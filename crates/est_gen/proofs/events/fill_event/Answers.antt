@@ -1,5 +1,5 @@
 use Rattle.std.proofs.Common.{◌+◌, ◌-◌, ◌<◌, ◌==◌, ◌∷◌, ◌++◌, ◌∙◌, length, take, set, ap, sym, arith}
-use Rattle.est_base.specs.Draws.{next_state, state_after, drawn}
+use Rattle.base_types.specs.Draws.{next_state, state_after, drawn}
 use Rattle.est_gen.specs.Events.{event_from}
 use Rattle.est_gen.proofs.Written.{event-more, event_from-more, state_after-more}
 use Rattle.est_gen.proofs.events.fill_event.Goals as goal

@@ -1,5 +1,5 @@
 use Rattle.std.proofs.Common.{◌≡◌, ◌-◌, ◌++◌, take, length}
-use Rattle.est_base.specs.Draws.{state_after}
+use Rattle.base_types.specs.Draws.{state_after}
 use Rattle.est_gen.specs.Events.{event_from}
 use Rattle.est_gen.proofs.events.fill_event.Given as goal
 

@@ -1,6 +1,6 @@
 use Rattle.std.proofs.Common.{◌≡◌, ◌+◌, ◌-◌, ◌*◌, ◌++◌, ◌∙◌, ap, sym, arith}
 use Rattle.std.proofs.lemmas.List.{append-nil}
-use Rattle.est_base.specs.Draws.{state_after}
+use Rattle.base_types.specs.Draws.{state_after}
 use Rattle.est_gen.specs.Sources.{branches_text}
 use Rattle.est_gen.proofs.Written.{written-3, branches_text-more, state_after-branch}
 use Rattle.est_gen.proofs.sources.put_branches.Goals as goal

@@ -1,5 +1,5 @@
 use Rattle.std.proofs.Common.{◌≡◌, ◌-◌, ◌*◌, ◌++◌}
-use Rattle.est_base.specs.Draws.{state_after}
+use Rattle.base_types.specs.Draws.{state_after}
 use Rattle.est_gen.specs.Sources.{branches_text}
 use Rattle.est_gen.proofs.sources.put_branches.Given as goal
 

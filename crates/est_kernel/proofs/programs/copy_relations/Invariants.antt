@@ -1,5 +1,5 @@
 use Rattle.std.proofs.Common.{◌≡◌, map, take}
-use Rattle.est_base.specs.Relations.{relation_of}
+use Rattle.base_types.specs.Relations.{relation_of}
 use Rattle.est_kernel.proofs.programs.copy_relations.Given as goal
 
 abbrev pub invariant-loop-relation : goal.invariant-loop-relation

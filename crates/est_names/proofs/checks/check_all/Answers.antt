@@ -1,7 +1,7 @@
 use Rattle.std.proofs.Common.{◌∷◌, map, drop, sym, ap, ◌∙◌, subst, arith, suc, drop-cons}
 use Rattle.std.specs.Prelude.{flat_map}
 use Rattle.std.proofs.lemmas.Result.{err_from_is_err_and}
-use Rattle.est_base.specs.Stops.{FaultIs}
+use Rattle.base_types.specs.Stops.{FaultIs}
 use Rattle.est_ast.specs.Views.{module_of}
 use Rattle.est_names.specs.NameFaults.{module_faults, IsFirst}
 use Rattle.est_names.proofs.FirstFaults.{IsFirst-append}

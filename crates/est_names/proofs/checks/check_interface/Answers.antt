@@ -1,6 +1,6 @@
 use Rattle.std.proofs.Common.{◌≡◌, [], map, subst}
 use Rattle.std.specs.Prelude.{flat_map, OnOk}
-use Rattle.est_base.specs.Stops.{IfFault}
+use Rattle.base_types.specs.Stops.{IfFault}
 use Rattle.est_ast.specs.Views.{decl_of}
 use Rattle.est_names.specs.Names.{texts}
 use Rattle.est_names.specs.NameFaults.{given_in, IsFirst}

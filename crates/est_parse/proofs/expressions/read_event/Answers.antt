@@ -1,7 +1,7 @@
 use Rattle.std.proofs.Common.{subst}
 use Rattle.est_ast.specs.Views.{expr_of}
-use Rattle.expr_tiers.specs.Reading.{neg, inside}
-use Rattle.read_rules.specs.Found.{Finds}
+use Rattle.base_expressions.specs.Reading.{neg, inside}
+use Rattle.base_reader.specs.Found.{Finds}
 use Rattle.est_parse.specs.Reading.{tests}
 use Rattle.est_parse.proofs.Lists.{finds-plain, event-part}
 use Rattle.est_parse.proofs.expressions.read_event.Goals as goal

@@ -1,7 +1,7 @@
 use Rattle.std.proofs.Common.{◌∙◌, map}
 use Rattle.std.proofs.lemmas.List.{map-append}
 use Rattle.est_ast.specs.Views.{decl_of}
-use Rattle.read_rules.proofs.Exports.{loop-started, maybe-some, loop-grown}
+use Rattle.base_reader.proofs.Exports.{loop-started, maybe-some, loop-grown}
 use Rattle.est_parse.specs.Openings.{declaration}
 use Rattle.est_parse.specs.Reading.{decl, decl_step}
 use Rattle.est_parse.proofs.ModuleLaws.{decl-advances}

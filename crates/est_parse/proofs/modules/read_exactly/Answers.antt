@@ -1,6 +1,6 @@
 use Rattle.est_ast.specs.Nesting.{IsProgram}
 use Rattle.est_ast.specs.Views.{program_of}
-use Rattle.read_rules.proofs.Exports.{GivesExactly-by}
+use Rattle.base_reader.proofs.Exports.{GivesExactly-by}
 use Rattle.est_parse.proofs.ModuleLaws.{program-exact}
 use Rattle.est_parse.proofs.modules.read_exactly.Goals as goal
 

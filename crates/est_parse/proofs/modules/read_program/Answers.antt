@@ -3,7 +3,7 @@ use Rattle.std.proofs.lemmas.List.{map-append}
 use Rattle.est_ast.specs.declared.tokens.Reserved.TheVariants as words
 use Rattle.est_ast.specs.Grammar.{word}
 use Rattle.est_ast.specs.Views.{module_of}
-use Rattle.read_rules.proofs.Exports.{loop-begun, maybe-some, loop-grown}
+use Rattle.base_reader.proofs.Exports.{loop-begun, maybe-some, loop-grown}
 use Rattle.est_parse.specs.Reading.{module_rule, module_step}
 use Rattle.est_parse.proofs.ModuleLaws.{module-advances}
 use Rattle.est_parse.proofs.modules.read_program.Goals as goal

@@ -1,7 +1,7 @@
 use Rattle.std.proofs.Common.{◌≡◌, ◌++◌, length, map}
 use Rattle.est_ast.specs.Views.{module_of}
 use Rattle.est_parse.specs.Reading.{module_step, program}
-use Rattle.read_rules.specs.Readings.{mapped, loop}
+use Rattle.base_reader.specs.Readings.{mapped, loop}
 use Rattle.est_parse.proofs.modules.read_program.Given as goal
 
 -- What was read so far, in front of the steps on the rest, is the whole.

@@ -3,8 +3,8 @@ use Rattle.std.proofs.lemmas.List.{map-append}
 use Rattle.est_ast.specs.declared.tokens.Mark.TheVariants as marks
 use Rattle.est_ast.specs.Grammar.{mark}
 use Rattle.est_ast.specs.Views.{relation_of}
-use Rattle.read_rules.specs.Readings.{give}
-use Rattle.read_rules.proofs.Exports.{loop-begun, optional_or-some, loop-grown}
+use Rattle.base_reader.specs.Readings.{give}
+use Rattle.base_reader.proofs.Exports.{loop-begun, optional_or-some, loop-grown}
 use Rattle.est_parse.specs.Reading.{list_step, relation}
 use Rattle.est_parse.proofs.ModuleLaws.{relations-advances}
 use Rattle.est_parse.proofs.modules.read_relations.Goals as goal

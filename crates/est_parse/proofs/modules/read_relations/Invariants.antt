@@ -2,7 +2,7 @@ use Rattle.std.proofs.Common.{◌≡◌, ◌++◌, length, map}
 use Rattle.est_ast.specs.declared.tokens.Mark.TheVariants as marks
 use Rattle.est_ast.specs.Views.{relation_of}
 use Rattle.est_parse.specs.Reading.{list_step, listed, relation}
-use Rattle.read_rules.specs.Readings.{mapped, loop}
+use Rattle.base_reader.specs.Readings.{mapped, loop}
 use Rattle.est_parse.proofs.modules.read_relations.Given as goal
 
 -- What was read so far, in front of the steps on the rest, is the whole.

@@ -1,8 +1,8 @@
 use Rattle.std.proofs.Common.{◌∷◌, ◌∙◌}
 use Rattle.est_ast.specs.Grammar.{mark, name}
 use Rattle.est_parse.specs.Reading.{list_step}
-use Rattle.read_rules.specs.Readings.{give, the}
-use Rattle.read_rules.proofs.Exports.{loop-begun, optional_or-some, loop-grown}
+use Rattle.base_reader.specs.Readings.{give, the}
+use Rattle.base_reader.proofs.Exports.{loop-begun, optional_or-some, loop-grown}
 use Rattle.est_parse.proofs.Lists.{names-advances}
 use Rattle.est_parse.proofs.names.read_names.Goals as goal
 

@@ -1,7 +1,7 @@
 use Rattle.std.proofs.Common.{◌≡◌, ◌++◌, length}
 use Rattle.est_ast.specs.Grammar.{name}
 use Rattle.est_parse.specs.Reading.{listed, list_step}
-use Rattle.read_rules.specs.Readings.{mapped, loop, the}
+use Rattle.base_reader.specs.Readings.{mapped, loop, the}
 use Rattle.est_parse.proofs.names.read_names.Given as goal
 
 -- What was read so far, in front of the steps on the rest, is the whole.

@@ -2,8 +2,8 @@ use Rattle.std.proofs.Common.{◌∷◌, ◌∙◌}
 use Rattle.est_ast.specs.declared.tokens.Mark.TheVariants as marks
 use Rattle.est_ast.specs.Grammar.{mark}
 use Rattle.est_parse.specs.Reading.{list_step, rename}
-use Rattle.read_rules.specs.Readings.{give}
-use Rattle.read_rules.proofs.Exports.{loop-begun, optional_or-some, loop-grown}
+use Rattle.base_reader.specs.Readings.{give}
+use Rattle.base_reader.proofs.Exports.{loop-begun, optional_or-some, loop-grown}
 use Rattle.est_parse.proofs.StmtLaws.{renames-advances}
 use Rattle.est_parse.proofs.names.read_rename_list.Goals as goal
 

@@ -5,8 +5,8 @@ use Rattle.est_ast.specs.declared.tokens.Mark.TheVariants as marks
 use Rattle.est_ast.specs.Grammar.{word, mark}
 use Rattle.est_ast.specs.Trees.{Seq, Par, cases}
 use Rattle.est_ast.specs.Views.{stmt_of, case_of}
-use Rattle.read_rules.specs.Readings.{picked, give, on}
-use Rattle.read_rules.proofs.Exports.{loop-begun, optional_or-some, trailing-some, loop-grown}
+use Rattle.base_reader.specs.Readings.{picked, give, on}
+use Rattle.base_reader.proofs.Exports.{loop-begun, optional_or-some, trailing-some, loop-grown}
 use Rattle.est_parse.specs.Parts.{stmt_list}
 use Rattle.est_parse.specs.Openings.{opening}
 use Rattle.est_parse.specs.Reading.{item, line, line_step, whole_step, inside, rules, case_behind, case_step}
@@ -14,7 +14,7 @@ use Rattle.est_ast.specs.Views.{form_of}
 use Rattle.est_parse.specs.declared.openings.Opening.TheVariants as openings
 use Rattle.est_parse.specs.Reading.{tail}
 use Rattle.est_parse.proofs.Forms.{form-opened}
-use Rattle.read_rules.specs.Found.{Finds}
+use Rattle.base_reader.specs.Found.{Finds}
 use Rattle.est_parse.proofs.Lists.{on-read, finished-begun, finished-grown}
 use Rattle.est_parse.proofs.StmtLaws.{line-advances, whole-advances, case-advances}
 use Rattle.est_parse.proofs.statements.+statements.Goals as goal

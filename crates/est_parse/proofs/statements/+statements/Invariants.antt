@@ -1,7 +1,7 @@
 use Rattle.std.proofs.Common.{◌≡◌, ◌++◌, ◌+◌, ◌*◌, ◌<◌, length, map, vec_len}
 use Rattle.est_ast.specs.Trees.{Seq, Par, cases}
 use Rattle.est_ast.specs.Views.{stmt_of, case_of}
-use Rattle.read_rules.specs.Readings.{mapped, loop}
+use Rattle.base_reader.specs.Readings.{mapped, loop}
 use Rattle.est_parse.specs.Parts.{stmt_list}
 use Rattle.est_parse.specs.Reading.{finished, line, line_step, whole_step, statement, case_list, case_step, rules, inside}
 use Rattle.est_parse.proofs.statements.+statements.Given as goal

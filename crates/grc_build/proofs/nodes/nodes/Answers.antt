@@ -4,8 +4,8 @@ use Rattle.std.proofs.lemmas.List.{map-append}
 use Rattle.std.proofs.lemmas.List.Elements.{All-push}
 use Rattle.grc_graph.specs.GraphShapes.{node_fits}
 use Rattle.grc_graph.specs.Neighbouring.{instances_in, names_in}
-use Rattle.grc_graph.specs.Nodes.{node_of as spot_node}
-use Rattle.grc_graph.specs.PlainGraphs.{node_of}
+use Rattle.grc_graph.specs.Nodes.{spot_node}
+use Rattle.grc_graph.specs.PlainGraphs.{node_form}
 use Rattle.grc_build.specs.Emitting.{spot_in}
 use Rattle.grc_build.proofs.TableSpots.{spots_in, one_more, all_spots}
 use Rattle.grc_build.proofs.nodes.nodes.Goals as goal
@@ -14,7 +14,7 @@ pub loop-number-init : goal.loop-number-init
 loop-number-init c =
     let insts = instances_in c.args.tables.now.wires in
     let names = names_in c.args.tables.now.wires in (
-      ap (map (node_of insts names)) c.in_ok-list.ensures.items,
+      ap (map (node_form insts names)) c.in_ok-list.ensures.items,
       subst (λ l. All (λ x. IsTrue (node_fits (length insts) (length names) x)) l) (sym c.in_ok-list.ensures.items) (λ k d h. absurd (omega arith)),
     )
 
@@ -30,7 +30,7 @@ loop-number-preserved c =
     let inside : i < length insts = omega (arith, c.count-number-end.ensures) in
     let x = c.node.result in
     let items = c.in_ok-push.ensures.items in (
-      ap (map (node_of insts names)) items ∙ map-append (node_of insts names) c.loop-number.list.items (x ∷ [])
+      ap (map (node_form insts names)) items ∙ map-append (node_form insts names) c.loop-number.list.items (x ∷ [])
           ∙ (λ j. c.loop-number.invariant.0 j ++ c.node.ensures.same j ∷ []) ∙ sym (map-append spot_node (spots_in t i) (spot_in t i ∷ []))
           ∙ ap (map spot_node) (sym (one_more t i inside)),
       subst (λ l. All (λ v. IsTrue (node_fits (length insts) (length names) v)) l) (sym items)

@@ -1,5 +1,5 @@
 use Rattle.std.proofs.Common.{◌≡◌, ap, sym, ◌∙◌, length, ◌+◌, arith}
-use Rattle.est_base.specs.CodeSet.{members}
+use Rattle.base_types.specs.CodeSet.{members}
 use Rattle.grc_graph.specs.Wires.{codes_below}
 use Rattle.grc_graph.proofs.Exports.{codes_below-none}
 use Rattle.grc_build.proofs.GraphSizes.{codes_counted, one_at_most}

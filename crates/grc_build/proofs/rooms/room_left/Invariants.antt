@@ -1,6 +1,6 @@
 use Rattle.std.proofs.Common.{◌≡◌, ◌+◌, map, take}
 use Rattle.std.specs.Prelude.{sum_by}
-use Rattle.est_base.specs.declared.bounds.TheConstants.Limits.{WIRES}
+use Rattle.base_types.specs.declared.bounds.TheConstants.Limits.{WIRES}
 use Rattle.est_kernel.specs.Plain.{program_of, outgoing_count}
 use Rattle.grc_graph.specs.PlainInstances.{instance_of}
 use Rattle.grc_build.specs.Rooms.{size_at}

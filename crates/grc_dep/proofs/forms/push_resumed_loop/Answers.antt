@@ -1,6 +1,6 @@
 use Rattle.std.proofs.Common.{◌∙◌, ◌++◌, ◌∷◌, [], ap}
 use Rattle.std.proofs.lemmas.Result.{on_ok_weaker}
-use Rattle.est_base.specs.Codes.{except}
+use Rattle.base_types.specs.Codes.{except}
 use Rattle.est_kernel.specs.Plain.{term_of}
 use Rattle.est_kernel.specs.StaticCodes.{codes_if, started_codes}
 use Rattle.grc_graph.specs.Layers.{Resumed, Started}

@@ -1,7 +1,7 @@
 use Rattle.std.proofs.Common.{◌∙◌, ◌++◌, ap, sym, arith}
 use Rattle.std.specs.Prelude.{flat_map}
 use Rattle.std.proofs.lemmas.List.{append-nil}
-use Rattle.est_base.specs.CodeSet.{members}
+use Rattle.base_types.specs.CodeSet.{members}
 use Rattle.grc_graph.specs.PlainInstances.{instance_of}
 use Rattle.grc_graph.specs.Wires.{End}
 use Rattle.grc_graph.specs.Edges.{edges_if}

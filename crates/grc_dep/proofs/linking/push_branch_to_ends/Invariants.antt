@@ -1,6 +1,6 @@
 use Rattle.std.proofs.Common.{◌≡◌, ◌++◌}
 use Rattle.std.specs.Prelude.{flat_map}
-use Rattle.est_base.specs.CodeSet.{members}
+use Rattle.base_types.specs.CodeSet.{members}
 use Rattle.grc_graph.specs.PlainInstances.{instance_of}
 use Rattle.grc_graph.specs.Wires.{codes_below}
 use Rattle.grc_dep.specs.Families.{branch_edges}

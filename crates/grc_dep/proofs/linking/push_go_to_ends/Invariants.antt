@@ -1,5 +1,5 @@
 use Rattle.std.proofs.Common.{◌≡◌, ◌++◌, map}
-use Rattle.est_base.specs.CodeSet.{members}
+use Rattle.base_types.specs.CodeSet.{members}
 use Rattle.grc_graph.specs.PlainInstances.{instance_of}
 use Rattle.grc_graph.specs.Wires.{codes_below}
 use Rattle.grc_dep.specs.Families.{go_to_end}

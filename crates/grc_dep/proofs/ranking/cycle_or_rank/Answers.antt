@@ -1,7 +1,7 @@
 use Rattle.std.proofs.Common.{◌∙◌, ap, subst}
-use Rattle.digraph.specs.Walks.{AreRanks}
-use Rattle.digraph.specs.Answers.{IsAnswer}
-use Rattle.digraph.specs.declared.ranking.RanksOrCycle.TheVariants.{Ranks}
+use Rattle.base_digraph.specs.Walks.{AreRanks}
+use Rattle.base_digraph.specs.Answers.{IsAnswer}
+use Rattle.base_digraph.specs.declared.ranking.RanksOrCycle.TheVariants.{Ranks}
 use Rattle.grc_dep.specs.Cycles.{numbered}
 use Rattle.grc_dep.proofs.Numbers.{numbered_join, ranks_along}
 use Rattle.grc_dep.proofs.ranking.cycle_or_rank.Goals as goal

@@ -1,7 +1,7 @@
 use Rattle.std.proofs.Common.{◌≡◌, ℕ, ◌+◌, ◌++◌, ◌<◌, List, [], map, take, length, get_or, ap, sym, ◌∙◌, arith}
 use Rattle.std.specs.Prelude.{flat_map}
 use Rattle.std.proofs.lemmas.List.{append-nil, map_more, flat_map_more, get_or-map, length-map}
-use Rattle.est_base.specs.declared.indices.SigId.{SigId}
+use Rattle.base_types.specs.declared.indices.SigId.{SigId}
 use Rattle.grc_graph.specs.declared.statements.Binding.TheVariants as kinds
 use Rattle.grc_graph.specs.PlainInstances.{layer_of}
 use Rattle.grc_graph.specs.StatementViews.{binding_of}

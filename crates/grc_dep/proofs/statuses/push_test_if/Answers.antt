@@ -2,7 +2,7 @@ use Rattle.std.proofs.Common.{◌≡◌, ℕ, ◌∙◌, ◌++◌, map, length, 
 use Rattle.std.specs.Prelude.{flat_map}
 use Rattle.std.proofs.lemmas.List.{length-map}
 use Rattle.std.proofs.lemmas.Result.{on_ok_weaker}
-use Rattle.est_base.specs.declared.indices.SigId.{SigId}
+use Rattle.base_types.specs.declared.indices.SigId.{SigId}
 use Rattle.est_kernel.specs.Plain.{expression_of}
 use Rattle.grc_graph.specs.PlainInstances.{layer_of}
 use Rattle.grc_graph.specs.Statements.{signals_in}

@@ -1,6 +1,6 @@
 use Rattle.std.proofs.Common.{ap, sym, ◌∙◌, refl, arith}
 use Rattle.std.proofs.lemmas.Bool.{eqb-true}
-use Rattle.est_base.specs.CodeSet.{members}
+use Rattle.base_types.specs.CodeSet.{members}
 use Rattle.grc_graph.proofs.CodesBelow.{codes_below-all, codes_below-end, except-other}
 use Rattle.grc_graph.proofs.CodeSets.{members-same}
 use Rattle.grc_graph.proofs.code_tables.codes_end.Goals as goal

@@ -1,7 +1,7 @@
 use Rattle.std.proofs.Common.{sym, ◌∙◌, ⊎_elim, arith}
 use Rattle.std.proofs.lemmas.Bool.{cases_lt}
-use Rattle.est_base.specs.CodeSet.{members}
-use Rattle.est_base.proofs.Exports.{upto-none}
+use Rattle.base_types.specs.CodeSet.{members}
+use Rattle.base_types.proofs.Exports.{upto-none}
 use Rattle.est_kernel.proofs.Exports.{upto-in}
 use Rattle.grc_graph.proofs.code_tables.has_some_code.Goals as goal
 

@@ -1,5 +1,5 @@
 use Rattle.std.proofs.Common.{◌≡◌, ℕ, ◌<◌, false}
-use Rattle.est_base.specs.CodeSet.{members}
+use Rattle.base_types.specs.CodeSet.{members}
 use Rattle.grc_graph.proofs.code_tables.has_some_code.Given as goal
 
 abbrev pub invariant-loop-code : goal.invariant-loop-code

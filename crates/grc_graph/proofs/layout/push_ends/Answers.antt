@@ -1,6 +1,6 @@
 use Rattle.std.proofs.Common.{◌≡◌, ℕ, ◌++◌, ◌∷◌, [], map, ap, sym, ◌∙◌, arith}
 use Rattle.std.proofs.lemmas.List.{append-nil}
-use Rattle.est_base.specs.CodeSet.{members}
+use Rattle.base_types.specs.CodeSet.{members}
 use Rattle.grc_graph.specs.declared.wires.Wire.TheVariants.{End}
 use Rattle.grc_graph.specs.Wires.{codes_below}
 use Rattle.grc_graph.proofs.CodesBelow.{codes_below-none, codes_below-has, codes_below-lacks}

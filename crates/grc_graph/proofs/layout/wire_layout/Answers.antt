@@ -1,6 +1,6 @@
 use Rattle.std.proofs.Common.{◌≤◌, ◌<◌, List, length, map, sym, subst, arith}
 use Rattle.std.proofs.lemmas.List.{length-map}
-use Rattle.est_base.specs.declared.bounds.TheConstants.Limits.{WIRES}
+use Rattle.base_types.specs.declared.bounds.TheConstants.Limits.{WIRES}
 use Rattle.est_kernel.specs.Plain.{program_of}
 use Rattle.est_kernel.proofs.Exports.{trees_are_kernels_lem}
 use Rattle.grc_graph.specs.declared.instances.Instance.{Instance}

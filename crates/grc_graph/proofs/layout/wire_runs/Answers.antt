@@ -1,7 +1,7 @@
 use Rattle.std.proofs.Common.{◌≡◌, ◌+◌, ◌<◌, ◌≤◌, ◌++◌, ◌∷◌, [], length, map, get_or, refl, sym, ap, ◌∙◌, subst, arith}
 use Rattle.std.proofs.lemmas.List.{length-map}
-use Rattle.est_base.specs.declared.bounds.TheConstants.Limits.{WIRES}
-use Rattle.est_base.specs.CodeSet.{members}
+use Rattle.base_types.specs.declared.bounds.TheConstants.Limits.{WIRES}
+use Rattle.base_types.specs.CodeSet.{members}
 use Rattle.est_kernel.specs.Plain.{program_of, term_of, outgoing_count}
 use Rattle.est_kernel.proofs.Exports.{trees_are_kernels_lem}
 use Rattle.grc_graph.specs.declared.wires.Wire.TheVariants.{Out}

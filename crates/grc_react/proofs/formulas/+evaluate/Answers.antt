@@ -2,11 +2,11 @@ use Rattle.std.proofs.Common.{◌≡◌, ◌<◌, length, slice_index_or, sym, a
 use Rattle.std.proofs.lemmas.Bool.{ltb-true}
 use Rattle.std.proofs.lemmas.List.Sums.{AllPass-from_list_all}
 use Rattle.std.specs.List.{list_any}
-use Rattle.est_base.specs.declared.indices.WireId.{WireId}
+use Rattle.base_types.specs.declared.indices.WireId.{WireId}
 use Rattle.grc_graph.specs.declared.formulas.Formula.{Formula}
 use Rattle.grc_graph.specs.GraphShapes.{formula_fits}
 use Rattle.grc_graph.specs.PlainGraphs.{formula_of, instances_of, names_of}
-use Rattle.grc_words.specs.Rows.{source_value}
+use Rattle.grc_formulas.specs.Rows.{source_value}
 use Rattle.grc_react.specs.Evaluations.{formula_under, surroundings_of, value_at, IsKnown}
 use Rattle.grc_react.proofs.Meanings.{selected-means, kept-means, held-means, upto-means, any-means}
 use Rattle.grc_react.proofs.Stages.{wire-named}

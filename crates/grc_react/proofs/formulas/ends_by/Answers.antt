@@ -1,12 +1,12 @@
 use Rattle.std.proofs.Common.{◌≡◌, ℕ, ◌<◌, ◌≤◌, length, slice_index_or, drop, sym, ap, ◌∙◌, arith}
 use Rattle.std.specs.List.{prefix_len}
 use Rattle.std.proofs.lemmas.List.{get_or_default}
-use Rattle.est_base.specs.declared.indices.WireId.{WireId}
+use Rattle.base_types.specs.declared.indices.WireId.{WireId}
 use Rattle.grc_graph.specs.declared.graph.Graph.{Graph}
 use Rattle.grc_graph.specs.declared.wires.Wire.{Wire}
 use Rattle.grc_graph.specs.declared.wires.Wire.TheVariants as wires
-use Rattle.grc_words.specs.declared.table.Words.{Words}
-use Rattle.grc_words.specs.WordLaws.{AreWordsOf, is_end_upto, first_end, any_from}
+use Rattle.grc_formulas.specs.declared.table.Words.{Words}
+use Rattle.grc_formulas.specs.WordLaws.{AreWordsOf, is_end_upto, first_end, any_from}
 use Rattle.grc_react.specs.Evaluations.{value_at}
 use Rattle.grc_react.proofs.Ends.{passed-more, passed-all, passed-true}
 use Rattle.grc_react.proofs.formulas.ends_by.Goals as goal

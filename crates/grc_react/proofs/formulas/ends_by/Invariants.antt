@@ -1,4 +1,4 @@
-use Rattle.grc_words.specs.WordLaws.{is_end_upto}
+use Rattle.grc_formulas.specs.WordLaws.{is_end_upto}
 use Rattle.grc_react.specs.Evaluations.{value_at}
 use Rattle.grc_react.proofs.Ends.{Passed}
 use Rattle.grc_react.proofs.formulas.ends_by.Given as goal

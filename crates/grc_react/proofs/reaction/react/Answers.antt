@@ -1,8 +1,8 @@
 use Rattle.est_kernel.specs.Plain.{program_of, term_of}
 use Rattle.est_kernel.proofs.Exports.{trees_are_kernels_lem}
 use Rattle.grc_graph.specs.SelectionTrees.{body_leaves}
-use Rattle.grc_sem.proofs.Exports.{program_kernel}
-use Rattle.grc_words.specs.Occasions.{state_of}
+use Rattle.grc_solutions_laws.proofs.Exports.{program_kernel}
+use Rattle.grc_formulas.specs.Occasions.{state_of}
 use Rattle.grc_react.proofs.OrderRanks.{edges-up}
 use Rattle.grc_react.proofs.Results.{Premises, start-leaves, begun-state, walked, constructive}
 use Rattle.grc_react.proofs.WiresDiffer.{graph-wires-differ}

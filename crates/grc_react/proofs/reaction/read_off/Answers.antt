@@ -1,5 +1,5 @@
 use Rattle.std.proofs.Common.{map, ap, ◌∙◌}
-use Rattle.grc_words.specs.Rows.{source_value}
+use Rattle.grc_formulas.specs.Rows.{source_value}
 use Rattle.grc_react.specs.Evaluations.{surroundings_of}
 use Rattle.grc_react.proofs.Wholes.{outputs-mean}
 use Rattle.grc_react.proofs.reaction.read_off.Goals as goal

@@ -1,9 +1,9 @@
 use Rattle.std.proofs.Common.{◌≡◌, ◌+◌, false, [], ◌∷◌, ◌++◌, length, take, slice_index_or, sym, ap, ◌∙◌, subst, arith, IsTrue}
 use Rattle.std.proofs.lemmas.List.{take_more, length-take-le}
-use Rattle.grc_words.specs.declared.table.Row.TheVariants.{Not}
-use Rattle.grc_words.specs.declared.table.Source.TheVariants.{Const}
-use Rattle.grc_words.specs.Rows.{row_value, row_values, row_fits}
-use Rattle.grc_words.proofs.Exports.{length-row_values, row_values-append}
+use Rattle.grc_formulas.specs.declared.table.Row.TheVariants.{Not}
+use Rattle.grc_formulas.specs.declared.table.Source.TheVariants.{Const}
+use Rattle.grc_formulas.specs.Rows.{row_value, row_values, row_fits}
+use Rattle.grc_formulas.proofs.Exports.{length-row_values, row_values-append}
 use Rattle.grc_react.specs.Evaluations.{bounds_of, surroundings_of}
 use Rattle.grc_react.proofs.rows.add_rows.Goals as goal
 

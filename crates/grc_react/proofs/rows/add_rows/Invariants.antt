@@ -1,5 +1,5 @@
 use Rattle.std.proofs.Common.{◌≡◌, take}
-use Rattle.grc_words.specs.Rows.{row_values}
+use Rattle.grc_formulas.specs.Rows.{row_values}
 use Rattle.grc_react.specs.Evaluations.{surroundings_of}
 use Rattle.grc_react.proofs.rows.add_rows.Given as goal
 

@@ -2,7 +2,7 @@ use Rattle.std.proofs.Common.{◌<◌, length, IsTrue, sym, ap, ◌∙◌, subst
 use Rattle.std.proofs.lemmas.Option.{get_or_from_slice_get}
 use Rattle.grc_graph.specs.declared.wires.Node.{Node}
 use Rattle.grc_graph.specs.GraphShapes.{node_fits}
-use Rattle.grc_graph.specs.PlainGraphs.{instances_of, names_of, node_of}
+use Rattle.grc_graph.specs.PlainGraphs.{instances_of, names_of, node_form}
 use Rattle.grc_share.specs.SharedGraphs.{emitted_on}
 use Rattle.grc_share.proofs.EmissionLists.{emitted, node-at, nothing-emitted}
 use Rattle.grc_share.proofs.emissions.emitted_wire.Goals as goal
@@ -17,7 +17,7 @@ returns-then-numbers-i-clause-found c =
     emitted g c.requires.built m.least.now m.instances.now m.wires.now c.requires.numbers i c.requires.within (record { 0 = 0 }) c.node_emission.result
     c.if-numbers-i.true
     (ap emitted_on (sym (node-at g c.requires.built i node c.requires.within))
-    ∙ ap (λ (x : Node). emitted_on (node_of (instances_of g) (names_of g) x)) read
+    ∙ ap (λ (x : Node). emitted_on (node_form (instances_of g) (names_of g) x)) read
     ∙ c.node_emission.ensures.named (instances_of g) (names_of g))
 
 pub returns-then-numbers-i-clause-within : goal.returns-then-numbers-i-clause-within

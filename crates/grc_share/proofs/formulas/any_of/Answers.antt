@@ -1,6 +1,6 @@
 use Rattle.std.proofs.Common.{length, nat_lt, ap, ◌∙◌}
 use Rattle.std.specs.List.{list_all}
-use Rattle.est_base.specs.declared.indices.WireId.{WireId}
+use Rattle.base_types.specs.declared.indices.WireId.{WireId}
 use Rattle.grc_graph.specs.Formulas.{any_of}
 use Rattle.grc_share.specs.Renamings.{values}
 use Rattle.grc_share.proofs.RenamedFormulas.{fits-all}

@@ -1,5 +1,5 @@
 use Rattle.std.proofs.Common.{List, map, sym, subst, Vec, Global}
-use Rattle.est_base.specs.declared.indices.WireId.{WireId}
+use Rattle.base_types.specs.declared.indices.WireId.{WireId}
 use Rattle.est_kernel.specs.Plain.{program_of}
 use Rattle.grc_graph.specs.WireOrders.{AreRanks}
 use Rattle.grc_share.specs.MemberRuns.{AreRunsOf}

@@ -1,7 +1,7 @@
 use Rattle.std.proofs.Common.{rules, ◌≡◌, ◌<◌, length, get_or, sym, ◌∙◌, subst, arith}
 use Rattle.std.specs.Prelude.{slice_index}
 use Rattle.std.proofs.lemmas.List.{get_or_default, length-map}
-use Rattle.est_base.specs.declared.indices.InstId.{InstId}
+use Rattle.base_types.specs.declared.indices.InstId.{InstId}
 use Rattle.est_kernel.specs.Plain.{program_of}
 use Rattle.grc_graph.specs.PlainGraphs.{instance_at, instances_of}
 use Rattle.grc_graph.specs.PlainInstances.{instance_of}

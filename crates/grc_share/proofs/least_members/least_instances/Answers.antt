@@ -1,6 +1,6 @@
 use Rattle.std.proofs.Common.{rules, sym, subst}
 use Rattle.est_kernel.specs.Plain.{term_of}
-use Rattle.grc_share.specs.LeastMembers.{AreLeast, IsLeast}
+use Rattle.grc_share.specs.LeastMembers.{AreLeast, IsLeastMember}
 use Rattle.grc_share.specs.SharedInstances.{body_sharing}
 use Rattle.grc_share.proofs.WireLeast.{each-more}
 use Rattle.grc_share.proofs.least_members.least_instances.Goals as goal
@@ -17,6 +17,6 @@ loop-i-preserved c =
     record {
       each = search rules;
       least = subst (AreLeast K g.instances.list.items) (sym c.in_ok-push.ensures.items)
-          (each-more (IsLeast K g.instances.list.items) c.loop-i.least.items c.least_instance-first.result c.loop-i.i c.loop-i.invariant.each
+          (each-more (IsLeastMember K g.instances.list.items) c.loop-i.least.items c.least_instance-first.result c.loop-i.i c.loop-i.invariant.each
           c.loop-i.invariant.least c.least_instance-first.ensures);
     }

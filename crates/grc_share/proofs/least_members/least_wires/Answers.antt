@@ -1,5 +1,5 @@
 use Rattle.std.proofs.Common.{rules, sym, subst}
-use Rattle.est_base.specs.declared.indices.WireId.{WireId}
+use Rattle.base_types.specs.declared.indices.WireId.{WireId}
 use Rattle.est_kernel.specs.Plain.{term_of}
 use Rattle.grc_graph.specs.PlainGraphs.{names_of, wire_at}
 use Rattle.grc_graph.specs.WireTables.{IsNumberOf}

@@ -1,6 +1,6 @@
 use Rattle.std.proofs.Common.{rules, ◌≡◌, ◌<◌, [], ◌∷◌, ◌++◌, List, length, map, get_or, take, sym, ap, ◌∙◌, subst, arith, Vec, Global, ℕ}
 use Rattle.std.proofs.lemmas.List.{get_or-map, length-map, take_all, take_more}
-use Rattle.est_base.specs.declared.indices.WireId.{WireId}
+use Rattle.base_types.specs.declared.indices.WireId.{WireId}
 use Rattle.grc_share.specs.MemberRuns.{AreRunsOf}
 use Rattle.grc_share.proofs.MemberRuns.{runs-more, runs-none}
 use Rattle.grc_share.proofs.members.joined_lists.Goals as goal

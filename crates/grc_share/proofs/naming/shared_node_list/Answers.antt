@@ -18,7 +18,7 @@ loop-i-preserved c =
     let low : i < length g.instances.list.items = omega (arith, g.indices.nodes_all) in
     record {
       nodes = c.in_ok-push_node.ensures.gained ∙ ap (λ xs. xs ++ node_at p i) c.loop-i.invariant.nodes
-          ∙ sym (next-least g c.requires.built (is_least (body_sharing p.body)) (λ x. renamed_node (body_sharing p.body) (plain.node_of x)) i low);
+          ∙ sym (next-least g c.requires.built (is_least (body_sharing p.body)) (λ x. renamed_node (body_sharing p.body) (plain.spot_node x)) i low);
       fit = c.in_ok-push_node.ensures.within c.loop-i.invariant.fit;
     }
 
@@ -29,4 +29,4 @@ returns-clause-nodes c =
     let many = spots-many g c.requires.built in
     let all = take_all c.loop-i.i (program_spots p) (omega (arith, many, g.indices.nodes_all)) in
     c.loop-i.invariant.nodes
-    ∙ ap (λ xs. map (λ x. renamed_node (body_sharing p.body) (plain.node_of x)) (filter (is_least (body_sharing p.body)) xs)) all
+    ∙ ap (λ xs. map (λ x. renamed_node (body_sharing p.body) (plain.spot_node x)) (filter (is_least (body_sharing p.body)) xs)) all

@@ -1,5 +1,5 @@
 use Rattle.std.proofs.Common.{rules, ◌≡◌, ◌+◌, ◌<◌, [], ◌∷◌, ◌++◌, length, get_or, refl, sym, ap, ◌∙◌, subst, arith}
-use Rattle.est_base.specs.declared.indices.WireId.{WireId}
+use Rattle.base_types.specs.declared.indices.WireId.{WireId}
 use Rattle.grc_share.specs.LeastMembers.{ArePlaces}
 use Rattle.grc_share.proofs.Leaders.{leaders-next, places-next}
 use Rattle.grc_share.proofs.numbering.leading.Goals as goal

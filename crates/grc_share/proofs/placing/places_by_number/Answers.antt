@@ -2,7 +2,7 @@ use Rattle.std.proofs.Common.{◌≡◌, ◌<◌, List, [], length, map, get_or,
 use Rattle.std.specs.Prelude.{slice_index}
 use Rattle.std.proofs.lemmas.List.{length-map, take_all}
 use Rattle.std.proofs.lemmas.List.Elements.{All-get_or}
-use Rattle.est_base.specs.declared.indices.WireId.{WireId}
+use Rattle.base_types.specs.declared.indices.WireId.{WireId}
 use Rattle.grc_share.specs.LeastMembers.{places_of}
 use Rattle.grc_share.proofs.Places.{places-gain, places-none}
 use Rattle.grc_share.proofs.placing.places_by_number.Goals as goal

@@ -1,10 +1,10 @@
 use Rattle.std.proofs.Common.{◌≡◌, ◌≤◌, ◌∷◌, List, length, map, refl, sym, ap, ◌∙◌, subst, arith}
 use Rattle.std.proofs.lemmas.List.{length-map}
-use Rattle.est_base.specs.declared.interface.SignalInfo.{SignalInfo}
-use Rattle.est_base.specs.declared.indices.NetId.{NetId}
+use Rattle.base_types.specs.declared.interface.SignalInfo.{SignalInfo}
+use Rattle.base_types.specs.declared.indices.NetId.{NetId}
 use Rattle.est_kernel.specs.declared.programs.KernelProgram.{KernelProgram}
 use Rattle.est_kernel.specs.Plain.{program_of, interface_count, given_names, outgoing_names}
-use Rattle.grc_words.specs.declared.table.Source.{Source}
+use Rattle.grc_formulas.specs.declared.table.Source.{Source}
 use Rattle.net_ir.specs.Netlists.{Netlist}
 use Rattle.net_gen.specs.Assembled.{IsAround, boot_latch, leaf_latch}
 use Rattle.net_gen.specs.Drawings.{drawing_of}

@@ -1,12 +1,12 @@
 use Rattle.std.proofs.Common.{◌≡◌, ◌+◌, length, slice_index_or, map, sym, ap, ◌∙◌, subst, arith, false, List, All, None}
 use Rattle.std.proofs.lemmas.List.{get_or_default}
-use Rattle.est_base.specs.declared.indices.WireId.{WireId}
+use Rattle.base_types.specs.declared.indices.WireId.{WireId}
 use Rattle.grc_graph.specs.declared.formulas.Formula.{Formula}
 use Rattle.grc_graph.specs.declared.formulas.Formula.TheVariants as formulas
 use Rattle.grc_graph.specs.Formulas.{Negation, Conjunction, Disjunction, any_of, Value}
 use Rattle.grc_graph.specs.PlainGraphs.{formula_of, instances_of, names_of, wire_at}
-use Rattle.grc_words.specs.declared.table.Source.TheVariants.{Const}
-use Rattle.grc_words.specs.WordLaws.{selected_source}
+use Rattle.grc_formulas.specs.declared.table.Source.TheVariants.{Const}
+use Rattle.grc_formulas.specs.WordLaws.{selected_source}
 use Rattle.net_ir.specs.declared.netlist.Op.TheVariants.{Copy}
 use Rattle.grc_graph.specs.GateCosts.{cost_of, any_cost}
 use Rattle.net_gen.specs.Drawings.{drawing_of, Placed}

@@ -1,6 +1,6 @@
 use Rattle.std.proofs.Common.{◌≡◌, false, length, take, slice_index_or, Some, None, ap, sym, ◌∙◌, subst}
 use Rattle.std.proofs.lemmas.List.{take_more, take_all}
-use Rattle.est_base.specs.declared.indices.WireId.{WireId}
+use Rattle.base_types.specs.declared.indices.WireId.{WireId}
 use Rattle.net_gen.specs.Drawings.{drawing_of}
 use Rattle.net_ir.specs.declared.netlist.Op.TheVariants.{Copy}
 use Rattle.grc_graph.specs.GateCosts.{any_cost}

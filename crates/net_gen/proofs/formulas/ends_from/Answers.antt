@@ -2,7 +2,7 @@ use Rattle.std.proofs.Common.{◌≡◌, ◌-◌, ◌∙◌, ap, arith, length, 
 use Rattle.std.proofs.lemmas.List.{take_all}
 use Rattle.std.specs.List.{prefix_len}
 use Rattle.std.proofs.lemmas.List.Sums.{prefix_len-le-length}
-use Rattle.grc_words.specs.WordLaws.{is_end_upto}
+use Rattle.grc_formulas.specs.WordLaws.{is_end_upto}
 use Rattle.net_gen.proofs.formulas.ends_from.Goals as goal
 
 pub returns-clause-within : goal.returns-clause-within

@@ -1,6 +1,6 @@
 use Rattle.std.proofs.Common.{◌≡◌, ◌+◌, drop}
 use Rattle.std.specs.List.{prefix_len}
-use Rattle.grc_words.specs.WordLaws.{is_end_upto}
+use Rattle.grc_formulas.specs.WordLaws.{is_end_upto}
 use Rattle.net_gen.proofs.formulas.ends_in_front.Given as goal
 
 abbrev pub invariant-loop-count : goal.invariant-loop-count

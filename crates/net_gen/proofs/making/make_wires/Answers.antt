@@ -1,6 +1,6 @@
 use Rattle.std.proofs.Common.{◌≡◌, ◌<◌, true, length, slice_index_or, slice_get, Some, sym, ap, ◌∙◌, subst, arith}
 use Rattle.std.proofs.lemmas.Option.{get_or_from_slice_get}
-use Rattle.est_base.specs.declared.indices.WireId.{WireId}
+use Rattle.base_types.specs.declared.indices.WireId.{WireId}
 use Rattle.grc_graph.specs.declared.formulas.Formula.TheVariants.{Const}
 use Rattle.grc_graph.proofs.Exports.{length-names}
 use Rattle.net_gen.specs.Drawings.{drawing_of, with_wire}

@@ -1,8 +1,8 @@
 use Rattle.std.proofs.Common.{◌≡◌, ◌+◌, List, [], ◌∷◌, ◌++◌, map, take, drop, slice_index_or, sym, ap, ◌∙◌}
 use Rattle.std.proofs.lemmas.List.{map_more}
-use Rattle.est_base.specs.declared.indices.NetId.{NetId}
+use Rattle.base_types.specs.declared.indices.NetId.{NetId}
 use Rattle.est_kernel.specs.Plain.{program_of}
-use Rattle.grc_words.specs.declared.table.Source.TheVariants.{Leaf}
+use Rattle.grc_formulas.specs.declared.table.Source.TheVariants.{Leaf}
 use Rattle.net_ir.specs.declared.netlist.NetOut.{NetOut}
 use Rattle.net_gen.specs.Drawings.{drawing_of}
 use Rattle.net_gen.specs.Readiness.{source_net}

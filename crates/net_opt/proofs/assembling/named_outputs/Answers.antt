@@ -1,5 +1,5 @@
 use Rattle.std.proofs.Common.{[], ◌∷◌, ◌++◌, slice_index_or, sym, ap, ◌∙◌, arith}
-use Rattle.est_base.specs.declared.indices.NetId.{NetId}
+use Rattle.base_types.specs.declared.indices.NetId.{NetId}
 use Rattle.net_ir.specs.declared.netlist.NetOut.{NetOut}
 use Rattle.net_opt.proofs.Parts.{named-more}
 use Rattle.net_opt.proofs.assembling.named_outputs.Goals as goal

@@ -1,6 +1,6 @@
 use Rattle.std.proofs.Common.{◌+◌, ◌<◌, ◌≤◌, ◌∙◌, false, ap, subst, length, sym, IsTrue, All, arith}
 use Rattle.std.proofs.lemmas.List.{length-replicate, take_all}
-use Rattle.est_base.specs.declared.indices.NetId.{NetId}
+use Rattle.base_types.specs.declared.indices.NetId.{NetId}
 use Rattle.net_ir.specs.declared.netlist.NetOut.{NetOut}
 use Rattle.net_ir.specs.Netlists.{net_count}
 use Rattle.net_ir.specs.Runs.{netlist_of}

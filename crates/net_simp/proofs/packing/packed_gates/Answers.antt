@@ -1,6 +1,6 @@
 use Rattle.std.proofs.Common.{◌≡◌, ◌+◌, ◌∷◌, [], ◌++◌, false, None, length, slice_index_or, subst, sym, refl, ap, ◌∙◌, take, arith, Vec, Global}
 use Rattle.std.proofs.lemmas.List.{take_all}
-use Rattle.est_base.specs.declared.indices.NetId.{NetId}
+use Rattle.base_types.specs.declared.indices.NetId.{NetId}
 use Rattle.net_ir.specs.declared.netlist.Gate.{Gate}
 use Rattle.net_ir.specs.declared.netlist.Op.TheVariants.{Const}
 use Rattle.net_simp.specs.Renaming.{stand_in, renamed_op}

@@ -1,9 +1,9 @@
 use Rattle.std.proofs.Common.{◌∙◌, ◌≡◌, ℕ, List, ap, map, Bor}
 use Rattle.std.specs.HashSet.{contains_by}
-use Rattle.est_base.specs.Names.{is_same_name}
+use Rattle.base_types.specs.Names.{is_same_name}
 use Rattle.net_ir.specs.NameLists.{is_among}
-use Rattle.expr_text.specs.NameTables.{again_from}
-use Rattle.expr_text.proofs.Exports.{again-first}
+use Rattle.net_expressions.specs.NameTables.{again_from}
+use Rattle.net_expressions.proofs.Exports.{again-first}
 use Rattle.vlog_text.specs.Names.{names_of, targets}
 use Rattle.vlog_text.specs.Views.{assign_of}
 use Rattle.vlog_read.specs.NameTests.{group_test}

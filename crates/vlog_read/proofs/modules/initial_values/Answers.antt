@@ -1,7 +1,7 @@
 use Rattle.std.proofs.Common.{◌≡◌, ◌+◌, ◌-◌, [], false, map, drop, get_or, sym, ◌∙◌, ap, arith}
 use Rattle.std.specs.HashMap.{get_by}
 use Rattle.std.proofs.lemmas.List.{get_or_default}
-use Rattle.est_base.specs.Names.{is_same_name}
+use Rattle.base_types.specs.Names.{is_same_name}
 use Rattle.vlog_text.specs.Texts.{initial_value}
 use Rattle.vlog_read.specs.Sources.{initial_of}
 use Rattle.vlog_read.specs.declared.sources.Initial.{Initial}

@@ -1,6 +1,6 @@
 use Rattle.std.proofs.Common.{◌≡◌, ◌≤◌, ℕ, List, length, map, drop}
 use Rattle.std.specs.HashMap.{get_by}
-use Rattle.est_base.specs.Names.{is_same_name}
+use Rattle.base_types.specs.Names.{is_same_name}
 use Rattle.vlog_text.specs.Texts.{initial_value}
 use Rattle.vlog_read.specs.Registers.{value_or}
 use Rattle.vlog_read.specs.Sources.{initial_of}

@@ -1,7 +1,7 @@
 use Rattle.std.proofs.Common.{◌≡◌, ◌+◌, ◌-◌, [], map, drop, get_or, sym, ◌∙◌, ap, arith}
 use Rattle.std.specs.HashMap.{get_by}
 use Rattle.std.proofs.lemmas.List.{get_or_default}
-use Rattle.est_base.specs.Names.{is_same_name}
+use Rattle.base_types.specs.Names.{is_same_name}
 use Rattle.vlog_text.specs.Texts.{next_source}
 use Rattle.vlog_read.specs.Sources.{next_of}
 use Rattle.vlog_read.specs.declared.sources.Next.{Next}

@@ -1,6 +1,6 @@
 use Rattle.std.proofs.Common.{◌≡◌, ◌≤◌, ℕ, List, length, map, drop}
 use Rattle.std.specs.HashMap.{get_by}
-use Rattle.est_base.specs.Names.{is_same_name}
+use Rattle.base_types.specs.Names.{is_same_name}
 use Rattle.vlog_text.specs.Texts.{next_source}
 use Rattle.vlog_read.specs.Registers.{source_or}
 use Rattle.vlog_read.specs.Sources.{next_of}

@@ -1,7 +1,7 @@
 use Rattle.std.proofs.Common.{◌≡◌, map, drop}
 use Rattle.std.specs.Prelude.{find}
 use Rattle.std.specs.HashSet.{contains_by}
-use Rattle.est_base.specs.Names.{is_same_name}
+use Rattle.base_types.specs.Names.{is_same_name}
 use Rattle.vlog_read.specs.NameTests.{lacks_port}
 use Rattle.vlog_read.specs.Sources.{declaration_of}
 use Rattle.vlog_read.proofs.ports.portless.Given as goal

@@ -1,10 +1,10 @@
 use Rattle.std.proofs.Common.{◌≡◌, ◌∙◌, ℕ, List, None, Some, sym, ap, map, Bor}
 use Rattle.std.specs.Prelude.{find}
 use Rattle.std.specs.HashSet.{contains_by}
-use Rattle.est_base.specs.Names.{is_same_name}
+use Rattle.base_types.specs.Names.{is_same_name}
 use Rattle.net_ir.specs.NameLists.{is_among}
-use Rattle.expr_text.specs.Names.{or_else}
-use Rattle.expr_text.specs.NameTables.{name_told}
+use Rattle.net_expressions.specs.Names.{or_else}
+use Rattle.net_expressions.specs.NameTables.{name_told}
 use Rattle.vlog_text.specs.Names.{interface_names, misplaced, portless, ill_named, other_clock, declaration_found}
 use Rattle.vlog_read.specs.NameTests.{lacks_port, ill_by, first_of, last_of}
 use Rattle.vlog_read.specs.Sources.{declaration_of, plain_source}

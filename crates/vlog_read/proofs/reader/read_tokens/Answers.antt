@@ -1,8 +1,8 @@
 use Rattle.std.proofs.Common.{Err, length, map, subst, arith}
 use Rattle.std.proofs.lemmas.List.{length-map}
-use Rattle.read_rules.specs.Readings.{whole}
-use Rattle.expr_text.specs.Reading.{GivesKinds, makes_expr}
-use Rattle.expr_text.proofs.Exports.{kinds-are, left-low, fault-place}
+use Rattle.base_reader.specs.Readings.{whole}
+use Rattle.net_expressions.specs.Reading.{GivesKinds, makes_expr}
+use Rattle.net_expressions.proofs.Exports.{kinds-are, left-low, fault-place}
 use Rattle.vlog_text.specs.Grammar.{IsText}
 use Rattle.vlog_text.specs.Texts.{nesting_limit}
 use Rattle.vlog_text.specs.Tokens.{tokens}

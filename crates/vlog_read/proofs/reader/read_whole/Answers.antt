@@ -1,6 +1,6 @@
 use Rattle.std.proofs.Common.{map, sym}
-use Rattle.expr_text.specs.Reading.{makes_expr}
-use Rattle.expr_text.proofs.Exports.{whole-ended}
+use Rattle.net_expressions.specs.Reading.{makes_expr}
+use Rattle.net_expressions.proofs.Exports.{whole-ended}
 use Rattle.vlog_read.specs.Lexed.{kind_in}
 use Rattle.vlog_read.specs.Reading.{text_rule}
 use Rattle.vlog_read.specs.Sources.{plain_source}

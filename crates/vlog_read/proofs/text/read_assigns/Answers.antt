@@ -1,12 +1,12 @@
 use Rattle.std.proofs.Common.{◌∙◌, map}
 use Rattle.std.proofs.lemmas.List.{map-append}
-use Rattle.expr_text.specs.Reading.{makes_expr}
-use Rattle.expr_text.proofs.Exports.{shorter, maybe-on}
+use Rattle.net_expressions.specs.Reading.{makes_expr}
+use Rattle.net_expressions.proofs.Exports.{shorter, maybe-on}
 use Rattle.vlog_text.specs.Tokens.{AssignWord}
 use Rattle.vlog_text.specs.Grammar.{is}
 use Rattle.vlog_read.specs.Reading.{assign_behind, assign_step}
 use Rattle.vlog_read.proofs.Makers.{assigns-mean}
-use Rattle.read_rules.proofs.Exports.{loop-started, loop-grown}
+use Rattle.base_reader.proofs.Exports.{loop-started, loop-grown}
 use Rattle.vlog_text.specs.Views.{assign_of}
 use Rattle.vlog_read.specs.Lexed.{kind_in}
 use Rattle.vlog_read.proofs.text.read_assigns.Goals as goal

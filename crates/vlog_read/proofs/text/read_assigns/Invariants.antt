@@ -1,6 +1,6 @@
 use Rattle.std.proofs.Common.{◌≡◌, ◌++◌, length, map}
-use Rattle.expr_text.specs.Reading.{makes_expr}
-use Rattle.read_rules.specs.Readings.{mapped, loop}
+use Rattle.net_expressions.specs.Reading.{makes_expr}
+use Rattle.base_reader.specs.Readings.{mapped, loop}
 use Rattle.vlog_text.specs.Views.{assign_of}
 use Rattle.vlog_read.specs.Lexed.{kind_in}
 use Rattle.vlog_read.specs.Reading.{assign_step}

@@ -1,11 +1,11 @@
 use Rattle.std.proofs.Common.{◌∙◌, map}
 use Rattle.std.proofs.lemmas.List.{map-append}
-use Rattle.expr_text.proofs.Exports.{shorter, maybe-made}
+use Rattle.net_expressions.proofs.Exports.{shorter, maybe-made}
 use Rattle.vlog_text.specs.Grammar.{sort}
 use Rattle.vlog_read.specs.Lexed.{plain_sort}
 use Rattle.vlog_read.specs.Reading.{declaration_behind, declaration_step}
 use Rattle.vlog_read.proofs.TextLaws.{declared_as, declaration-advances}
-use Rattle.read_rules.proofs.Exports.{loop-started, loop-grown}
+use Rattle.base_reader.proofs.Exports.{loop-started, loop-grown}
 use Rattle.vlog_read.specs.Sources.{declaration_of}
 use Rattle.vlog_read.specs.Lexed.{kind_in}
 use Rattle.vlog_read.proofs.text.read_declarations.Goals as goal

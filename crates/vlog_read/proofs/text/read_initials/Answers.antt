@@ -1,11 +1,11 @@
 use Rattle.std.proofs.Common.{◌∙◌, map}
 use Rattle.std.proofs.lemmas.List.{map-append}
-use Rattle.expr_text.proofs.Exports.{shorter, maybe-on}
+use Rattle.net_expressions.proofs.Exports.{shorter, maybe-on}
 use Rattle.vlog_text.specs.Tokens.{InitialWord}
 use Rattle.vlog_text.specs.Grammar.{is}
 use Rattle.vlog_read.specs.Reading.{initial_behind, initial_step}
 use Rattle.vlog_read.proofs.TextLaws.{initial-advances}
-use Rattle.read_rules.proofs.Exports.{loop-started, loop-grown}
+use Rattle.base_reader.proofs.Exports.{loop-started, loop-grown}
 use Rattle.vlog_read.specs.Sources.{initial_of}
 use Rattle.vlog_read.specs.Lexed.{kind_in}
 use Rattle.vlog_read.proofs.text.read_initials.Goals as goal

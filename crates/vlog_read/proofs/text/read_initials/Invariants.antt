@@ -1,5 +1,5 @@
 use Rattle.std.proofs.Common.{◌≡◌, ◌++◌, length, map}
-use Rattle.read_rules.specs.Readings.{mapped, loop}
+use Rattle.base_reader.specs.Readings.{mapped, loop}
 use Rattle.vlog_read.specs.Sources.{initial_of}
 use Rattle.vlog_read.specs.Lexed.{kind_in}
 use Rattle.vlog_read.specs.Reading.{initial_step}

@@ -1,10 +1,10 @@
 use Rattle.std.proofs.Common.{◌∙◌, map}
 use Rattle.std.proofs.lemmas.List.{map-append}
-use Rattle.expr_text.proofs.Exports.{shorter, maybe-made}
+use Rattle.net_expressions.proofs.Exports.{shorter, maybe-made}
 use Rattle.vlog_text.specs.Grammar.{name}
 use Rattle.vlog_read.specs.Reading.{next_behind, next_step}
 use Rattle.vlog_read.proofs.TextLaws.{next_as, next-advances}
-use Rattle.read_rules.proofs.Exports.{loop-started, loop-grown}
+use Rattle.base_reader.proofs.Exports.{loop-started, loop-grown}
 use Rattle.vlog_read.specs.Sources.{next_of}
 use Rattle.vlog_read.specs.Lexed.{kind_in}
 use Rattle.vlog_read.proofs.text.read_nexts.Goals as goal

@@ -1,9 +1,9 @@
 use Rattle.std.proofs.Common.{◌∷◌, ◌∙◌, map}
 use Rattle.std.proofs.Common.{ℕ, List, Bor}
 use Rattle.std.proofs.lemmas.List.{map-append}
-use Rattle.expr_text.proofs.Exports.{shorter}
-use Rattle.read_rules.specs.Readings.{give, the}
-use Rattle.read_rules.proofs.Exports.{loop-begun, optional_or-some, loop-grown}
+use Rattle.net_expressions.proofs.Exports.{shorter}
+use Rattle.base_reader.specs.Readings.{give, the}
+use Rattle.base_reader.proofs.Exports.{loop-begun, optional_or-some, loop-grown}
 use Rattle.vlog_text.specs.Tokens.{Comma}
 use Rattle.vlog_text.specs.Grammar.{is, name}
 use Rattle.vlog_read.specs.Lexed.{kind_in}

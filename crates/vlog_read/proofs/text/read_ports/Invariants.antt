@@ -1,5 +1,5 @@
 use Rattle.std.proofs.Common.{◌≡◌, ◌++◌, length, map}
-use Rattle.read_rules.specs.Readings.{mapped, loop}
+use Rattle.base_reader.specs.Readings.{mapped, loop}
 use Rattle.vlog_read.specs.Lexed.{kind_in}
 use Rattle.vlog_read.specs.Reading.{port_step, ports_rule}
 use Rattle.vlog_read.proofs.text.read_ports.Given as goal

@@ -1,7 +1,7 @@
 use Rattle.std.proofs.Common.{◌∙◌, ℕ, List, ap, map, Bor}
 use Rattle.std.specs.HashSet.{contains_by}
 use Rattle.std.specs.List.{list_any}
-use Rattle.est_base.specs.Names.{is_same_name}
+use Rattle.base_types.specs.Names.{is_same_name}
 use Rattle.vlog_read.proofs.NameLaws.{again-none}
 use Rattle.vlog_read.proofs.uses.again_in.Goals as goal
 

@@ -1,6 +1,6 @@
 use Rattle.std.proofs.Common.{◌<◌, ◌+◌, sym, length, map, subst, All, arith}
 use Rattle.std.proofs.lemmas.List.{length-map}
-use Rattle.step_run.proofs.Exports.{reads-within, each-name, ordered, acyclic, loop, parts-within}
+use Rattle.run_steps.proofs.Exports.{reads-within, each-name, ordered, acyclic, loop, parts-within}
 use Rattle.vlog_text.specs.Views.{module_of}
 use Rattle.vlog_run.specs.Loops.{equations_of}
 use Rattle.vlog_run.specs.Plans.{given_names}

@@ -1,7 +1,7 @@
 use Rattle.std.proofs.Common.{◌≡◌, ◌+◌, ◌<◌, ◌++◌, [], ◌∷◌, length, map, take, get_or, sym, ap, ◌∙◌, subst, arith}
 use Rattle.std.proofs.lemmas.List.{get_or-map, map-append, take_more}
-use Rattle.step_run.specs.Plans.{Adds, Makes}
-use Rattle.step_run.specs.Slots.{slot_in}
+use Rattle.run_steps.specs.Plans.{Adds, Makes}
+use Rattle.run_steps.specs.Slots.{slot_in}
 use Rattle.vlog_text.specs.Views.{assign_of}
 use Rattle.vlog_run.specs.Plans.{assign_step, no_assign, step_at}
 use Rattle.vlog_run.proofs.plan.assign_plan.Goals as goal

@@ -1,5 +1,5 @@
 use Rattle.std.proofs.Common.{◌≡◌, length, map, take}
-use Rattle.step_run.specs.Plans.{Makes}
+use Rattle.run_steps.specs.Plans.{Makes}
 use Rattle.vlog_text.specs.Views.{assign_of}
 use Rattle.vlog_run.specs.Plans.{step_at}
 use Rattle.vlog_run.proofs.plan.assign_plan.Given as goal

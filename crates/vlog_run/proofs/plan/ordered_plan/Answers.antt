@@ -1,9 +1,9 @@
 use Rattle.std.proofs.Common.{◌<◌, sym, ap, ◌∙◌, subst, length, map, get_or, All, arith}
 use Rattle.std.proofs.lemmas.List.{length-map, get_or-map}
 use Rattle.std.proofs.lemmas.List.Elements.{recursion_from_All}
-use Rattle.step_run.specs.Plans.{Makes}
-use Rattle.step_run.specs.Slots.{slot_in}
-use Rattle.step_run.proofs.Exports.{slots-are}
+use Rattle.run_steps.specs.Plans.{Makes}
+use Rattle.run_steps.specs.Slots.{slot_in}
+use Rattle.run_steps.proofs.Exports.{slots-are}
 use Rattle.vlog_text.specs.Machine.{driven_names}
 use Rattle.vlog_text.specs.Views.{module_of, assign_of}
 use Rattle.vlog_run.specs.Loops.{equation_of}

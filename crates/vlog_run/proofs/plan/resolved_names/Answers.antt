@@ -1,8 +1,8 @@
 use Rattle.std.proofs.Common.{sym, ap, ◌∙◌, length, map, arith}
 use Rattle.std.proofs.lemmas.List.{length-map}
 use Rattle.net_ir.proofs.Exports.{once-differ}
-use Rattle.step_run.proofs.Exports.{driven-count}
-use Rattle.step_run.specs.Steps.{driven}
+use Rattle.run_steps.proofs.Exports.{driven-count}
+use Rattle.run_steps.specs.Steps.{driven}
 use Rattle.vlog_text.specs.Machine.{driven_names}
 use Rattle.vlog_text.specs.Views.{module_of, assign_of}
 use Rattle.vlog_run.specs.Loops.{equation_of, equations_of}

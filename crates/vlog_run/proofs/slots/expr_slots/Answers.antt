@@ -1,6 +1,6 @@
 use Rattle.std.proofs.Common.{◌≡◌, ℕ, ◌+◌, ◌++◌, List, [], ◌∷◌, map, take, get_or, sym, ap, ◌∙◌, arith, Bor}
 use Rattle.std.proofs.lemmas.List.{map-append, take_more}
-use Rattle.step_run.specs.Slots.{slot_in}
+use Rattle.run_steps.specs.Slots.{slot_in}
 use Rattle.vlog_run.proofs.slots.expr_slots.Goals as goal
 
 pub loop-name-preserved : goal.loop-name-preserved

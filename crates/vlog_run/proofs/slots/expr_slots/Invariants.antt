@@ -1,5 +1,5 @@
 use Rattle.std.proofs.Common.{◌≡◌, map, take}
-use Rattle.step_run.specs.Slots.{slot_in}
+use Rattle.run_steps.specs.Slots.{slot_in}
 use Rattle.vlog_run.proofs.slots.expr_slots.Given as goal
 
 abbrev pub invariant-loop-name : goal.invariant-loop-name

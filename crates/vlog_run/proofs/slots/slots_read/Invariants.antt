@@ -1,6 +1,6 @@
 use Rattle.std.proofs.Common.{◌≡◌, map, take}
-use Rattle.expr_text.specs.Names.{names_in}
-use Rattle.step_run.specs.Slots.{slot_in}
+use Rattle.net_expressions.specs.Names.{names_in}
+use Rattle.run_steps.specs.Slots.{slot_in}
 use Rattle.vlog_text.specs.Views.{assign_of}
 use Rattle.vlog_run.proofs.slots.slots_read.Given as goal
 

@@ -1,6 +1,6 @@
 use Rattle.std.proofs.Common.{◌∙◌, ap, subst}
-use Rattle.est_base.specs.Distinct.{all_differ}
-use Rattle.est_base.specs.Names.{is_same_name}
+use Rattle.base_types.specs.Distinct.{all_differ}
+use Rattle.base_types.specs.Names.{is_same_name}
 use Rattle.blif_text.specs.Circuits.{Circuit}
 use Rattle.blif_run.specs.Loops.{IsDescribed}
 use Rattle.blif_run.specs.Runners.{Runner}

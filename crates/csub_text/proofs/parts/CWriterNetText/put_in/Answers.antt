@@ -1,9 +1,9 @@
 use Rattle.std.proofs.Common.{refl}
 use Rattle.net_ir.specs.Runs.{netlist_of}
-use Rattle.net_text.proofs.Exports.{put-counted}
+use Rattle.net_writer.proofs.Exports.{put-counted}
 use Rattle.csub_text.specs.Parts.{parts_in}
 use Rattle.csub_text.specs.Written.{declaration, input_name, next_name}
-use Rattle.csub_text.specs.declared.parts.Section.TheVariants.{InputLocals, NextLocals}
+use Rattle.csub_text.specs.declared.parts.CSection.TheVariants.{InputLocals, NextLocals}
 use Rattle.csub_text.proofs.parts.CWriterNetText.put_in.Goals as goal
 
 pub returns-in-InputLocals : goal.returns-in-InputLocals

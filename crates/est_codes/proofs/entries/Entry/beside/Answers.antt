@@ -1,5 +1,5 @@
 use Rattle.std.proofs.Common.{◌∙◌}
-use Rattle.est_base.specs.Codes.{maxima}
+use Rattle.base_types.specs.Codes.{maxima}
 use Rattle.est_codes.proofs.CodeSets.{resumed_row}
 use Rattle.est_codes.proofs.entries.Entry.beside.Goals as goal
 

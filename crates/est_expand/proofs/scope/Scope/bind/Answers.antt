@@ -1,6 +1,6 @@
 use Rattle.std.proofs.Common.{◌≡◌, ◌∷◌, [], ◌++◌, reverse, map, sym, ap, subst, ◌∙◌}
 use Rattle.std.specs.HashMap.{get_by}
-use Rattle.est_base.specs.Names.{is_same_name}
+use Rattle.base_types.specs.Names.{is_same_name}
 use Rattle.est_expand.specs.declared.scope.Bound.{Bound}
 use Rattle.est_expand.specs.Scopes.{meaning}
 use Rattle.est_expand.specs.Tables.{bound_name, names_of, Hides}

@@ -2,7 +2,7 @@ use Rattle.std.proofs.Common.{◌≡◌, ◌∷◌, reverse, map, sym, ap, subst
 use Rattle.std.specs.HashMap.{get_by}
 use Rattle.std.specs.Cmp.Lexicographic.{nat_list_eq_equiv}
 use Rattle.std.specs.Prelude.{if◌then◌else◌}
-use Rattle.est_base.specs.Names.{is_same_name}
+use Rattle.base_types.specs.Names.{is_same_name}
 use Rattle.est_expand.specs.Scopes.{meaning}
 use Rattle.est_expand.specs.Tables.{bound_name, Hides}
 use Rattle.est_expand.proofs.ScopeTables.{reverse-push, meaning-unbound}

@@ -1,5 +1,5 @@
 use Rattle.std.proofs.Common.{sym, ap, ◌∙◌, Bor, ℕ, List}
-use Rattle.est_base.specs.Names.{is_same_name}
+use Rattle.base_types.specs.Names.{is_same_name}
 use Rattle.est_names.specs.Names.{is_among}
 use Rattle.est_names.proofs.NameSets.{list_any-map}
 use Rattle.est_names.proofs.name_set.NameSet.contains.Goals as goal

@@ -1,5 +1,5 @@
 use Rattle.std.proofs.Common.{sym, ap, ◌∙◌, Bor, ℕ, List}
-use Rattle.est_base.specs.Names.{is_same_name}
+use Rattle.base_types.specs.Names.{is_same_name}
 use Rattle.est_names.specs.Names.{place_of}
 use Rattle.est_names.proofs.NameSets.{position-map}
 use Rattle.est_names.proofs.name_set.NameSet.place.Goals as goal

@@ -1,6 +1,6 @@
 use Rattle.std.proofs.Common.{◌∙◌, ap, subst}
-use Rattle.est_base.specs.Distinct.{all_differ}
-use Rattle.est_base.specs.Names.{is_same_name}
+use Rattle.base_types.specs.Distinct.{all_differ}
+use Rattle.base_types.specs.Names.{is_same_name}
 use Rattle.vlog_text.specs.Views.{module_of}
 use Rattle.vlog_run.specs.Loops.{IsDescribed}
 use Rattle.vlog_run.specs.ModuleAnswers.{bare_inputs}

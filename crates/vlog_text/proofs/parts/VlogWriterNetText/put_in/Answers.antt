@@ -1,11 +1,11 @@
 use Rattle.std.proofs.Common.{refl}
 use Rattle.net_ir.specs.Runs.{netlist_of}
-use Rattle.net_text.proofs.Exports.{put-counted}
-use Rattle.expr_text.specs.NetNames.{state_name}
+use Rattle.net_writer.proofs.Exports.{put-counted}
+use Rattle.net_expressions.specs.NetNames.{state_name}
 use Rattle.vlog_text.specs.Parts.{parts_in}
 use Rattle.vlog_text.specs.Trees.{Reg}
 use Rattle.vlog_text.specs.Written.{declaration_line, declares}
-use Rattle.vlog_text.specs.declared.parts.Section.TheVariants.{Regs}
+use Rattle.vlog_text.specs.declared.parts.VerilogSection.TheVariants.{Regs}
 use Rattle.vlog_text.proofs.parts.VlogWriterNetText.put_in.Goals as goal
 
 pub returns-in-Regs : goal.returns-in-Regs

@@ -1,0 +1,191 @@
+// The lines about faults of traces and texts.
+
+ghost use Rattle.std.specs.Prelude.{◌++◌, codes, decimal, map};
+ghost use Rattle.base_types.specs.Writing.{Wrote};
+ghost use Rattle.cec_commands.specs.Lines.{circuit_fault_text, program_fault_text, text_fault_text};
+ghost use Rattle.cec_commands.specs.Lines.{guarded_fault_text, module_fault_text, trace_text, unknown_text};
+ghost use Rattle.grc_graph.specs.PlainWireNames.{wire_name_of};
+
+use crate::text_faults::TextFault;
+use crate::unknown_wires::UnknownWires;
+use base_types::{Sink, SinkFault, write_pieces};
+use blif_run::BlifTextFault as CircuitFault;
+use cec_text_io::put_loop;
+use csub_guard_run::GuardedTextFault as GuardedFault;
+use csub_run::CTextFault as ProgramFault;
+use itoa::Buffer;
+use run_trace_io::TraceFault;
+use vlog_run::VerilogTextFault as ModuleFault;
+
+/// The line of a fault of a trace.
+pub(crate) fn put_trace_fault<E: Sink>(err: &mut E, fault: &TraceFault) -> Result<(), SinkFault>
+    ensures { Wrote (E.told err.old) (E.told err.new) (E.faults err.old) (E.faults err.new)
+        (codes "cec: " ++ (trace_text fault.now ++ codes "\n")) result }
+{
+    match fault {
+        TraceFault::BadByte(place) => put_numbered(err, b"byte ", *place, b": bad byte", b""),
+        TraceFault::UnknownInput(instant, name) => put_numbered(
+            err,
+            b"instant ",
+            *instant,
+            b": unknown input ",
+            name.bytes(),
+        ),
+        TraceFault::Repeated(instant, name) => put_numbered(
+            err,
+            b"instant ",
+            *instant,
+            b": repeated ",
+            name.bytes(),
+        ),
+        TraceFault::BadReset(instant) => put_numbered(
+            err,
+            b"instant ",
+            *instant,
+            b": bad reset",
+            b"",
+        ),
+        TraceFault::OpenInstant(instant) => put_numbered(
+            err,
+            b"instant ",
+            *instant,
+            b": open",
+            b"",
+        ),
+        TraceFault::Breaks(instant, relation) => {
+            let mut number = Buffer::new();
+            let number = number.format(*relation).as_bytes();
+            put_numbered(err, b"instant ", *instant, b": breaks relation ", number)
+        }
+    }
+}
+
+// A line with a number behind its first word.
+fn put_numbered<E: Sink>(
+    err: &mut E,
+    word: &'static [u8],
+    number: u32,
+    text: &'static [u8],
+    rest: &[u8],
+) -> Result<(), SinkFault>
+    ensures { Wrote (E.told err.old) (E.told err.new) (E.faults err.old) (E.faults err.new)
+        (codes "cec: " ++ ((word.now ++ (decimal number ++ (text.now ++ rest.now))) ++ codes "\n")) result }
+{
+    let mut shown = Buffer::new();
+    let shown = shown.format(number).as_bytes();
+    write_pieces(err, &[b"cec: ", word, shown, text, rest, b"\n"])
+}
+
+/// The line of an instant in which wires stay unknown.
+pub(crate) fn put_unknown<E: Sink>(err: &mut E, wires: &UnknownWires) -> Result<(), SinkFault>
+    ensures { Wrote (E.told err.old) (E.told err.new) (E.faults err.old) (E.faults err.new)
+        (codes "cec: " ++ (unknown_text wires.now.instant (map wire_name_of wires.now.wires.items) ++ codes "\n"))
+        result }
+{
+    put_numbered(
+        err,
+        b"instant ",
+        wires.instant,
+        b": not constructive: ",
+        wires.text.as_slice(),
+    )
+}
+
+/// The line of a fault of a text.
+pub(crate) fn put_text_fault<E: Sink>(err: &mut E, fault: &TextFault) -> Result<(), SinkFault>
+    ensures { Wrote (E.told err.old) (E.told err.new) (E.faults err.old) (E.faults err.new)
+        (codes "cec: " ++ (text_fault_text fault.now ++ codes "\n")) result }
+{
+    match fault {
+        TextFault::Blif(fault) => put_circuit_fault(err, fault),
+        TextFault::C(fault) => put_program_fault(err, fault),
+        TextFault::Guard(fault) => put_guarded_fault(err, fault),
+        TextFault::Verilog(fault) => put_module_fault(err, fault),
+    }
+}
+
+// The line of a fault of a BLIF text.
+fn put_circuit_fault<E: Sink>(err: &mut E, fault: &CircuitFault) -> Result<(), SinkFault>
+    ensures { Wrote (E.told err.old) (E.told err.new) (E.faults err.old) (E.faults err.new)
+        (codes "cec: " ++ (circuit_fault_text fault.now ++ codes "\n")) result }
+{
+    match fault {
+        CircuitFault::Line(number) => {
+            put_numbered(err, b"line ", *number, b": not in the profile", b"")
+        }
+        CircuitFault::TwoDrivers(name) => {
+            write_pieces(err, &[b"cec: ", b"two drivers: ", name.bytes(), b"\n"])
+        }
+        CircuitFault::NoDriver(name) => {
+            write_pieces(err, &[b"cec: ", b"no driver: ", name.bytes(), b"\n"])
+        }
+        CircuitFault::Loop(names) => put_loop(err, b"cec: ", names),
+    }
+}
+
+// The line of a fault of a text of the C subset.
+fn put_program_fault<E: Sink>(err: &mut E, fault: &ProgramFault) -> Result<(), SinkFault>
+    ensures { Wrote (E.told err.old) (E.told err.new) (E.faults err.old) (E.faults err.new)
+        (codes "cec: " ++ (program_fault_text fault.now ++ codes "\n")) result }
+{
+    match fault {
+        ProgramFault::Syntax(place) => put_numbered(err, b"byte ", *place, b": syntax", b""),
+        ProgramFault::Twice(name) => {
+            write_pieces(err, &[b"cec: ", b"declared twice: ", name.bytes(), b"\n"])
+        }
+        ProgramFault::Undeclared(name) => {
+            write_pieces(err, &[b"cec: ", b"undeclared: ", name.bytes(), b"\n"])
+        }
+        ProgramFault::Unset(name) => {
+            write_pieces(err, &[b"cec: ", b"unset: ", name.bytes(), b"\n"])
+        }
+    }
+}
+
+// The line of a fault of a guarded text.
+fn put_guarded_fault<E: Sink>(err: &mut E, fault: &GuardedFault) -> Result<(), SinkFault>
+    ensures { Wrote (E.told err.old) (E.told err.new) (E.faults err.old) (E.faults err.new)
+        (codes "cec: " ++ (guarded_fault_text fault.now ++ codes "\n")) result }
+{
+    match fault {
+        GuardedFault::Syntax(place) => put_numbered(err, b"byte ", *place, b": syntax", b""),
+        GuardedFault::Twice(name) => {
+            write_pieces(err, &[b"cec: ", b"declared twice: ", name.bytes(), b"\n"])
+        }
+        GuardedFault::Undeclared(name) => {
+            write_pieces(err, &[b"cec: ", b"undeclared: ", name.bytes(), b"\n"])
+        }
+        GuardedFault::Again(name) => {
+            write_pieces(err, &[b"cec: ", b"assigned twice: ", name.bytes(), b"\n"])
+        }
+        GuardedFault::Unset(name) => {
+            write_pieces(err, &[b"cec: ", b"unset: ", name.bytes(), b"\n"])
+        }
+    }
+}
+
+// The line of a fault of a Verilog text.
+fn put_module_fault<E: Sink>(err: &mut E, fault: &ModuleFault) -> Result<(), SinkFault>
+    ensures { Wrote (E.told err.old) (E.told err.new) (E.faults err.old) (E.faults err.new)
+        (codes "cec: " ++ (module_fault_text fault.now ++ codes "\n")) result }
+{
+    match fault {
+        ModuleFault::Syntax(place) => put_numbered(err, b"byte ", *place, b": syntax", b""),
+        ModuleFault::Twice(name) => {
+            write_pieces(err, &[b"cec: ", b"declared twice: ", name.bytes(), b"\n"])
+        }
+        ModuleFault::Port(name) => {
+            write_pieces(err, &[b"cec: ", b"bad port: ", name.bytes(), b"\n"])
+        }
+        ModuleFault::Undeclared(name) => {
+            write_pieces(err, &[b"cec: ", b"undeclared: ", name.bytes(), b"\n"])
+        }
+        ModuleFault::TwoDrivers(name) => {
+            write_pieces(err, &[b"cec: ", b"two drivers: ", name.bytes(), b"\n"])
+        }
+        ModuleFault::NoDriver(name) => {
+            write_pieces(err, &[b"cec: ", b"no driver: ", name.bytes(), b"\n"])
+        }
+        ModuleFault::Loop(names) => put_loop(err, b"cec: ", names),
+    }
+}

@@ -1,0 +1,56 @@
+// The first fault of a text that is to be run, whatever its language.
+
+ghost use Rattle.std.specs.Prelude.{◌≡◌};
+ghost use Rattle.cec_commands.specs.declared.text_faults.TextFault.TheVariants.{Blif as of_blif, C as of_c};
+ghost use Rattle.cec_commands.specs.declared.text_faults.TextFault.TheVariants.{Guard as of_guarded};
+ghost use Rattle.cec_commands.specs.declared.text_faults.TextFault.TheVariants.{Verilog as of_verilog};
+
+use blif_run::BlifTextFault as CircuitFault;
+use csub_guard_run::GuardedTextFault as GuardedFault;
+use csub_run::CTextFault as ProgramFault;
+use vlog_run::VerilogTextFault as ModuleFault;
+
+/// The first fault of a text that is to be run, by its language.
+#[derive(Debug, Drop)]
+pub enum TextFault {
+    /// Of a BLIF text.
+    Blif(CircuitFault),
+    /// Of a text of the C subset.
+    C(ProgramFault),
+    /// Of a guarded text.
+    Guard(GuardedFault),
+    /// Of a text of structural Verilog.
+    Verilog(ModuleFault),
+}
+
+impl From<CircuitFault> for TextFault {
+    ghost from_gives = { λ fault told. told ≡ of_blif fault };
+
+    fn from(fault: CircuitFault) -> TextFault {
+        TextFault::Blif(fault)
+    }
+}
+
+impl From<ProgramFault> for TextFault {
+    ghost from_gives = { λ fault told. told ≡ of_c fault };
+
+    fn from(fault: ProgramFault) -> TextFault {
+        TextFault::C(fault)
+    }
+}
+
+impl From<GuardedFault> for TextFault {
+    ghost from_gives = { λ fault told. told ≡ of_guarded fault };
+
+    fn from(fault: GuardedFault) -> TextFault {
+        TextFault::Guard(fault)
+    }
+}
+
+impl From<ModuleFault> for TextFault {
+    ghost from_gives = { λ fault told. told ≡ of_verilog fault };
+
+    fn from(fault: ModuleFault) -> TextFault {
+        TextFault::Verilog(fault)
+    }
+}

@@ -1,5 +1,0 @@
-use Rattle.cec_core.proofs.Accepting.{accepted_done}
-use Rattle.cec_core.proofs.laws.accepted_requests_are_done.Goals as goal
-
-pub returns : goal.returns
-returns c = accepted_done

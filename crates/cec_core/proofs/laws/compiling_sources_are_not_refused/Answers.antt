@@ -1,5 +1,0 @@
-use Rattle.cec_core.proofs.Unrefused.{unrefused}
-use Rattle.cec_core.proofs.laws.compiling_sources_are_not_refused.Goals as goal
-
-pub returns : goal.returns
-returns c = unrefused

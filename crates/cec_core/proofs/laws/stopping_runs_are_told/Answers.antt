@@ -1,5 +1,0 @@
-use Rattle.cec_core.proofs.Stopping.{stopping_told}
-use Rattle.cec_core.proofs.laws.stopping_runs_are_told.Goals as goal
-
-pub returns : goal.returns
-returns c = stopping_told

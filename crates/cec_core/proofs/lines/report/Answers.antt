@@ -1,5 +1,0 @@
-use Rattle.text_io.proofs.Exports.{whole_or_front}
-use Rattle.cec_core.proofs.lines.report.Goals as goal
-
-pub returns : goal.returns
-returns g c = whole_or_front _ _ _ _ _ c.put_line.result c.put_line.ensures

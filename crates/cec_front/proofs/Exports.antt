@@ -1,3 +1,0 @@
--- What other crates use of these proofs.
-pub use Rattle.cec_front.proofs.SourceNames.{HasRoom, given-room, outgoing-room, source-room}
-pub use Rattle.cec_front.proofs.OneProgram.{one_program}

@@ -1,5 +1,0 @@
-use Rattle.cec_front.proofs.Unrefused.{unrefused}
-use Rattle.cec_front.proofs.laws.standing_texts_are_not_refused.Goals as goal
-
-pub returns : goal.returns
-returns c = unrefused

@@ -1,5 +1,0 @@
-use Rattle.cec_front.proofs.OneProgram.{one_program}
-use Rattle.cec_front.proofs.laws.texts_stand_for_one_program.Goals as goal
-
-pub returns : goal.returns
-returns c = one_program

@@ -1,4 +1,0 @@
-use Rattle.cec_front.proofs.programs.flat_program.Goals as goal
-
-pub returns-in-Err-clause-refusal : goal.returns-in-Err-clause-refusal
-returns-in-Err-clause-refusal c = c.in-Err.ensures.refusal _

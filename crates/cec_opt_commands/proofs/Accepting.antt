@@ -1,0 +1,50 @@
+-- Where nothing is refused and nothing outside fails, a command is done.
+use Rattle.std.proofs.Common.{◌≡◌, ℕ, ◌≤◌, ◌<◌, ◌⊎◌, List, [], Option, Some, inl, inr, refl, sym, subst, arith}
+use Rattle.base_types.specs.Faults.{Rose}
+use Rattle.base_types.specs.SinkChanges.{SinkChange}
+use Rattle.cec_text_io.proofs.Exports.{never_rose}
+use Rattle.cec_opt_commands.specs.Laws.{IsAccepted, IsFaultless, AcceptedTextsAreDone}
+use Rattle.cec_opt_commands.specs.Outcomes.{IsOptOutcomeOf, CountsFiles, LeavesAnswer, IsTextOf, GainsOut}
+use Rattle.cec_opt_commands.specs.Words.{Request, Help, Do}
+use Rattle.cec_opt_commands.specs.declared.outcome.OptOutcome.{OptOutcome}
+use Rattle.cec_opt_commands.specs.declared.outcome.OptOutcome.TheVariants.{Done, Usage, FileFault, BadText, TooLong, WriteFault, NoMemory}
+use Rattle.cec_opt_commands.specs.declared.words.Task.{Task}
+use Rattle.cec_opt_commands.specs.declared.words.Task.TheVariants.{Write, Check}
+
+not_long : (n limit : ℕ) → n ≤ limit → limit < n → ⊥
+not_long n limit short long = omega (arith, short, long)
+
+-- a write that failed raised the count
+answer_rose : (task : Task) (P : List ℕ → Type 0) (s : SinkChange) → LeavesAnswer task P s WriteFault → Rose s.faults_before s.faults_now
+answer_rose (Write form) P s l = l.2.faults
+answer_rose Check P s l = l.2.faults
+
+pub accepted_done : AcceptedTextsAreDone
+accepted_done Help held Done before now failed_before failed_now s accepted agrees counts still out steady = inl refl
+accepted_done Help held Usage before now failed_before failed_now s accepted agrees counts still out steady = absurd agrees
+accepted_done Help held FileFault before now failed_before failed_now s accepted agrees counts still out steady = absurd agrees
+accepted_done Help held (BadText fault) before now failed_before failed_now s accepted agrees counts still out steady = absurd agrees
+accepted_done Help held TooLong before now failed_before failed_now s accepted agrees counts still out steady = absurd agrees
+accepted_done Help held WriteFault before now failed_before failed_now s accepted agrees counts still out steady = absurd (steady out.2.faults)
+accepted_done Help held NoMemory before now failed_before failed_now s accepted agrees counts still out steady = inr refl
+accepted_done (Do task name) held Done before now failed_before failed_now s accepted agrees counts still out steady = inl refl
+accepted_done (Do task name) held Usage before now failed_before failed_now s accepted agrees counts still out steady = absurd agrees.2
+accepted_done (Do task name) held FileFault before now failed_before failed_now s accepted agrees counts still out steady =
+    absurd (still counts.faults)
+accepted_done (Do task name) held (BadText fault) before now failed_before failed_now s accepted agrees counts still out steady =
+    absurd ((subst IsFaultless (sym agrees.1) accepted).faultless fault agrees.2.1)
+accepted_done (Do task name) held TooLong before now failed_before failed_now s accepted agrees counts still out steady =
+    absurd (not_long _ _ (subst IsFaultless (sym agrees.1) accepted).short agrees.2)
+accepted_done (Do task name) held WriteFault before now failed_before failed_now s accepted agrees counts still out steady =
+    absurd (steady (answer_rose task (IsTextOf task name (Some held)) s out))
+accepted_done (Do task name) held NoMemory before now failed_before failed_now s accepted agrees counts still out steady = inr refl
+
+-- over files and sinks that count no fault
+pub steady_end : (asked : Option Request) (request : Request) (held : List ℕ → List ℕ) (outcome : OptOutcome) (old new : Option (List ℕ))
+    → asked ≡ Some request → IsAccepted request held → IsOptOutcomeOf asked (Some held) outcome → CountsFiles asked outcome 0 0 [] []
+    → GainsOut asked (Some held) outcome (record { before = old; after = new; faults_before = 0; faults_now = 0 })
+    → (outcome ≡ Done) ⊎ (outcome ≡ NoMemory)
+steady_end asked request held outcome old new is accepted agrees counts gains =
+    let s : SinkChange = record { before = old; after = new; faults_before = 0; faults_now = 0 } in
+    accepted_done request held outcome 0 0 [] [] s accepted (subst (λ a. IsOptOutcomeOf a (Some held) outcome) is agrees)
+    (subst (λ a. CountsFiles a outcome 0 0 [] []) is counts) never_rose (subst (λ a. GainsOut a (Some held) outcome s) is gains) never_rose

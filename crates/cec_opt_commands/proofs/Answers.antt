@@ -1,0 +1,23 @@
+-- The text that is written of an optimized netlist is what is asked for.
+use Rattle.std.proofs.Common.{ℕ, List}
+use Rattle.net_ir.specs.Netlists.{Netlist}
+use Rattle.cec_opt_texts.proofs.Exports.{blif-keeps, c-keeps, verilog-keeps}
+use Rattle.cec_opt_texts.specs.Optimized.{IsSmallNetOf, IsTextNet}
+use Rattle.cec_opt_commands.specs.Answers.{IsAnswer}
+use Rattle.cec_opt_commands.specs.NetTexts.{IsWritten}
+use Rattle.cec_opt_commands.specs.declared.words.Form.{Form}
+use Rattle.cec_opt_commands.specs.declared.words.Form.TheVariants.{Blif, C, Verilog}
+use Rattle.cec_opt_commands.specs.declared.words.Task.TheVariants.{Write}
+
+pub small_answers : (form : Form) (text written : List ℕ) (net : Netlist) → IsSmallNetOf text net → IsWritten form written net
+    → IsAnswer (Write form) text written
+small_answers Blif text written net small w =
+    record { keeps = blif-keeps text written net small w.means; net = net; small = small; spelled = w.spelled }
+small_answers C text written net small w =
+    record { keeps = c-keeps text written net small w.means; net = net; small = small; spelled = w.spelled }
+small_answers Verilog text written net small w =
+    record { keeps = verilog-keeps text written net small w.means; net = net; small = small; spelled = w.spelled }
+
+-- an optimized netlist of a text is one of a netlist of the text
+pub text_net : (text : List ℕ) (net : Netlist) → (small : IsSmallNetOf text net) → IsTextNet text small.small.made
+text_net text net s = record { circuit = s.circuit; reads = s.reads; is = s.small.is }

@@ -1,0 +1,17 @@
+use Rattle.std.proofs.Common.{append_assoc, codes}
+use Rattle.cec_opt_commands.proofs.lines.put_fault.Goals as goal
+
+pub returns-in-Line : goal.returns-in-Line
+returns-in-Line g c =
+    rw (
+      c.in-Line.is,
+      ← c.format.ensures.text,
+      ← c.as_bytes-shown.ensures.value,
+      append_assoc c.as_bytes-shown.result.now (codes ": not in the profile") (codes "\n"),
+    ) c.write_pieces.ensures
+
+pub returns-in-TwoDrivers : goal.returns-in-TwoDrivers
+returns-in-TwoDrivers g c = rw (c.in-TwoDrivers.is, ← c.bytes.ensures) c.write_pieces-in-TwoDrivers.ensures
+
+pub returns-in-NoDriver : goal.returns-in-NoDriver
+returns-in-NoDriver g c = rw (c.in-NoDriver.is, ← c.bytes-in-NoDriver.ensures) c.write_pieces-in-NoDriver.ensures

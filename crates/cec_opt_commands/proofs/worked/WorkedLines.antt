@@ -1,0 +1,86 @@
+-- Worked depths, counts, lines and statuses, by hand, and what words ask for.
+use Rattle.std.proofs.Common.{◌≡◌, true, [], ◌∷◌, map, None, Some, codes, refl}
+use Rattle.std.specs.Fmt.{digits}
+use Rattle.net_ir.specs.declared.netlist.Op.TheVariants.{Const, Copy, Not, And, Or}
+use Rattle.net_ir.specs.Netlists.{Netlist}
+use Rattle.blif_net.specs.declared.fault.CircuitFault.TheVariants.{NoPause, Model, Input, Output, Again}
+use Rattle.cec_opt_texts.specs.declared.fault.OptFault.TheVariants.{Line, TwoDrivers, NoDriver, Circuit}
+use Rattle.cec_opt_commands.specs.Answers.{counts_line}
+use Rattle.cec_opt_commands.specs.Depths.{op_depth, net_depths, greatest, depth_of}
+use Rattle.cec_opt_commands.specs.Lines.{line_of, name_in}
+use Rattle.cec_opt_commands.specs.Statuses.{status_of, written_of, written_outcome}
+use Rattle.cec_opt_commands.specs.Words.{Help, request_by}
+use Rattle.cec_opt_commands.specs.declared.outcome.OptOutcome.TheVariants.{Done, Usage, FileFault, BadText, TooLong, WriteFault, NoMemory}
+use Rattle.cec_text_io.specs.declared.writing.Written.TheVariants as ends
+
+-- ---- depths and counts
+
+-- nets 0 and 1 are inputs, net 2 is a latch, and the gates have the nets from 3 on
+abbrev net : Netlist
+net = record {
+  name = codes "T";
+  inputs = codes "A" ∷ codes "B" ∷ [];
+  outputs = record { name = codes "O"; net = record { 0 = 6 } } ∷ [];
+  paused = 7;
+  latches = record { init = true; from = record { 0 = 6 } } ∷ [];
+  gates = record { op = And (record { 0 = 0 }) (record { 0 = 1 }); wire = None }
+      ∷ record { op = Copy (record { 0 = 3 }); wire = None }
+      ∷ record { op = Not (record { 0 = 4 }); wire = None }
+      ∷ record { op = Or (record { 0 = 2 }) (record { 0 = 5 }); wire = None }
+      ∷ record { op = Const true; wire = None } ∷ [];
+}
+
+depths_of_operators : map (op_depth (λ n. n)) (Const true ∷ Copy (record { 0 = 4 }) ∷ Not (record { 0 = 4 }) ∷ And (record { 0 = 4 }) (record { 0 = 2 })
+    ∷ And (record { 0 = 2 }) (record { 0 = 4 }) ∷ Or (record { 0 = 4 }) (record { 0 = 2 }) ∷ Or (record { 0 = 2 }) (record { 0 = 4 }) ∷ [])
+    ≡ 0 ∷ 4 ∷ 5 ∷ 5 ∷ 5 ∷ 5 ∷ 5 ∷ []
+depths_of_operators = refl
+
+depths : net_depths net ≡ 0 ∷ 0 ∷ 0 ∷ 1 ∷ 1 ∷ 2 ∷ 3 ∷ 0 ∷ []
+depths = refl
+
+greatest_ones : map greatest ([] ∷ (2 ∷ 5 ∷ 3 ∷ []) ∷ (4 ∷ []) ∷ []) ≡ 0 ∷ 5 ∷ 4 ∷ []
+greatest_ones = refl
+
+depth : depth_of net ≡ 3
+depth = refl
+
+counts : counts_line net ≡ codes "T: 2 inputs, 2 outputs, 1 latches, 5 gates, depth 3\n"
+unfolding digits
+counts = refl
+
+-- ---- lines and statuses
+
+statuses : map status_of (Done ∷ Usage ∷ FileFault ∷ BadText (Line 3) ∷ TooLong ∷ WriteFault ∷ NoMemory ∷ []) ≡ 0 ∷ 2 ∷ 3 ∷ 7 ∷ 8 ∷ 9 ∷ 10 ∷ []
+statuses = refl
+
+lines : map (line_of (codes "p.blif")) (Done ∷ Usage ∷ FileFault ∷ TooLong ∷ WriteFault ∷ NoMemory ∷ [])
+    ≡ [] ∷ codes "cec-opt: usage, see cec-opt --help\n" ∷ codes "cec-opt: cannot read p.blif\n" ∷ codes "cec-opt: limit: text\n"
+    ∷ codes "cec-opt: cannot write\n" ∷ codes "cec-opt: out of memory\n" ∷ []
+lines = refl
+
+lines_of_faults : map (λ fault. line_of [] (BadText fault)) (Line 12 ∷ TwoDrivers (codes "a") ∷ NoDriver (codes "a") ∷ Circuit NoPause
+    ∷ Circuit (Model (codes "a"))
+    ∷ Circuit (Input (codes "a")) ∷ Circuit (Output (codes "a")) ∷ Circuit (Again (codes "a")) ∷ [])
+    ≡ codes "cec-opt: line 12: not in the profile\n" ∷ codes "cec-opt: two drivers: a\n" ∷ codes "cec-opt: no driver: a\n"
+    ∷ codes "cec-opt: last output is not _paused\n" ∷ codes "cec-opt: bad model: a\n" ∷ codes "cec-opt: bad input: a\n" ∷ codes "cec-opt: bad output: a\n"
+    ∷ codes "cec-opt: output twice: a\n" ∷ []
+unfolding digits
+lines_of_faults = refl
+
+endings : map written_of (Done ∷ WriteFault ∷ NoMemory ∷ Usage ∷ FileFault ∷ TooLong ∷ [])
+    ≡ Some ends.Done ∷ Some ends.WriteFault ∷ Some ends.NoMemory ∷ None ∷ None ∷ None ∷ []
+endings = refl
+
+outcomes : map written_outcome (ends.Done ∷ ends.WriteFault ∷ ends.NoMemory ∷ []) ≡ Done ∷ WriteFault ∷ NoMemory ∷ []
+outcomes = refl
+
+-- ---- words
+
+some_words : map request_by ((codes "--help" ∷ []) ∷ [] ∷ (codes "check" ∷ []) ∷ (codes "check" ∷ codes "-p" ∷ []) ∷ (codes "check" ∷ [] ∷ []) ∷ (codes "run"
+    ∷ codes "p" ∷ [])
+    ∷ (codes "check" ∷ codes "p" ∷ codes "p" ∷ []) ∷ (codes "--help" ∷ codes "p" ∷ []) ∷ [])
+    ≡ Some Help ∷ None ∷ None ∷ None ∷ None ∷ None ∷ None ∷ None ∷ []
+some_words = refl
+
+files : map name_in (None ∷ Some Help ∷ []) ≡ [] ∷ [] ∷ []
+files = refl

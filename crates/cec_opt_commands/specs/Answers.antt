@@ -1,0 +1,52 @@
+-- Contract: what a task writes of a text.
+use Rattle.std.specs.Prelude.{◌≡◌, ℕ, ◌+◌, List, [], ◌∷◌, ◌++◌, length, codes, decimal}
+use Rattle.std.specs.List.{concat}
+use Rattle.net_ir.specs.Netlists.{Netlist}
+use Rattle.net_opt.specs.Optimized.{Optimizes}
+use Rattle.net_opt.specs.Shown.{EachIsShown}
+use Rattle.net_simp.specs.SimpleNets.{IsSimple}
+use Rattle.blif_text.specs.Written as blif_texts
+use Rattle.csub_text.specs.Written as c_texts
+use Rattle.vlog_text.specs.Written as verilog_texts
+use Rattle.cec_opt_texts.specs.Alike.{BlifKeeps, CKeeps, VerilogKeeps}
+use Rattle.cec_opt_texts.specs.Optimized.{IsSmallNetOf, IsTextNet}
+use Rattle.cec_opt_commands.specs.Depths.{depth_of}
+use Rattle.cec_opt_commands.specs.declared.words.Form.TheVariants as forms
+use Rattle.cec_opt_commands.specs.declared.words.Task.{Task}
+use Rattle.cec_opt_commands.specs.declared.words.Task.TheVariants.{Write, Check}
+
+-- The text that is written keeps what the text means that was read (`Keeps`), and it is that of a netlist that is not
+-- larger than its circuit's, and in which nothing is left to simplify.
+pub record IsOptimized (Keeps : List ℕ → List ℕ → Type 0) (write : Netlist → List ℕ) (text written : List ℕ) :
+    Type 0 where
+  pub keeps : Keeps text written
+  pub net : Netlist
+  pub small : IsSmallNetOf text net
+  pub spelled : written ≡ write net
+
+-- The name of a netlist, and how many inputs, outputs, latches and gates it has, and how deep they stand. The last
+-- output of its texts is `_paused`.
+abbrev pub counts_line : Netlist → List ℕ
+counts_line net = concat (net.name ∷ codes ": " ∷ decimal (length net.inputs) ∷ codes " inputs, "
+    ∷ decimal (length net.outputs + 1) ∷ codes " outputs, " ∷ decimal (length net.latches) ∷ codes " latches, "
+    ∷ decimal (length net.gates) ∷ codes " gates, depth " ∷ decimal (depth_of net) ∷ codes "\n" ∷ [])
+
+-- the line of a netlist, and that of one that replaces it and is not larger
+pub record TellsNets (net : Netlist) (lines : List ℕ) : Type 0 where
+  pub small : Netlist
+  pub optimizes : Optimizes net small
+  pub simple : IsSimple small
+  pub shown : EachIsShown small
+  pub is : lines ≡ counts_line net ++ counts_line small
+
+-- the same of the netlist of a text
+pub record TellsText (text lines : List ℕ) : Type 0 where
+  pub net : Netlist
+  pub of_text : IsTextNet text net
+  pub tells : TellsNets net lines
+
+abbrev pub IsAnswer : Task → List ℕ → List ℕ → Type 0
+IsAnswer (Write forms.Blif) text written = IsOptimized BlifKeeps blif_texts.written text written
+IsAnswer (Write forms.C) text written = IsOptimized CKeeps c_texts.written text written
+IsAnswer (Write forms.Verilog) text written = IsOptimized VerilogKeeps verilog_texts.written text written
+IsAnswer Check text written = TellsText text written

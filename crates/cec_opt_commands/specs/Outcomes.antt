@@ -1,0 +1,80 @@
+-- Contract: what each outcome of the top call says.
+use Rattle.std.specs.Prelude.{◌≡◌, ℕ, ◌<◌, ◌≤◌, ⊤, List, [], length, Option, Some, None}
+use Rattle.base_types.specs.declared.bounds.TheConstants.Limits.{TEXT_BYTES}
+use Rattle.base_types.specs.Reading.{KeepsFaults, Notes}
+use Rattle.base_types.specs.SinkChanges.{SinkChange}
+use Rattle.base_types.specs.Writing.{Appends}
+use Rattle.net_ir.specs.Netlists.{Netlist}
+use Rattle.cec_opt_texts.specs.Faults.{IsOptFault}
+use Rattle.cec_opt_texts.specs.Optimized.{IsTextNet}
+use Rattle.cec_text_io.specs.Contents.{Content, Holds}
+use Rattle.cec_text_io.specs.Writings.{LeavesText, LeavesPieces}
+use Rattle.cec_opt_commands.specs.Answers.{IsAnswer}
+use Rattle.cec_opt_commands.specs.HelpTexts.{help_text}
+use Rattle.cec_opt_commands.specs.Statuses.{written_of}
+use Rattle.cec_opt_commands.specs.Words.{Request, Help, Do}
+use Rattle.cec_opt_commands.specs.declared.outcome.OptOutcome.{OptOutcome}
+use Rattle.cec_opt_commands.specs.declared.outcome.OptOutcome.TheVariants.{Done, Usage, FileFault, BadText, TooLong}
+use Rattle.cec_opt_commands.specs.declared.outcome.OptOutcome.TheVariants.{WriteFault}
+use Rattle.cec_opt_commands.specs.declared.outcome.OptOutcome.TheVariants.{NoMemory}
+use Rattle.cec_opt_commands.specs.declared.words.Task.{Task}
+use Rattle.cec_opt_commands.specs.declared.words.Task.TheVariants.{Write, Check}
+
+-- ---- causes
+
+-- the text keeps its limit, and its circuit has a netlist
+pub record HasNet (text : List ℕ) : Type 0 where
+  pub short : length text ≤ TEXT_BYTES
+  pub net : Netlist
+  pub of_text : IsTextNet text net
+
+-- what the outcome of a task on a text that was read says of its bytes
+abbrev pub SaysOf : OptOutcome → List ℕ → Type 0
+SaysOf Done text = HasNet text
+SaysOf (BadText fault) text = (length text ≤ TEXT_BYTES) × IsOptFault text fault
+SaysOf TooLong text = TEXT_BYTES < length text
+SaysOf WriteFault text = HasNet text
+SaysOf NoMemory text = ⊤
+SaysOf others text = ⊥
+
+-- what an outcome says of the file with the text; a file fault says nothing of bytes
+abbrev pub AgreesOnFile : Content → List ℕ → OptOutcome → Type 0
+AgreesOnFile content name FileFault = ⊤
+AgreesOnFile content name others = Holds content name (SaysOf others)
+
+-- how a command ends that reads no file
+abbrev pub IsWriting : OptOutcome → Type 0
+IsWriting Done = ⊤
+IsWriting WriteFault = ⊤
+IsWriting NoMemory = ⊤
+IsWriting others = ⊥
+
+-- what an outcome says of the words and of the bytes in the files
+abbrev pub IsOptOutcomeOf : Option Request → Content → OptOutcome → Type 0
+IsOptOutcomeOf None content outcome = outcome ≡ Usage
+IsOptOutcomeOf (Some Help) content outcome = IsWriting outcome
+IsOptOutcomeOf (Some (Do task name)) content outcome = AgreesOnFile content name outcome
+
+-- ---- the files
+
+-- The count of faults of the files and the name that failed last: a file fault raised the count, and the name is the
+-- file's; every other outcome leaves both.
+abbrev pub CountsFiles : Option Request → OptOutcome → (before now : ℕ) (failed_before failed_now : List ℕ) → Type 0
+CountsFiles (Some (Do task name)) FileFault before now failed_before failed_now = Notes before now name failed_now
+CountsFiles asked others before now failed_before failed_now = KeepsFaults before now failed_before failed_now
+
+-- ---- what `out` gained
+
+-- netlists are written piece by piece, counts as a whole
+abbrev pub LeavesAnswer : Task → (List ℕ → Type 0) → SinkChange → OptOutcome → Type 0
+LeavesAnswer (Write form) IsText s outcome = LeavesPieces IsText s (written_of outcome)
+LeavesAnswer Check IsText s outcome = LeavesText IsText s (written_of outcome)
+
+-- what a task writes of the text in a file
+abbrev pub IsTextOf : Task → List ℕ → Content → List ℕ → Type 0
+IsTextOf task name content written = Holds content name (λ text. IsAnswer task text written)
+
+abbrev pub GainsOut : Option Request → Content → OptOutcome → SinkChange → Type 0
+GainsOut None content outcome s = Appends s.before s.after s.faults_before s.faults_now []
+GainsOut (Some Help) content outcome s = LeavesText (λ written. written ≡ help_text) s (written_of outcome)
+GainsOut (Some (Do task name)) content outcome s = LeavesAnswer task (IsTextOf task name content) s outcome

@@ -1,0 +1,42 @@
+-- Contract: what the words of a command line ask for.
+use Rattle.std.specs.Prelude.{ℕ, Bool, false, not, ◌==◌, if◌then◌else◌, List, [], ◌∷◌, Option, Some, None, option_map}
+use Rattle.std.specs.Prelude.{codes}
+use Rattle.base_types.specs.Names.{is_same_name}
+use Rattle.cec_opt_commands.specs.declared.words.Form.TheVariants as forms
+use Rattle.cec_opt_commands.specs.declared.words.Task.{Task}
+use Rattle.cec_opt_commands.specs.declared.words.Task.TheVariants.{Write, Check}
+
+-- what is asked for
+pub data Request : Type 0 where
+  -- the list of the commands
+  Help : Request
+  -- a task on the text in the file of this name
+  Do : (task : Task) (name : List ℕ) → Request
+
+-- a file: not empty, and its first byte is not `-`
+abbrev pub is_plain : List ℕ → Bool
+is_plain [] = false
+is_plain (c ∷ cs) = not (c == 45)
+
+-- the task of a command
+abbrev pub task_of : List ℕ → Option Task
+task_of word =
+    if is_same_name word (codes "verilog") then Some (Write forms.Verilog)
+    else if is_same_name word (codes "blif") then Some (Write forms.Blif)
+    else if is_same_name word (codes "c") then Some (Write forms.C)
+    else if is_same_name word (codes "check") then Some Check
+    else None
+
+-- one word alone
+abbrev pub help_asked : List ℕ → Option Request
+help_asked word = if is_same_name word (codes "--help") then Some Help else None
+
+-- a command and a file
+abbrev pub job_asked : List ℕ → List ℕ → Option Request
+job_asked command name = if is_plain name then option_map (λ task. Do task name) (task_of command) else None
+
+-- every other list of words has no meaning
+abbrev pub request_by : List (List ℕ) → Option Request
+request_by (word ∷ []) = help_asked word
+request_by (command ∷ name ∷ []) = job_asked command name
+request_by others = None

@@ -1,0 +1,21 @@
+//! The optimizer of BLIF texts as a program: the top call, from the words of a command line on.
+//!
+//! `cec_opt` reads the words, reads a BLIF text, makes its circuit's netlist, optimizes it (`net_opt`), and writes it
+//! as BLIF (Berkeley), in the C subset, or as structural Verilog, with the interface of the text. Its contract says
+//! that over every list of items, resets included, the text that is written shows what the text shows that was read.
+#![tactic(auto)]
+
+mod command;
+mod counts;
+mod depths;
+mod laws;
+mod lines;
+mod outcome;
+mod steady;
+mod texts;
+mod words;
+
+pub use command::cec_opt;
+pub use laws::accepted_texts_are_done;
+pub use outcome::OptOutcome;
+pub use steady::cec_opt_steadily;

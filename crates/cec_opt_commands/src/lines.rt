@@ -1,0 +1,102 @@
+// The line about an outcome.
+
+ghost use Rattle.std.specs.Prelude.{◌++◌, codes};
+ghost use Rattle.base_types.specs.Writing.{Wrote};
+ghost use Rattle.cec_text_io.specs.ErrorLines.{GainsLine};
+ghost use Rattle.cec_opt_commands.specs.Lines.{circuit_text, fault_text, line_of};
+
+use crate::outcome::OptOutcome;
+use base_types::{Sink, SinkFault, write_pieces};
+use blif_net::CircuitFault;
+use cec_opt_texts::OptFault;
+use cec_text_io::put_loop;
+use itoa::Buffer;
+
+/// Writes the line of an outcome, where a command reads the file of this name; a sink that fails changes nothing.
+pub(crate) fn report<E: Sink>(err: &mut E, name: &str, outcome: &OptOutcome)
+    ensures { GainsLine (E.told err.old) (E.told err.new) (E.faults err.old) (E.faults err.new)
+        (line_of name.now outcome.now) }
+{
+    let _ = put_line(err, name, outcome);
+}
+
+// The line of an outcome, none for `Done`. Writing it takes no memory; a prefix of the line was appended where the
+// sink failed.
+fn put_line<E: Sink>(err: &mut E, name: &str, outcome: &OptOutcome) -> Result<(), SinkFault>
+    ensures { Wrote (E.told err.old) (E.told err.new) (E.faults err.old) (E.faults err.new)
+        (line_of name.now outcome.now) result }
+{
+    match outcome {
+        OptOutcome::Done => Ok(()),
+        OptOutcome::Usage => write_pieces(
+            err,
+            &[b"cec-opt: ", b"usage, see cec-opt --help", b"\n"],
+        ),
+        OptOutcome::FileFault => {
+            write_pieces(
+                err,
+                &[b"cec-opt: ", b"cannot read ", name.as_bytes(), b"\n"],
+            )
+        }
+        OptOutcome::BadText(fault) => put_fault(err, fault),
+        OptOutcome::TooLong => write_pieces(err, &[b"cec-opt: ", b"limit: text", b"\n"]),
+        OptOutcome::WriteFault => write_pieces(err, &[b"cec-opt: ", b"cannot write", b"\n"]),
+        OptOutcome::NoMemory => write_pieces(err, &[b"cec-opt: ", b"out of memory", b"\n"]),
+    }
+}
+
+// The line of a fault of a text.
+fn put_fault<E: Sink>(err: &mut E, fault: &OptFault) -> Result<(), SinkFault>
+    ensures { Wrote (E.told err.old) (E.told err.new) (E.faults err.old) (E.faults err.new)
+        (codes "cec-opt: " ++ (fault_text fault.now ++ codes "\n")) result }
+{
+    match fault {
+        OptFault::Line(number) => {
+            let mut shown = Buffer::new();
+            let shown = shown.format(*number).as_bytes();
+            write_pieces(
+                err,
+                &[
+                    b"cec-opt: ",
+                    b"line ",
+                    shown,
+                    b": not in the profile",
+                    b"\n",
+                ],
+            )
+        }
+        OptFault::TwoDrivers(name) => {
+            write_pieces(err, &[b"cec-opt: ", b"two drivers: ", name.bytes(), b"\n"])
+        }
+        OptFault::NoDriver(name) => {
+            write_pieces(err, &[b"cec-opt: ", b"no driver: ", name.bytes(), b"\n"])
+        }
+        OptFault::Circuit(fault) => put_circuit_fault(err, fault),
+    }
+}
+
+// The line of a fault of a circuit.
+fn put_circuit_fault<E: Sink>(err: &mut E, fault: &CircuitFault) -> Result<(), SinkFault>
+    ensures { Wrote (E.told err.old) (E.told err.new) (E.faults err.old) (E.faults err.new)
+        (codes "cec-opt: " ++ (circuit_text fault.now ++ codes "\n")) result }
+{
+    match fault {
+        CircuitFault::NoPause => {
+            write_pieces(err, &[b"cec-opt: ", b"last output is not _paused", b"\n"])
+        }
+        CircuitFault::Model(name) => {
+            write_pieces(err, &[b"cec-opt: ", b"bad model: ", name.bytes(), b"\n"])
+        }
+        CircuitFault::Input(name) => {
+            write_pieces(err, &[b"cec-opt: ", b"bad input: ", name.bytes(), b"\n"])
+        }
+        CircuitFault::Output(name) => {
+            write_pieces(err, &[b"cec-opt: ", b"bad output: ", name.bytes(), b"\n"])
+        }
+        CircuitFault::Again(name) => {
+            write_pieces(err, &[b"cec-opt: ", b"output twice: ", name.bytes(), b"\n"])
+        }
+        CircuitFault::Loop(names) => put_loop(err, b"cec-opt: ", names),
+        CircuitFault::TooManyNets => { write_pieces(err, &[b"cec-opt: ", b"limit: nets", b"\n"]) }
+    }
+}

@@ -1,0 +1,79 @@
+// How a command ended.
+
+ghost use Rattle.std.specs.Prelude.{◌≡◌};
+ghost use Rattle.cec_opt_commands.specs.Statuses.{status_of, stop_outcome, unread_outcome, written_outcome};
+
+use base_types::{FileFault, Stop};
+use cec_opt_texts::OptFault;
+use cec_text_io::Written;
+
+/// How a command ended, with the cause of each refusal.
+#[derive(Debug, Drop)]
+pub enum OptOutcome {
+    /// All was written.
+    Done,
+    /// The words have no meaning.
+    Usage,
+    /// The file was not read: the count of faults of the files rose, and the name that failed last is that of the file.
+    FileFault,
+    /// The first fault of the text.
+    BadText(OptFault),
+    /// The text has more bytes than `Limits::TEXT_BYTES`.
+    TooLong,
+    /// The output was not taken: its count of faults rose.
+    WriteFault,
+    /// Want of memory.
+    NoMemory,
+}
+
+impl From<Written> for OptOutcome {
+    ghost from_gives = { λ written outcome. outcome ≡ written_outcome written };
+
+    fn from(written: Written) -> OptOutcome {
+        match written {
+            Written::Done => OptOutcome::Done,
+            Written::WriteFault => OptOutcome::WriteFault,
+            Written::NoMemory => OptOutcome::NoMemory,
+        }
+    }
+}
+
+impl From<Stop<OptFault>> for OptOutcome {
+    ghost from_gives = { λ stop outcome. outcome ≡ stop_outcome stop };
+
+    fn from(stop: Stop<OptFault>) -> OptOutcome {
+        match stop {
+            Stop::Fault(fault) => OptOutcome::BadText(fault),
+            Stop::NoMemory => OptOutcome::NoMemory,
+        }
+    }
+}
+
+impl From<FileFault> for OptOutcome {
+    ghost from_gives = { λ fault outcome. outcome ≡ unread_outcome fault };
+
+    fn from(fault: FileFault) -> OptOutcome {
+        match fault {
+            FileFault::Failed => OptOutcome::FileFault,
+            FileFault::TooLong => OptOutcome::TooLong,
+            FileFault::NoMemory => OptOutcome::NoMemory,
+        }
+    }
+}
+
+impl OptOutcome {
+    /// The status that the program ends with. It takes no memory.
+    pub fn number(&self) -> u8
+        ensures { result ≡ status_of self.now }
+    {
+        match self {
+            OptOutcome::Done => 0,
+            OptOutcome::Usage => 2,
+            OptOutcome::FileFault => 3,
+            OptOutcome::BadText(_) => 7,
+            OptOutcome::TooLong => 8,
+            OptOutcome::WriteFault => 9,
+            OptOutcome::NoMemory => 10,
+        }
+    }
+}

@@ -1,0 +1,76 @@
+-- An optimized netlist keeps what the program means whose netlist it is made of, and so do its texts.
+use Rattle.std.proofs.Common.{◌≡◌, ℕ, ◌≤◌, List, length, Option, ◌∙◌}
+use Rattle.est_kernel.specs.Plain.{Program, given_count}
+use Rattle.net_ir.specs.Netlists.{Netlist}
+use Rattle.net_ir.specs.Runs.{netlist_of}
+use Rattle.net_opt.specs.Optimized.{Optimizes}
+use Rattle.blif_text.specs.Written.{Means}
+use Rattle.csub_text.specs.Written as c_texts
+use Rattle.vlog_text.specs.Written as vlog_texts
+use Rattle.cec_compile.specs.declared.compiler.Compiled.{Compiled}
+use Rattle.cec_compile.specs.Compiling.{StandsForNet}
+use Rattle.cec_compile.specs.NetMeaning.{NetKeeps}
+use Rattle.cec_compile.proofs.Exports.{given-few, inputs_wide, widths, text_keeps, c_text_keeps, verilog_text_keeps}
+use Rattle.cec_opt_sources.specs.SmallTexts.{StandsForSmallNet, StandsForSmallBlif, StandsForSmallC, StandsForSmallVerilog, IsSmallNetOf}
+
+optimized_keeps : (net new : Netlist) (p : Program) → given_count p ≡ length net.inputs → Optimizes net new → NetKeeps net p → NetKeeps new p
+optimized_keeps net new p wide o keeps = record {
+  name = o.replaces.interface.name ∙ keeps.name;
+  inputs = o.replaces.interface.inputs ∙ keeps.inputs;
+  outputs = o.replaces.interface.outputs ∙ keeps.outputs;
+  runs = λ items fits.
+      let found = keeps.runs items fits in
+      (found.0, found.1, o.replaces.followed.runs items (widths p (length net.inputs) wide items fits) ∙ found.2);
+}
+
+pub small_stands : (bytes : List ℕ) (main : Option (List ℕ)) (net : Netlist) → IsSmallNetOf bytes main net → StandsForSmallNet bytes main net
+small_stands bytes main net small =
+    let s = small.compiled in
+    record {
+      program = s.program;
+      source = s.source;
+      compiles = s.compiled.compiles;
+      keeps = optimized_keeps (netlist_of small.made.net) net s.program (inputs_wide small.made s.program s.compiled) small.optimizes s.compiled.keeps;
+    }
+
+few : (bytes : List ℕ) (main : Option (List ℕ)) (made : Compiled) → (s : StandsForNet bytes main made) → given_count s.program ≤ length s.program.signals
+few bytes main made s = given-few s.program s.compiled.formed
+
+pub blif_stands : (bytes : List ℕ) (main : Option (List ℕ)) (net : Netlist) (written : List ℕ) → IsSmallNetOf bytes main net → Means written net
+    → StandsForSmallBlif bytes main written
+unfolding small_stands
+blif_stands bytes main net written small means =
+    let s = small.compiled in
+    let stands = small_stands bytes main net small in
+    record {
+      program = s.program;
+      source = s.source;
+      compiles = s.compiled.compiles;
+      keeps = text_keeps written net s.program (few bytes main small.made s) stands.keeps means;
+    }
+
+pub c_stands : (bytes : List ℕ) (main : Option (List ℕ)) (net : Netlist) (written : List ℕ) → IsSmallNetOf bytes main net → c_texts.Means written net
+    → StandsForSmallC bytes main written
+unfolding small_stands
+c_stands bytes main net written small means =
+    let s = small.compiled in
+    let stands = small_stands bytes main net small in
+    record {
+      program = s.program;
+      source = s.source;
+      compiles = s.compiled.compiles;
+      keeps = c_text_keeps written net s.program (few bytes main small.made s) stands.keeps means;
+    }
+
+pub verilog_stands : (bytes : List ℕ) (main : Option (List ℕ)) (net : Netlist) (written : List ℕ) → IsSmallNetOf bytes main net
+    → vlog_texts.Means written net → StandsForSmallVerilog bytes main written
+unfolding small_stands
+verilog_stands bytes main net written small means =
+    let s = small.compiled in
+    let stands = small_stands bytes main net small in
+    record {
+      program = s.program;
+      source = s.source;
+      compiles = s.compiled.compiles;
+      keeps = verilog_text_keeps written net s.program (few bytes main small.made s) stands.keeps means;
+    }

@@ -1,0 +1,7 @@
+use Rattle.net_ir.specs.Runs.{netlist_of}
+use Rattle.cec_opt_texts.proofs.Keeping.{blif-keeps}
+use Rattle.cec_opt_texts.proofs.texts.optimized_blif.Goals as goal
+
+pub returns-clause-keeps : goal.returns-clause-keeps
+returns-clause-keeps c =
+    blif-keeps c.args.text.now c.in_ok-written.written.items (netlist_of c.in_ok-net.net) c.in_ok-net.ensures.small c.in_ok-written.ensures.means

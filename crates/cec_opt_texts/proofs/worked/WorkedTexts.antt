@@ -1,0 +1,119 @@
+-- Worked texts, by hand: which fault is the first, and which outputs a circuit has; and what a written text keeps, field by field.
+use Rattle.std.proofs.Common.{◌≡◌, ◌++◌, ℕ, Bool, List, [], ◌∷◌, map, Result, Ok, Err, codes, refl, arith}
+use Rattle.std.specs.Prelude.{flat_map}
+use Rattle.base_types.specs.Items.{Item, EachEvent}
+use Rattle.base_types.specs.declared.stop.Stop.TheVariants.{Fault}
+use Rattle.base_types.specs.declared.stop.Stop.TheVariants as stops
+use Rattle.net_expressions.specs.Values.{value_of}
+use Rattle.base_machines.specs.Machines.{Machine, Shows}
+use Rattle.net_ir.specs.Netlists.{Netlist}
+use Rattle.net_opt.specs.Optimized.{Optimizes}
+use Rattle.net_opt.specs.Shown.{EachIsShown}
+use Rattle.net_simp.specs.SimpleNets.{IsSimple}
+use Rattle.blif_text.specs.Circuits.{Circuit, reading}
+use Rattle.blif_text.specs.Circuits as circuits
+use Rattle.blif_text.specs.Runs.{circuit_machine}
+use Rattle.blif_read.specs.declared.refusal.BlifError.TheVariants as answers
+use Rattle.blif_net.specs.Conversions.{IsNetOf}
+use Rattle.blif_net.specs.Interfaces.{IsCircuitFault}
+use Rattle.blif_net.specs.declared.fault.CircuitFault.{CircuitFault}
+use Rattle.csub_text.specs.Machine.{program_machine}
+use Rattle.csub_text.specs.Names.{inputs_of, outputs_of}
+use Rattle.csub_text.specs.Texts as c_texts
+use Rattle.vlog_text.specs.Machine.{vlog_machine}
+use Rattle.vlog_text.specs.Texts as vlog_texts
+use Rattle.cec_opt_texts.specs.Alike.{IsWide, ShowAlike, HasOutputs, BlifKeeps, CKeeps, VerilogKeeps}
+use Rattle.cec_opt_texts.specs.Faults.{IsOptFault, IsNetFault, IsReadFault}
+use Rattle.cec_opt_texts.specs.Optimized.{IsSmallOf, IsSmallNetOf, IsTextNet}
+use Rattle.cec_opt_texts.specs.declared.fault.OptFault.TheVariants as faults
+
+-- ---- faults: the lines of a text behind `.model m` and before `.end`
+
+abbrev text : List (List ℕ) → List ℕ
+text lines = flat_map (λ l. l ++ 10 ∷ []) (codes ".model m" ∷ (lines ++ codes ".end" ∷ []))
+
+a_row_without_a_table : IsOptFault (text (codes "1" ∷ [])) (faults.Line 2)
+a_row_without_a_table = refl
+
+driven_twice : IsOptFault (text (codes ".inputs a" ∷ codes ".names a" ∷ [])) (faults.TwoDrivers (codes "a"))
+driven_twice = refl
+
+not_driven : IsOptFault (text (codes ".outputs b" ∷ [])) (faults.NoDriver (codes "b"))
+not_driven = refl
+
+abbrev refused : circuits.CircuitFault → Result Circuit circuits.CircuitFault
+refused fault = Err fault
+
+not_the_next_line : IsOptFault (text (codes "1" ∷ [])) (faults.Line 3) → ⊥
+not_the_next_line h = differ h
+  where
+    differ : refused (circuits.Line 2) ≡ refused (circuits.Line 3) → ⊥
+    differ e = cc
+
+no_other_name : IsOptFault (text (codes ".outputs b" ∷ [])) (faults.NoDriver []) → ⊥
+no_other_name h = differ h
+  where
+    differ : refused (circuits.NoDriver (codes "b")) ≡ refused (circuits.NoDriver []) → ⊥
+    differ e = cc
+
+of_a_circuit : (text : List ℕ) (fault : CircuitFault) → IsOptFault text (faults.Circuit fault)
+    → (circuit : Circuit) × (reading text ≡ Ok circuit) × IsCircuitFault circuit fault
+of_a_circuit text fault h = h
+
+of_circuits_alone : (circuit : Circuit) (fault : CircuitFault) → (IsNetFault circuit (faults.Circuit fault) → IsCircuitFault circuit fault)
+    × (IsNetFault circuit (faults.Line 3) → ⊥)
+of_circuits_alone circuit fault = (λ h. h, λ h. h)
+
+of_the_reader : IsReadFault (answers.Line 3) (Fault (faults.Line 3)) × IsReadFault (answers.TwoDrivers (codes "a")) (Fault (faults.TwoDrivers (codes "a")))
+    × IsReadFault (answers.NoDriver (codes "a")) (Fault (faults.NoDriver (codes "a"))) × IsReadFault answers.NoMemory stops.NoMemory
+of_the_reader = (refl, refl, refl, refl)
+
+not_for_its_length : IsReadFault answers.TooLong stops.NoMemory → ⊥
+not_for_its_length h = h
+
+-- ---- interfaces
+
+abbrev circuit : Circuit
+circuit = record {
+  name = codes "m";
+  inputs = codes "A" ∷ codes "B" ∷ [];
+  outputs = codes "B.out" ∷ codes "O" ∷ codes "_paused" ∷ [];
+  latches = [];
+  tables = [];
+}
+
+its_outputs : HasOutputs circuit (codes "B" ∷ codes "O" ∷ [])
+its_outputs = refl
+
+not_wide : IsWide circuit [] → ⊥
+not_wide h = omega (arith, h)
+
+shown_alike : {X : Type 0} → (circuit : Circuit) (M : Machine X) (see : X → List Bool) → ShowAlike circuit M see → (items : List Item)
+    → EachEvent (IsWide circuit) items → (seen : List (List Bool))
+    × Shows (circuit_machine circuit) (λ v. map v circuit.outputs) (circuit_machine circuit).start items seen × Shows M see M.start items seen
+shown_alike circuit M see h = h.alike
+
+-- ---- what is kept
+
+by_blif_texts : (text written : List ℕ) (h : BlifKeeps text written) → (reading text ≡ Ok h.old) × (reading written ≡ Ok h.new) × (h.new.name ≡ h.old.name)
+    × (h.new.inputs ≡ h.old.inputs) × (h.new.outputs ≡ h.old.outputs) × ShowAlike h.old (circuit_machine h.new) (λ v. map v h.new.outputs)
+by_blif_texts text written h = (h.reads, h.reads_back, h.name, h.inputs, h.outputs, h.shows)
+
+by_c_texts : (text written : List ℕ) (h : CKeeps text written) → (reading text ≡ Ok h.old) × HasOutputs h.old h.names × c_texts.Describes written h.new
+    × (inputs_of h.new ≡ map (λ name. codes "I_" ++ name) h.old.inputs) × (outputs_of h.new ≡ map (λ name. codes "O_" ++ name) h.names)
+    × ShowAlike h.old (program_machine h.new) (λ memory. map memory (outputs_of h.new) ++ value_of memory h.new.answer ∷ [])
+by_c_texts text written h = (h.reads, h.named, h.describes, h.inputs, h.outputs, h.shows)
+
+by_verilog_texts : (text written : List ℕ) (h : VerilogKeeps text written) → (reading text ≡ Ok h.old) × HasOutputs h.old h.names
+    × vlog_texts.Describes written h.new × (h.new.name ≡ codes "m_" ++ h.old.name) × (h.new.inputs ≡ codes "clk"
+    ∷ map (λ name. codes "i_" ++ name) h.old.inputs)
+    × (h.new.outputs ≡ map (λ name. codes "o_" ++ name) h.names ++ codes "paused" ∷ []) × ShowAlike h.old (vlog_machine h.new) (λ v. map v h.new.outputs)
+by_verilog_texts text written h = (h.reads, h.named, h.describes, h.name, h.inputs, h.outputs, h.shows)
+
+by_netlists : (circuit : Circuit) (net : Netlist) (h : IsSmallOf circuit net) → IsNetOf circuit h.made × Optimizes h.made net × IsSimple net
+    × EachIsShown net
+by_netlists circuit net h = (h.is, h.optimizes, h.simple, h.shown)
+
+of_texts : (text : List ℕ) (net : Netlist) → ((h : IsSmallNetOf text net) → (reading text ≡ Ok h.circuit) × IsSmallOf h.circuit net)
+    × ((h : IsTextNet text net) → (reading text ≡ Ok h.circuit) × IsNetOf h.circuit net)
+of_texts text net = (λ h. (h.reads, h.small), λ h. (h.reads, h.is))

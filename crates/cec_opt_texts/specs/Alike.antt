@@ -1,0 +1,72 @@
+-- Contract: what the text of an optimized netlist keeps of the BLIF text that was read: the interface, and what is
+-- shown over items.
+use Rattle.std.specs.Prelude.{◌≡◌, ℕ, Bool, List, [], ◌∷◌, ◌++◌, length, map, codes, Ok}
+use Rattle.base_types.specs.Items.{Item, EachEvent}
+use Rattle.net_expressions.specs.Values.{value_of}
+use Rattle.base_machines.specs.Machines.{Machine, Shows}
+use Rattle.blif_text.specs.Circuits.{Circuit, reading}
+use Rattle.blif_text.specs.OutputNames.{output_word, paused_word}
+use Rattle.blif_text.specs.Runs.{circuit_machine}
+use Rattle.csub_text.specs.Machine.{program_machine}
+use Rattle.csub_text.specs.Names.{inputs_of, outputs_of}
+use Rattle.csub_text.specs.Trees as c_trees
+use Rattle.csub_text.specs.Texts as c_texts
+use Rattle.vlog_text.specs.Machine.{vlog_machine}
+use Rattle.vlog_text.specs.Names.{paused_name}
+use Rattle.vlog_text.specs.Trees as vlog_trees
+use Rattle.vlog_text.specs.Texts as vlog_texts
+
+-- an event has one value for each input
+abbrev pub IsWide : Circuit → List Bool → Type 0
+IsWide circuit event = length event ≡ length circuit.inputs
+
+-- Over all items whose events have one value for each input of the circuit, its machine and the other one both have a
+-- run, and all runs of both show the same: the values of the outputs, and the last one says whether the program is
+-- still active.
+pub record ShowAlike {X : Type 0} (circuit : Circuit) (M : Machine X) (see : X → List Bool) : Type 0 where
+  pub alike : (items : List Item) → EachEvent (IsWide circuit) items → (seen : List (List Bool))
+      × Shows (circuit_machine circuit) (λ v. map v circuit.outputs) (circuit_machine circuit).start items seen
+      × Shows M see M.start items seen
+
+-- the outputs of the circuit have these names, and behind them stands `_paused`
+abbrev pub HasOutputs : Circuit → List (List ℕ) → Type 0
+HasOutputs circuit names = circuit.outputs ≡ map (output_word circuit.inputs) names ++ paused_word ∷ []
+
+-- The BLIF text that is written has a reading, with the same name, inputs and outputs, and shows the same.
+pub record BlifKeeps (text written : List ℕ) : Type 0 where
+  pub old : Circuit
+  pub reads : reading text ≡ Ok old
+  pub new : Circuit
+  pub reads_back : reading written ≡ Ok new
+  pub name : new.name ≡ old.name
+  pub inputs : new.inputs ≡ old.inputs
+  pub outputs : new.outputs ≡ old.outputs
+  pub shows : ShowAlike old (circuit_machine new) (λ v. map v new.outputs)
+
+-- The C text describes a program with one variable for each input and each output but `_paused`, in their order, which
+-- is the value that a call returns.
+pub record CKeeps (text written : List ℕ) : Type 0 where
+  pub old : Circuit
+  pub reads : reading text ≡ Ok old
+  pub names : List (List ℕ)
+  pub named : HasOutputs old names
+  pub new : c_trees.Program
+  pub describes : c_texts.Describes written new
+  pub inputs : inputs_of new ≡ map (λ name. codes "I_" ++ name) old.inputs
+  pub outputs : outputs_of new ≡ map (λ name. codes "O_" ++ name) names
+  pub shows : ShowAlike old (program_machine new)
+      (λ memory. map memory (outputs_of new) ++ value_of memory new.answer ∷ [])
+
+-- The Verilog text describes a module with the clock, one input for each input, and one output for each output, in
+-- their order, the last one `paused`.
+pub record VerilogKeeps (text written : List ℕ) : Type 0 where
+  pub old : Circuit
+  pub reads : reading text ≡ Ok old
+  pub names : List (List ℕ)
+  pub named : HasOutputs old names
+  pub new : vlog_trees.VerilogModule
+  pub describes : vlog_texts.Describes written new
+  pub name : new.name ≡ codes "m_" ++ old.name
+  pub inputs : new.inputs ≡ codes "clk" ∷ map (λ name. codes "i_" ++ name) old.inputs
+  pub outputs : new.outputs ≡ map (λ name. codes "o_" ++ name) names ++ paused_name ∷ []
+  pub shows : ShowAlike old (vlog_machine new) (λ v. map v new.outputs)

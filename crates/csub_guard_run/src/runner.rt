@@ -1,0 +1,142 @@
+// The machine of a guarded program.
+
+ghost use Rattle.std.specs.Prelude.{◌≡◌, map, length, take, IfOk};
+ghost use Rattle.csub_guard.specs.Machine.{inputs_of};
+ghost use Rattle.csub_guard.specs.Names.{declared};
+ghost use Rattle.csub_guard.specs.Views.{program_of};
+ghost use Rattle.csub_guard_run.specs.Plans.{IsPlan, first_values};
+ghost use Rattle.csub_guard_run.specs.Runners.{KeepsNames, program_in, Reacts, Resets, IsFresh, outputs_shown};
+ghost use Rattle.run_steps.specs.Slots.{value_at};
+
+use crate::plan::{CallPlan, plan_of};
+use crate::run::run_track;
+use base_types::NoMemory;
+use csub_guard::GuardedProgram;
+use csub_run::{put_front, put_values};
+use run_steps::take_values;
+use std::alloc::Global;
+use std::marker::Model;
+
+/// The machine of a guarded program. A contract sees it as the program, the values of its variables, and the number of
+/// assignments that the last call ran.
+#[derive(Drop)]
+pub struct GuardedRun {
+    program: GuardedProgram,
+    plan: CallPlan,
+    // The value of each slot.
+    values: Vec<bool>,
+    outputs: Vec<bool>,
+    count: u128,
+}
+
+impl Model for GuardedRun {
+    ghost use Rattle.csub_guard_run.specs.Runners.{Runner};
+
+    ghost Value = { Runner };
+
+    ghost use Rattle.net_expressions.specs.contracts.trees.Expr as e;
+    ghost use Rattle.std.specs.Coded.{codes};
+
+    ghost coded = { Prim.hlevel (codes, e.the_row.coded) };
+
+    ghost use Rattle.csub_guard_run.specs.Insides.{runner_of, KeepsPlan};
+
+    ghost view = { runner_of };
+
+    ghost invariant = { KeepsPlan };
+}
+
+impl GuardedRun {
+    /// The machine of a program before its first call. The program keeps the rules on names, as each one does that some
+    /// text describes. Want of memory is the only error.
+    pub fn new(alloc: Global, program: GuardedProgram) -> Result<GuardedRun, NoMemory>
+        requires { KeepsNames (program_of program) }
+        ensures program { IfOk result (λ r. r.code ≡ program) }
+        ensures fresh { IfOk result IsFresh }
+    {
+        let Parts {
+            plan,
+            values,
+            outputs,
+        } = runner_parts(alloc, &program)?;
+        Ok(GuardedRun {
+            program,
+            plan,
+            values,
+            outputs,
+            count: 0,
+        })
+    }
+
+    /// One call with these values of the inputs: the returned value. It takes no memory.
+    pub fn react(&mut self, inputs: &[bool]) -> bool
+        requires { length inputs.now ≡ length (inputs_of (program_in self.old)) }
+        ensures { Reacts self.old inputs.now result self.new }
+    {
+        put_values(&self.plan.inputs, inputs, &mut self.values);
+        self.count = run_track(&self.plan.track, &mut self.values);
+        take_values(&self.plan.outputs, &self.values, &mut self.outputs);
+        self.plan.answer.value(&self.values)
+    }
+
+    /// The values of the outputs, in declared order; all 0 before the first call and behind a reset. It takes
+    /// no memory.
+    pub fn outputs(&self) -> &[bool]
+        ensures { result.now ≡ outputs_shown self.now }
+    {
+        self.outputs.as_slice()
+    }
+
+    /// The number of assignments that the last call ran; 0 before the first call and behind a reset. It takes no
+    /// memory.
+    pub fn count(&self) -> u128
+        ensures { result ≡ self.now.count }
+    {
+        self.count
+    }
+
+    /// Puts the machine back to its beginning. It takes no memory.
+    pub fn reset(&mut self)
+        ensures { Resets self.old self.new }
+    {
+        put_front(&mut self.values, &self.plan.initial);
+        take_values(&self.plan.outputs, &self.values, &mut self.outputs);
+        self.count = 0;
+    }
+
+    /// The program that it runs.
+    pub fn program(&self) -> &GuardedProgram
+        ensures { result.now ≡ self.now.code }
+    {
+        &self.program
+    }
+}
+
+// What a machine has beside its program.
+#[derive(Drop)]
+struct Parts {
+    plan: CallPlan,
+    values: Vec<bool>,
+    outputs: Vec<bool>,
+}
+
+// The plan of a program, and the values before the first call.
+fn runner_parts(alloc: Global, program: &GuardedProgram) -> Result<Parts, NoMemory>
+    requires { KeepsNames (program_of program.now) }
+    ensures plan { IfOk result (λ p. IsPlan (program_of program.now) p.plan) }
+    ensures slots { IfOk result (λ p. length p.values.items ≡ p.plan.track.gates.slots) }
+    ensures values { IfOk result (λ p. take (length (declared (program_of program.now))) p.values.items
+        ≡ first_values (program_of program.now)) }
+    ensures outputs { IfOk result (λ p. p.outputs.items ≡ map (value_at p.values.items) p.plan.outputs.items) }
+{
+    let plan = plan_of(alloc, program)?;
+    let mut values = vec![in alloc; false; plan.track.gates.slots()]?;
+    put_front(&mut values, &plan.initial);
+    let mut outputs = vec![in alloc; false; plan.outputs.len()]?;
+    take_values(&plan.outputs, &values, &mut outputs);
+    Ok(Parts {
+        plan,
+        values,
+        outputs,
+    })
+}

@@ -1,8 +1,0 @@
-use mathlib.Core.Path.{fun_ext}
-use Rattle.est_base.specs.CodeSet.{members}
-use Rattle.est_base.proofs.Bits.{bit-zero}
-use Rattle.est_base.proofs.code_set.CodeSet.empty.Goals as goal
-
-pub returns : goal.returns
-unfolding members
-returns c = rw c.from_bits.ensures (fun_ext bit-zero)

@@ -1,9 +1,0 @@
-use mathlib.Core.Path.{fun_ext}
-use Rattle.est_base.specs.CodeSet.{members}
-use Rattle.est_base.proofs.Bits.{bit-maxima}
-use Rattle.est_base.proofs.code_set.CodeSet.max_of.Goals as goal
-
-pub returns : goal.returns
-unfolding members
-returns c = rw c.from_bits.ensures (fun_ext (bit-maxima c.args.self.bits c.args.other.bits _ _ c.args.self.within c.args.other.within c.from_least-2.ensures
-    c.from_least.ensures))

@@ -1,8 +1,0 @@
-use mathlib.Core.Path.{fun_ext}
-use Rattle.est_base.specs.CodeSet.{members}
-use Rattle.est_base.proofs.Bits.{bit-or}
-use Rattle.est_base.proofs.code_set.CodeSet.union.Goals as goal
-
-pub returns : goal.returns
-unfolding members
-returns c = rw c.from_bits.ensures (fun_ext (λ k. bit-or c.args.self.bits c.args.other.bits k))

@@ -1,8 +1,0 @@
-use Rattle.std.proofs.Common.{[]}
-use Rattle.est_base.proofs.Gains.{stops-behind, pieces_at}
-use Rattle.est_base.proofs.sinks.pieces.write_pieces.Goals as goal
-
-pub returns-in-Err : goal.returns-in-Err
-returns-in-Err g c =
-    rw (← pieces_at (λ piece. piece.now) c.loop-piece.piece-index c.args.pieces.now (record { ref_ptr = (0, 0); now = [] }) c.loop-piece-test.true)
-    (stops-behind _ _ _ _ _ _ _ _ _ c.loop-piece.invariant c.in-Err.ensures)

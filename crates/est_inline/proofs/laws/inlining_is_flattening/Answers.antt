@@ -1,5 +1,0 @@
-use Rattle.est_inline.proofs.InlinedWalks.{inlining-flattens, inlining-limits}
-use Rattle.est_inline.proofs.laws.inlining_is_flattening.Goals as goal
-
-pub returns : goal.returns
-returns c = record { same = inlining-flattens; limits = inlining-limits }

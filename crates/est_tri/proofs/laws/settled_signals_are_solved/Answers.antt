@@ -1,5 +1,0 @@
-use Rattle.est_tri.proofs.Solving.{settle_known, settle_back}
-use Rattle.est_tri.proofs.laws.settled_signals_are_solved.Goals as goal
-
-pub returns : goal.returns
-returns c = λ os r E F once. ((λ e. settle_known os r E F once e), settle_back os r E F once)

@@ -1,5 +1,0 @@
-use Rattle.est_tri.proofs.Solving.{solved_meets, solved_least}
-use Rattle.est_tri.proofs.laws.solved_signals_are_least.Goals as goal
-
-pub returns : goal.returns
-returns c = record { emitted = solved_meets; least = solved_least }

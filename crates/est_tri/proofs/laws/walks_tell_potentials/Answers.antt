@@ -1,5 +1,0 @@
-use Rattle.est_tri.proofs.Walks.{walk_tells}
-use Rattle.est_tri.proofs.laws.walks_tell_potentials.Goals as goal
-
-pub returns : goal.returns
-returns c = walk_tells

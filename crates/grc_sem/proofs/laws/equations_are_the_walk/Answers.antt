@@ -1,5 +1,0 @@
-use Rattle.grc_sem.proofs.WalkSolves.{equations_are_the_walk_lem}
-use Rattle.grc_sem.proofs.laws.equations_are_the_walk.Goals as goal
-
-pub returns : goal.returns
-returns c = equations_are_the_walk_lem

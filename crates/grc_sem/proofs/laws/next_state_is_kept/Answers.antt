@@ -1,5 +1,0 @@
-use Rattle.grc_sem.proofs.Instants.{next_state_is_kept_lem}
-use Rattle.grc_sem.proofs.laws.next_state_is_kept.Goals as goal
-
-pub returns : goal.returns
-returns c = next_state_is_kept_lem

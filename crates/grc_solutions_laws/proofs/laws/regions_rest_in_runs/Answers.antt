@@ -1,0 +1,5 @@
+use Rattle.grc_solutions_laws.proofs.Regions.{regions_rest_in_runs_lem}
+use Rattle.grc_solutions_laws.proofs.laws.regions_rest_in_runs.Goals as goal
+
+pub returns : goal.returns
+returns c = regions_rest_in_runs_lem

@@ -1,5 +1,0 @@
-use Rattle.grc_tri.proofs.Acyclic.{graph_runs_are_runs_lem}
-use Rattle.grc_tri.proofs.laws.graph_runs_are_runs.Goals as goal
-
-pub returns : goal.returns
-returns c = graph_runs_are_runs_lem

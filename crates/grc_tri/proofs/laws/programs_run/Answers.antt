@@ -1,5 +1,0 @@
-use Rattle.grc_tri.proofs.Acyclic.{programs_run_lem}
-use Rattle.grc_tri.proofs.laws.programs_run.Goals as goal
-
-pub returns : goal.returns
-returns c = programs_run_lem

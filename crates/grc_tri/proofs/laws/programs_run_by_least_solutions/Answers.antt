@@ -1,5 +1,0 @@
-use Rattle.grc_tri.proofs.Runs.{programs_run_by_lem}
-use Rattle.grc_tri.proofs.laws.programs_run_by_least_solutions.Goals as goal
-
-pub returns : goal.returns
-returns c = programs_run_by_lem

@@ -1,5 +1,0 @@
-use Rattle.grc_tri.proofs.Reactions.{reacts_known_lem}
-use Rattle.grc_tri.proofs.laws.reactions_are_known.Goals as goal
-
-pub returns : goal.returns
-returns c = reacts_known_lem

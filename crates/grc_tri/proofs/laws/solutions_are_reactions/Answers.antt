@@ -1,5 +1,0 @@
-use Rattle.grc_tri.proofs.Acyclic.{solutions_are_reactions_lem}
-use Rattle.grc_tri.proofs.laws.solutions_are_reactions.Goals as goal
-
-pub returns : goal.returns
-returns c = solutions_are_reactions_lem

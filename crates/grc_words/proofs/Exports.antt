@@ -1,2 +1,0 @@
--- What other crates use of these proofs.
-pub use Rattle.grc_words.proofs.RowValues.{length-row_values, row_values-append, rows-met, source_value-same, value-stays}

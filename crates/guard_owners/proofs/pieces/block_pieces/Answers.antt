@@ -1,8 +1,0 @@
-use Rattle.std.proofs.Common.{map, ◌∙◌}
-use Rattle.net_ir.specs.Runs.{netlist_of}
-use Rattle.guard_owners.specs.Usages.{owner_in}
-use Rattle.guard_owners.proofs.BlockTexts.{text-whole}
-use Rattle.guard_owners.proofs.pieces.block_pieces.Goals as goal
-
-pub returns : goal.returns
-returns c = c.new.ensures ∙ text-whole (netlist_of c.args.net.now) (map owner_in c.args.owners.items)

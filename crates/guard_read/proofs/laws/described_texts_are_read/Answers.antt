@@ -1,5 +1,0 @@
-use Rattle.guard_read.proofs.ReadBack.{described-are-read}
-use Rattle.guard_read.proofs.laws.described_texts_are_read.Goals as goal
-
-pub returns : goal.returns
-returns c = described-are-read

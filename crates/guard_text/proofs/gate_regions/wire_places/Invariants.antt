@@ -1,9 +1,0 @@
-use Rattle.std.proofs.Common.{◌≡◌, ℕ, ◌<◌, length, drop, None, slice_index_or}
-use Rattle.guard_text.specs.Regions.{carrier}
-use Rattle.guard_text.proofs.gate_regions.wire_places.Given as goal
-
-abbrev pub invariant-loop-k : goal.invariant-loop-k
-invariant-loop-k l = record {
-  count : length l.places.items ≡ l.count;
-  are : (w : ℕ) → w < l.count → slice_index_or l.places.items w None ≡ carrier l.k (drop l.k l.net.gates.items) w;
-}

@@ -1,4 +1,0 @@
--- What other crates use of these proofs.
-pub use Rattle.net_text.proofs.Joined.{count-mapped, count-numbered, joined-each, joined-last, joined-mapped, joined-numbered, joined-one}
-pub use Rattle.net_text.proofs.SectionParts.{put-counted, section_parts}
-pub use Rattle.net_text.proofs.NetMachines.{HasNet, runs, runs-are, runs-tell}

@@ -1,7 +1,0 @@
-use Rattle.std.proofs.Common.{◌≡◌, take}
-use Rattle.opt_core.specs.Depths.{greatest}
-use Rattle.opt_core.proofs.depths.greatest.Given as goal
-
--- the greatest so far
-abbrev pub invariant-loop-number : goal.invariant-loop-number
-invariant-loop-number l = l.most ≡ greatest (take l.number-index l.numbers)

@@ -1,8 +1,0 @@
--- Inner: the plain form of what is asked for.
-use Rattle.opt_core.specs.declared.words.Request as requests
-use Rattle.opt_core.specs.declared.words.Request.TheVariants as asks
-use Rattle.opt_core.specs.Words.{Request, Help, Do}
-
-abbrev pub plain_request : requests.Request → Request
-plain_request asks.Help = Help
-plain_request (asks.Do task name) = Do task name.now

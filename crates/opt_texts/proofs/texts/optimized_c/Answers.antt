@@ -1,7 +1,0 @@
-use Rattle.net_ir.specs.Runs.{netlist_of}
-use Rattle.opt_texts.proofs.Keeping.{c-keeps}
-use Rattle.opt_texts.proofs.texts.optimized_c.Goals as goal
-
-pub returns-clause-keeps : goal.returns-clause-keeps
-returns-clause-keeps c =
-    c-keeps c.args.text.now c.in_ok-written.written.items (netlist_of c.in_ok-net.net) c.in_ok-net.ensures.small c.in_ok-written.ensures.means

@@ -1,5 +1,0 @@
-use Rattle.rest_laws.proofs.GuardedTexts.{guarded_texts_run_lem}
-use Rattle.rest_laws.proofs.laws.guarded_texts_run.Goals as goal
-
-pub returns : goal.returns
-returns c = guarded_texts_run_lem

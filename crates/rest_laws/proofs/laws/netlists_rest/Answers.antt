@@ -1,5 +1,0 @@
-use Rattle.rest_laws.proofs.RestingNets.{netlists_rest_lem}
-use Rattle.rest_laws.proofs.laws.netlists_rest.Goals as goal
-
-pub returns : goal.returns
-returns c = netlists_rest_lem

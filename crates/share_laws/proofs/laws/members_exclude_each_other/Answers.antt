@@ -1,5 +1,0 @@
-use Rattle.share_laws.proofs.Excluded.{members_exclude_each_other_lem}
-use Rattle.share_laws.proofs.laws.members_exclude_each_other.Goals as goal
-
-pub returns : goal.returns
-returns c = members_exclude_each_other_lem

@@ -1,5 +1,0 @@
-use Rattle.share_laws.proofs.SharedRuns.{runs_are_shared_lem}
-use Rattle.share_laws.proofs.laws.runs_are_shared.Goals as goal
-
-pub returns : goal.returns
-returns c = runs_are_shared_lem

@@ -1,5 +1,0 @@
-use Rattle.share_laws.proofs.SharedOnce.{shared_graphs_read_up_lem}
-use Rattle.share_laws.proofs.laws.shared_graphs_read_up.Goals as goal
-
-pub returns : goal.returns
-returns c = shared_graphs_read_up_lem

@@ -1,5 +1,0 @@
-use Rattle.share_laws.proofs.SharedOnce.{shared_reads_have_walks_lem}
-use Rattle.share_laws.proofs.laws.shared_reads_have_walks.Goals as goal
-
-pub returns : goal.returns
-returns c = shared_reads_have_walks_lem

@@ -1,6 +1,0 @@
-use Rattle.std.proofs.Common.{◌≡◌, map, take}
-use Rattle.step_run.specs.Slots.{value_at}
-use Rattle.step_run.proofs.registers.take_values.Given as goal
-
-abbrev pub invariant-loop-k : goal.invariant-loop-k
-invariant-loop-k l = take l.k l.taken ≡ map (value_at l.values) (take l.k l.slots)

@@ -1,0 +1,57 @@
+//! Rows of whole commands: each block of the standard input is a command line with the files that it reads and the
+//! calls that fail, and what the command writes, and how it ends, goes to the standard output.
+//!
+//! A block ends with a line `~`:
+//!
+//! ```text
+//! # a comment
+//! out fails at 2
+//! $ run --via blif m t
+//! the lines of the file m, a source or a text
+//! --
+//! the lines of the file t, a trace
+//! ~
+//! ```
+//!
+//! The lines before the words are comments and settings. `files fail at`, `out fails at` and `err fails at` have the
+//! numbers of calls behind them, from 1; with `out is counted` only the number of its bytes is shown, and with `out is
+//! hidden` not even that. The lines of a file have a line feed between two and none behind the last one, so a text that
+//! ends in a line feed has an empty last line here. Without a line `--` there is no file `t`. The file `o` has what the
+//! block before wrote to `out`.
+//!
+//! With `each beginning`, `each byte left out` or `each byte is C` the command runs once for each place of the file
+//! `m`: on what stands before the place, on the file without the byte there, and on the file with the byte C there. The
+//! answer is the number and words, and for each place a line with the place, the status, and the line in `err`.
+//!
+//! The answer to a block is else its number and words, a line with the status and the numbers of bytes, and the bytes
+//! of `out` and `err`. Words behind `cec-opt` are those of the optimizer, and all others those of the compiler. Where
+//! `out` is to fail, the command runs once more without that, and the answer says whether
+//! `out` is a beginning of what it has then. Where it is done, it runs once more by `cec_steadily`, and a text of `blif
+//! m`, `c m`, `c --guard m` or `verilog m` is made once more by `blif_of`, `c_of`, `guarded_c_of` or `verilog_of`: the
+//! answer says where those write anything else.
+#![tactic(auto)]
+
+mod answers;
+mod blocks;
+mod calls;
+
+use answers::answer_all;
+use base_types::WriterSink;
+use std::io;
+use std::process::ExitCode;
+
+// The statuses where the blocks are not to be had, and where not every one is answered.
+const NO_BLOCKS: u8 = 1;
+
+const NO_ANSWER: u8 = 2;
+
+fn main(rt: HostRuntime) -> ExitCode {
+    let Ok(text) = io::read_to_string(rt.alloc(), rt.stdin()) else {
+        return ExitCode::from(NO_BLOCKS);
+    };
+    let mut out = WriterSink::new(rt.stdout());
+    match answer_all(rt.alloc(), text.as_str(), &mut out) {
+        Ok(()) => ExitCode::from(0),
+        Err(_) => ExitCode::from(NO_ANSWER),
+    }
+}

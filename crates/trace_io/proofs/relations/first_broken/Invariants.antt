@@ -1,7 +1,0 @@
-use Rattle.std.proofs.Common.{ℕ, ◌<◌, map, slice_index_or}
-use Rattle.est_base.specs.Relations.{Relation, relation_of, Meets}
-use Rattle.trace_io.proofs.relations.first_broken.Given as goal
-
--- the event meets the relations so far
-abbrev pub invariant-loop-k : goal.invariant-loop-k
-invariant-loop-k l = (j : ℕ) (d : Relation) → j < l.k → Meets l.event (slice_index_or (map relation_of l.relations) j d)

@@ -1,3 +1,0 @@
--- What other crates use of these proofs.
-pub use Rattle.tri_gates.proofs.TableLaws.{and-says, extends-both, extends-length, extends-refl, fits-more, gate-stays, least-of-wires, node-stays, not-says}
-pub use Rattle.tri_gates.proofs.TableLaws.{or-says, pushed-extends, pushed-says, same-says, source-says, wire-says}

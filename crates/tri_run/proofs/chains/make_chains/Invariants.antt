@@ -1,5 +1,0 @@
-use Rattle.tri_run.specs.Chains.{ChainsSoFar}
-use Rattle.tri_run.proofs.chains.make_chains.Given as goal
-
-abbrev pub invariant-loop-wire : goal.invariant-loop-wire
-invariant-loop-wire l = ChainsSoFar l.graph l.words l.table.items l.chains.items l.wire

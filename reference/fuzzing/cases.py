@@ -1,0 +1,274 @@
+"""Random cases: the words and the files of one call of `cec` or `cec-opt`, of each kind."""
+
+from __future__ import annotations
+
+import random
+from typing import Callable, Optional
+
+from fuzzing.drawn_texts import MAKERS, circuit_text
+from fuzzing.sources import event_items, mutate_bytes, mutate_tokens, source, trace_text
+from rules.compiling import compile_source, text_of
+from rules.outcomes import Outcome
+from rules.text_faults import TextFault
+from rules.texts import open_text
+from rules.words import COMMANDS, EXEC_VIAS, RUN_VIAS, read_words
+
+Files = dict[bytes, bytes]
+Drawn = tuple[list[bytes], Files]
+
+
+class Case:
+    """One call: which program, its words, and its files, which lie in the folder that it is run in."""
+
+    def __init__(self, kind: str, program: str, words: list[bytes], files: Files) -> None:
+        self.kind = kind
+        self.program = program
+        self.words = words
+        self.files = files
+
+
+def pick_words(rng: random.Random, via: Optional[str] = None) -> list[bytes]:
+    if via == "tri" or rng.random() < 0.6:
+        return []
+    return [b"--pick", rng.choice([b"first", b"last", b"0", b"7", b"12345", b"18446744073709551615"])]
+
+
+def main_words(rng: random.Random) -> list[bytes]:
+    return [] if rng.random() < 0.75 else [b"--main", rng.choice([b"M", b"N0", b"M", b"ZZ", b"N1"])]
+
+
+def source_words(rng: random.Random, command: str) -> list[bytes]:
+    main = main_words(rng)
+    if command == "run":
+        via = rng.choice(RUN_VIAS)
+        words = [b"run", b"--via", via.encode()] + main + pick_words(rng, via)
+        if via == "blif" and rng.random() < 0.3:
+            words.append(b"--encode")
+        return words + [b"f", b"t"]
+    words = [command.encode()] + main
+    if command in ("blif", "c", "verilog"):
+        words += pick_words(rng)
+    if command == "blif" and rng.random() < 0.3:
+        words.append(b"--encode")
+    if command == "c" and rng.random() < 0.4:
+        words.append(b"--guard")
+    return words + [b"f"]
+
+
+SOURCE_COMMANDS = [command for command in COMMANDS if command not in ("exec", "gen")] + ["run", "run"]
+
+
+def trace_for(rng: random.Random, text: bytes, words: list[bytes]) -> bytes:
+    """A trace that mostly meets the relations of the source."""
+    asked = read_words(words)
+    main = asked.main if asked else None
+    try:
+        done = compile_source(text, main, True)
+    except Outcome:
+        return rng.choice([b"", b";", b"A; B;", b"; ; A B;"])
+    items = event_items(rng, rng.choice([0, 1, 3, 6, 12, 25]), done.relations, len(done.in_names))
+    return trace_text(items, done.in_names, rng)
+
+
+def source_case(rng: random.Random) -> Drawn:
+    command = rng.choice(SOURCE_COMMANDS)
+    words = source_words(rng, command)
+    text = source(rng)
+    files = {b"f": text}
+    if command == "run":
+        files[b"t"] = trace_for(rng, text, words)
+        if rng.random() < 0.1:
+            files[b"t"] = mutate_bytes(files[b"t"], rng)
+    return words, files
+
+
+def mutated_case(rng: random.Random) -> Drawn:
+    words, files = source_case(rng)
+    if rng.random() < 0.6:
+        files[b"f"] = mutate_tokens(files[b"f"], rng)
+    else:
+        files[b"f"] = mutate_bytes(files[b"f"], rng)
+    return words, files
+
+
+PIECES = [b" A", b" A A", b";", b"!reset", b"!reset;", b" !reset ", b"%", b"\x01", b"\x7f", b" ZZ ", b"B", b"\n"]
+PIECES += [b"%{", b"\x0b", b"\xc3\xa9", b" V "]
+
+
+def trace_case(rng: random.Random) -> Drawn:
+    text = source(rng, rng.choice([2, 6]), 0)
+    words = source_words(rng, "run")
+    trace = trace_for(rng, text, words)
+    for _ in range(rng.choice([1, 1, 2])):
+        at = rng.randrange(len(trace) + 1)
+        trace = trace[:at] + rng.choice(PIECES) + trace[at:]
+    return words, {b"f": text, b"t": trace}
+
+
+def written_text(rng: random.Random, via: str, budget: int) -> Optional[bytes]:
+    """The text of a random source, or None where that is refused."""
+    try:
+        return text_of(compile_source(source(rng, budget, 0)), via)
+    except Outcome:
+        return None
+
+
+def exec_case(rng: random.Random) -> Drawn:
+    via = rng.choice(EXEC_VIAS)
+    text = MAKERS[via](rng)
+    if rng.random() < 0.1:
+        text = written_text(rng, via, rng.choice([2, 6, 12])) or text
+    if rng.random() < 0.5:
+        text = mutate_bytes(text, rng)
+    trace = b";"
+    try:
+        runner = open_text(via, text)
+    except TextFault:
+        pass
+    else:
+        items = event_items(rng, rng.choice([0, 1, 2, 5, 9]), (), len(runner.in_names))
+        trace = trace_text(items, runner.in_names, rng)
+    if rng.random() < 0.15:
+        trace = mutate_bytes(trace, rng)
+    return [b"exec", b"--via", via.encode(), b"f", b"t"], {b"f": text, b"t": trace}
+
+
+LIST = (
+    "blif c grc check run exec gen verilog --help --main --main=M --main=M --main M --pick --pick first "
+    "--pick=last --pick 7 --pick=007 --via --via=c --via=blif --via blif --via guard --via=verilog "
+    "--via=tri --encode --guard --encode=1 --start --start=1 --start 2 --branches 3 --branches=0 "
+    "--branches=400 --branches 401 --run 2 --run=100001 --run - -- -x --x f f t t f nofile = --= --via= "
+    "18446744073709551615 18446744073709551616 --pick=18446744073709551616 --pick=x"
+).split(" ") + [""]
+
+PATTERNS = [
+    "blif f",
+    "c f",
+    "verilog f",
+    "grc f",
+    "check f",
+    "run --via blif f t",
+    "run --via c f t",
+    "run --via guard f t",
+    "run --via tri f t",
+    "exec --via blif f t",
+    "exec --via c f t",
+    "gen --start 1 --branches 2",
+    "gen --start 3 --branches 2 --run 2",
+    "--help",
+    "blif --encode f",
+    "c --guard f",
+    "run --via verilog f t",
+    "run --via blif --encode f t",
+]
+OPTION_NAMES = ["--main", "--pick", "--via", "--start", "--branches", "--run", "--encode", "--guard"]
+OPTION_VALUES = [
+    "-x",
+    "-",
+    "",
+    "--main",
+    "M",
+    "7",
+    "0x1",
+    "+1",
+    "-1",
+    "first",
+    "last",
+    "c",
+    "blif",
+    "007",
+    "400",
+    "401",
+]
+OPTION_VALUES += ["100000", "100001", "1 ", "\u0661", "FIRST", "18446744073709551615", "18446744073709551616"]
+
+
+def mixed_words(rng: random.Random, patterns: list[str], pool: list[str]) -> list[str]:
+    """A command line with a few changes, or words at random."""
+    if rng.random() >= 0.8:
+        return [rng.choice(pool) for _ in range(rng.randrange(6))]
+    words = rng.choice(patterns).split(" ")
+    for _ in range(rng.choice([0, 1, 1, 1, 2, 3])):
+        at = rng.randrange(len(words) + 1)
+        kind = rng.randrange(8)
+        if kind >= 5:
+            option, value = rng.choice(OPTION_NAMES), rng.choice(OPTION_VALUES)
+            words[at:at] = [option + "=" + value] if rng.random() < 0.4 else [option, value]
+        elif kind == 0 and at < len(words):
+            del words[at]
+        elif kind == 1 and at < len(words):
+            words[at] = rng.choice(pool)
+        elif kind == 2 and len(words) > 1:
+            a, b = rng.randrange(len(words)), rng.randrange(len(words))
+            words[a], words[b] = words[b], words[a]
+        elif kind == 3 and at + 1 < len(words):
+            words[at : at + 2] = [words[at] + "=" + words[at + 1]]
+        else:
+            words.insert(at, rng.choice(pool))
+    return words
+
+
+SMALL_SOURCES = [
+    b"module M: input A; output O; emit O; pause; emit O end module",
+    b"module M: output O; emit O; pause; emit O end module\n",
+]
+
+
+def words_case(rng: random.Random) -> Drawn:
+    words = [word.encode() for word in mixed_words(rng, PATTERNS, LIST)]
+    asked = read_words(words)
+    if asked is not None and asked.command == "exec":
+        return words, {b"f": MAKERS[asked.via](rng), b"t": b";"}
+    return words, {b"f": rng.choice(SMALL_SOURCES), b"t": rng.choice([b";;", b"; ;"])}
+
+
+def gen_case(rng: random.Random) -> Drawn:
+    start = rng.choice([0, 7, rng.randrange(1 << 31), rng.randrange(1 << 64)])
+    words = [b"gen", b"--start", b"%d" % start, b"--branches", b"%d" % rng.choice([1, 2, 3, 5, 10, 20])]
+    if rng.random() < 0.6:
+        words += [b"--run", b"%d" % rng.choice([0, 1, 2, 10, 50])]
+    elif rng.random() < 0.5:
+        words[4] = b"%d" % rng.randrange(1, 401)
+    return words, {}
+
+
+OPT_LIST = "blif c verilog check --help -x f f f nofile - -- --via blif= check f t".split(" ") + [""]
+OPT_PATTERNS = ["blif f", "c f", "verilog f", "check f", "--help"]
+
+
+def opt_case(rng: random.Random) -> Drawn:
+    """A circuit for the optimizer: in the profile, with a fault, or written from a source."""
+    command = rng.choice([b"blif", b"blif", b"c", b"verilog", b"check"])
+    kind = rng.random()
+    if kind < 0.1:
+        words = [
+            word.encode() for word in rng.choice([rng.choice(OPT_PATTERNS).split(" ")] + [rng.choices(OPT_LIST, k=2)])
+        ]
+        return words, {b"f": circuit_text(rng)}
+    text = circuit_text(rng) if kind < 0.6 else MAKERS["blif"](rng)
+    if kind > 0.85:
+        text = written_text(rng, "blif", rng.choice([2, 6, 12])) or text
+    if rng.random() < 0.2:
+        text = mutate_bytes(text, rng)
+    return [command, b"f"], {b"f": text}
+
+
+KINDS: dict[str, Callable[[random.Random], Drawn]] = {
+    "source": source_case,
+    "mutated": mutated_case,
+    "trace": trace_case,
+    "exec": exec_case,
+    "words": words_case,
+    "gen": gen_case,
+    "optimize": opt_case,
+}
+# A call of the optimizer or of `gen` takes far longer than one of the others.
+WEIGHTS = {"source": 6, "mutated": 4, "trace": 2, "exec": 6, "words": 2, "gen": 0.2, "optimize": 0.2}
+
+
+def drawn_case(seed: int, number: int, kinds: list[str]) -> Case:
+    """The case of a number, which is always the same."""
+    rng = random.Random("%d/%d" % (seed, number))
+    kind = rng.choices(kinds, [WEIGHTS[name] for name in kinds])[0]
+    words, files = KINDS[kind](rng)
+    return Case(kind, "cec-opt" if kind == "optimize" else "cec", words, files)

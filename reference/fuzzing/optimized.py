@@ -1,0 +1,134 @@
+"""What `cec-opt` answers, against its rules: the faults exactly, and of a text that it writes what every such text
+keeps.
+"""
+
+from __future__ import annotations
+
+import random
+import re
+from typing import Optional
+
+from fuzzing.cases import Case
+from fuzzing.sources import event_items
+from fuzzing.written import Difference, need, net_of_text
+from rules.blif import read_blif
+from rules.netlist import Net
+from rules.optimizer import FILE_FAULT, HELP, USAGE, Refused, asked_of, circuit_of, gates_at_most
+from rules.simplification import simplified_violations
+from rules.text_faults import is_loop
+from rules.texts import open_text
+
+EVENTS = 40
+COUNTS = re.compile(rb"(.*): (\d+) inputs, (\d+) outputs, (\d+) latches, (\d+) gates, depth (\d+)\n")
+Answer = tuple[bytes, bytes, int]
+
+
+def unseen(net: Net) -> list[int]:
+    """The latches and gates, by their nets, that no output shows, not even through latches."""
+    inputs, first = len(net.inputs), net.first_gate()
+    seen: set[int] = set()
+    todo = [source for _, source in net.outputs] + [net.paused]
+    while todo:
+        n = todo.pop()
+        if n in seen:
+            continue
+        seen.add(n)
+        if n >= first:
+            op = net.gates[n - first][0]
+            todo += [] if op[0] == "const" else list(op[1:])
+        elif n >= inputs:
+            todo.append(net.latches[n - inputs][1])
+    return [n for n in range(inputs, first + len(net.gates)) if n not in seen]
+
+
+def depth(net: Net) -> int:
+    depths = [0] * net.first_gate()
+    for op, _ in net.gates:
+        below = [depths[n] for n in op[1:]] if op[0] != "const" else []
+        depths.append(max(below, default=0) + (op[0] not in ("const", "copy")))
+    return max(depths, default=0)
+
+
+def check_text(kind: str, text: bytes, written: bytes, seed: int = 1) -> None:
+    """Raises Difference where a written text is none that may stand for the text."""
+    blif, runner = circuit_of(text)
+    net = net_of_text(kind, written, blif.name)
+    need(net.name == blif.name, "the name is %r and not %r", net.name, blif.name)
+    need(net.inputs == blif.inputs, "inputs %r, not %r", net.inputs, blif.inputs)
+    names = [name[:-4] if name.endswith(b".out") else name for name in blif.outputs[:-1]]
+    need([name for name, _ in net.outputs] == names, "outputs %r", net.outputs)
+    need(len(net.latches) <= len(blif.latches), "%d latches of %d", len(net.latches), len(blif.latches))
+    need(len(net.gates) <= gates_at_most(blif), "%d gates", len(net.gates))
+    need(all(wire is None for _, wire in net.gates), "a gate carries a wire")
+    broken = simplified_violations(net)
+    need(not broken, "not simplified: %s", broken[:1])
+    need(not unseen(net), "nothing shows the nets %r", unseen(net)[:3])
+    other = open_text(kind, written)
+    rng = random.Random(seed)
+    instant = 0
+    for item in event_items(rng, EVENTS, (), len(blif.inputs)):
+        if isinstance(item, str):
+            runner.reset()
+            other.reset()
+            continue
+        instant += 1
+        runner.react(item)
+        other.react(item)
+        shown = (list(map(bool, other.outputs)), bool(other.word))
+        need(shown == (runner.outputs, bool(runner.word)), "event %d: other values are shown", instant)
+
+
+def check_counts(text: bytes, out: bytes) -> None:
+    blif, _ = circuit_of(text)
+    lines = COUNTS.findall(out)
+    need(len(lines) == 2 and b"".join(out.splitlines(True)) == out and out.count(b"\n") == 2, "not two lines of counts")
+    before, after = ([int(number) for number in line[1:]] for line in lines)
+    need(all(line[0] == blif.name for line in lines), "another name")
+    given = [len(blif.inputs), len(blif.outputs), len(blif.latches)]
+    need(before[:3] == given, "the first line has %r, not %r", before[:3], given)
+    need(before[3] <= gates_at_most(blif), "%d gates", before[3])
+    need(after[:2] == before[:2], "the interface differs")
+    need(after[2] <= before[2] and after[3] <= before[3], "the second netlist is larger")
+
+
+def judge(case: Case, got: Answer) -> tuple[str, Optional[str]]:
+    """The outcome that is due, and what is amiss."""
+    out, err, status = got
+    asked = asked_of(case.words)
+    try:
+        if asked is None:
+            raise Refused(USAGE, b"usage, see cec-opt --help")
+        command, name = asked
+        if name is None:
+            return "Done", None if (out, err, status) == (HELP, b"", 0) else "the help text"
+        if name not in case.files:
+            raise Refused(FILE_FAULT, b"cannot read " + name)
+        text = case.files[name]
+        blif, _ = circuit_of(text)
+    except Refused as refused:
+        return "Refused", judge_refusal(case, refused, got)
+    if status != 0 or err:
+        return "Done", "status %r, err %r" % (status, err)
+    try:
+        if command == b"check":
+            check_counts(text, out)
+        else:
+            check_text(command.decode(), text, out)
+    except Difference as difference:
+        return "Done", "text: %s" % difference
+    return "Done", None
+
+
+def judge_refusal(case: Case, refused: Refused, got: Answer) -> Optional[str]:
+    out, err, status = got
+    if status != refused.status:
+        return "status %r, not %r" % (status, refused.status)
+    if out:
+        return "stdout"
+    if err == b"cec-opt: " + refused.line + b"\n":
+        return None
+    head = b"cec-opt: loop: "
+    if refused.names and err.startswith(head) and err.endswith(b"\n"):
+        names = err[len(head) : -1].split(b" -> ")
+        return None if is_loop(read_blif(case.files[case.words[1]]).uses(), names) else "not a loop"
+    return "stderr"
