@@ -13,7 +13,7 @@ from fuzzing.sources import event_items
 from fuzzing.written import Difference, need, net_of_text
 from rules.blif import read_blif
 from rules.netlist import Net
-from rules.optimizer import FILE_FAULT, HELP, USAGE, Refused, asked_of, circuit_of, gates_at_most
+from rules.optimizer import ABOUT, FILE_FAULT, USAGE, Refused, asked_of, circuit_of, gates_at_most, misuse_of
 from rules.simplification import simplified_violations
 from rules.text_faults import is_loop
 from rules.texts import open_text
@@ -97,10 +97,10 @@ def judge(case: Case, got: Answer) -> tuple[str, Optional[str]]:
     asked = asked_of(case.words)
     try:
         if asked is None:
-            raise Refused(USAGE, b"usage, see cec-opt --help")
+            raise Refused(USAGE, misuse_of(case.words) + b", see cec-opt --help")
         command, name = asked
         if name is None:
-            return "Done", None if (out, err, status) == (HELP, b"", 0) else "the help text"
+            return "Done", None if (out, err, status) == (ABOUT[command], b"", 0) else "what it writes about itself"
         if name not in case.files:
             raise Refused(FILE_FAULT, b"cannot read " + name)
         text = case.files[name]

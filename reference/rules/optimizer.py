@@ -14,7 +14,15 @@ from rules.outcomes import text_line
 from rules.text_faults import TextFault
 
 COMMANDS = (b"blif", b"c", b"verilog", b"check")
-HELP = b"cec-opt blif TEXT\ncec-opt c TEXT\ncec-opt verilog TEXT\ncec-opt check TEXT\n"
+HELP = b"""cec-opt blif TEXT      writes the optimized circuit of TEXT, a BLIF file, as BLIF
+cec-opt c TEXT         the same as C
+cec-opt verilog TEXT   the same as structural Verilog
+cec-opt check TEXT     writes the sizes of the circuit and of the optimized one
+cec-opt --help         writes these lines
+cec-opt --version      writes the program's name and version
+"""
+# What the program writes about itself, by the word that asks for it.
+ABOUT = {b"--help": HELP, b"--version": b"cec-opt 0.1.0\n"}
 NAME = re.compile(rb"[A-Za-z][A-Za-z0-9_]*\Z")
 USAGE, FILE_FAULT, BAD_TEXT = 2, 3, 7
 
@@ -31,11 +39,27 @@ class Refused(Exception):
 
 def asked_of(words: Sequence[bytes]) -> Optional[tuple[bytes, Optional[bytes]]]:
     """The command and its file, or None where the words have no meaning."""
-    if list(words) == [b"--help"]:
-        return b"--help", None
+    if len(words) == 1 and words[0] in ABOUT:
+        return words[0], None
     if len(words) == 2 and words[0] in COMMANDS and words[1] and words[1][:1] != b"-":
         return words[0], words[1]
     return None
+
+
+def misuse_of(words: Sequence[bytes]) -> bytes:
+    """What is wrong with words that have no meaning."""
+    if not words:
+        return b"no command"
+    first, rest = words[0], words[1:]
+    if first in ABOUT:
+        return b"one word too many: " + rest[0]
+    if first not in COMMANDS:
+        return b"unknown word: " + first
+    if not rest:
+        return b"no file after " + first
+    if len(rest) == 1:
+        return b"not a file: " + rest[0]
+    return b"one word too many: " + rest[1]
 
 
 def interface_fault(blif: Blif) -> Optional[bytes]:

@@ -5,7 +5,7 @@ use Rattle.base_types.specs.SinkChanges.{SinkChange}
 use Rattle.cec_text_io.proofs.Exports.{never_rose}
 use Rattle.cec_opt_commands.specs.Laws.{IsAccepted, IsFaultless, AcceptedTextsAreDone}
 use Rattle.cec_opt_commands.specs.Outcomes.{IsOptOutcomeOf, CountsFiles, LeavesAnswer, IsTextOf, GainsOut}
-use Rattle.cec_opt_commands.specs.Words.{Request, Help, Do}
+use Rattle.cec_opt_commands.specs.Words.{Request, Tell, Do}
 use Rattle.cec_opt_commands.specs.declared.outcome.OptOutcome.{OptOutcome}
 use Rattle.cec_opt_commands.specs.declared.outcome.OptOutcome.TheVariants.{Done, Usage, FileFault, BadText, TooLong, WriteFault, NoMemory}
 use Rattle.cec_opt_commands.specs.declared.words.Task.{Task}
@@ -20,13 +20,13 @@ answer_rose (Write form) P s l = l.2.faults
 answer_rose Check P s l = l.2.faults
 
 pub accepted_done : AcceptedTextsAreDone
-accepted_done Help held Done before now failed_before failed_now s accepted agrees counts still out steady = inl refl
-accepted_done Help held Usage before now failed_before failed_now s accepted agrees counts still out steady = absurd agrees
-accepted_done Help held FileFault before now failed_before failed_now s accepted agrees counts still out steady = absurd agrees
-accepted_done Help held (BadText fault) before now failed_before failed_now s accepted agrees counts still out steady = absurd agrees
-accepted_done Help held TooLong before now failed_before failed_now s accepted agrees counts still out steady = absurd agrees
-accepted_done Help held WriteFault before now failed_before failed_now s accepted agrees counts still out steady = absurd (steady out.2.faults)
-accepted_done Help held NoMemory before now failed_before failed_now s accepted agrees counts still out steady = inr refl
+accepted_done (Tell about) held Done before now failed_before failed_now s accepted agrees counts still out steady = inl refl
+accepted_done (Tell about) held Usage before now failed_before failed_now s accepted agrees counts still out steady = absurd agrees
+accepted_done (Tell about) held FileFault before now failed_before failed_now s accepted agrees counts still out steady = absurd agrees
+accepted_done (Tell about) held (BadText fault) before now failed_before failed_now s accepted agrees counts still out steady = absurd agrees
+accepted_done (Tell about) held TooLong before now failed_before failed_now s accepted agrees counts still out steady = absurd agrees
+accepted_done (Tell about) held WriteFault before now failed_before failed_now s accepted agrees counts still out steady = absurd (steady out.2.faults)
+accepted_done (Tell about) held NoMemory before now failed_before failed_now s accepted agrees counts still out steady = inr refl
 accepted_done (Do task name) held Done before now failed_before failed_now s accepted agrees counts still out steady = inl refl
 accepted_done (Do task name) held Usage before now failed_before failed_now s accepted agrees counts still out steady = absurd agrees.2
 accepted_done (Do task name) held FileFault before now failed_before failed_now s accepted agrees counts still out steady =

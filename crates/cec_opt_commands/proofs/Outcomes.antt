@@ -20,7 +20,7 @@ use Rattle.cec_text_io.specs.declared.writing.Written.TheVariants as ends
 use Rattle.cec_opt_commands.specs.Answers.{IsAnswer}
 use Rattle.cec_opt_commands.specs.Outcomes.{HasNet, SaysOf, IsWriting, IsOptOutcomeOf, CountsFiles, LeavesAnswer, IsTextOf, GainsOut}
 use Rattle.cec_opt_commands.specs.Statuses.{written_of, written_outcome, stop_outcome, unread_outcome}
-use Rattle.cec_opt_commands.specs.Words.{Request, Help, Do}
+use Rattle.cec_opt_commands.specs.Words.{Request, Tell, Do}
 use Rattle.cec_opt_commands.specs.declared.outcome.OptOutcome.{OptOutcome}
 use Rattle.cec_opt_commands.specs.declared.outcome.OptOutcome.TheVariants.{Done, Usage, FileFault, BadText, TooLong, WriteFault, NoMemory}
 use Rattle.cec_opt_commands.specs.declared.words.Task.{Task}
@@ -124,5 +124,5 @@ unread_out content Check name reading.NoMemory s a = a
 
 -- no request ends as words without a meaning do
 pub no_usage : (request : Request) (content : Content) → IsOptOutcomeOf (Some request) content Usage → ⊥
-no_usage Help content a = a
+no_usage (Tell about) content a = a
 no_usage (Do task name) content a = a.2

@@ -1,10 +1,22 @@
--- Contract: the list of the commands.
+-- Contract: the list of the commands, and the version.
 use Rattle.std.specs.Prelude.{ℕ, List, [], ◌∷◌, codes}
 use Rattle.std.specs.List.{concat}
+use Rattle.cec_opt_commands.specs.declared.words.About.{About}
+use Rattle.cec_opt_commands.specs.declared.words.About.TheVariants.{Commands, Version}
 
 abbrev pub help_text : List ℕ
 help_text =
-    concat (codes "cec-opt blif TEXT\n"
-    ∷ codes "cec-opt c TEXT\n"
-    ∷ codes "cec-opt verilog TEXT\n"
-    ∷ codes "cec-opt check TEXT\n" ∷ [])
+    concat (codes "cec-opt blif TEXT      writes the optimized circuit of TEXT, a BLIF file, as BLIF\n"
+    ∷ codes "cec-opt c TEXT         the same as C\n"
+    ∷ codes "cec-opt verilog TEXT   the same as structural Verilog\n"
+    ∷ codes "cec-opt check TEXT     writes the sizes of the circuit and of the optimized one\n"
+    ∷ codes "cec-opt --help         writes these lines\n"
+    ∷ codes "cec-opt --version      writes the program's name and version\n" ∷ [])
+
+abbrev pub version_text : List ℕ
+version_text = codes "cec-opt 0.1.0\n"
+
+-- what the program writes about itself
+abbrev pub own_text : About → List ℕ
+own_text Commands = help_text
+own_text Version = version_text

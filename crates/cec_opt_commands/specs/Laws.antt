@@ -6,7 +6,7 @@ use Rattle.base_types.specs.SinkChanges.{SinkChange}
 use Rattle.cec_opt_texts.specs.Faults.{IsOptFault}
 use Rattle.cec_opt_texts.specs.declared.fault.OptFault.{OptFault}
 use Rattle.cec_opt_commands.specs.Outcomes.{IsOptOutcomeOf, CountsFiles, GainsOut}
-use Rattle.cec_opt_commands.specs.Words.{Request, Help, Do}
+use Rattle.cec_opt_commands.specs.Words.{Request, Tell, Do}
 use Rattle.cec_opt_commands.specs.declared.outcome.OptOutcome.{OptOutcome}
 use Rattle.cec_opt_commands.specs.declared.outcome.OptOutcome.TheVariants.{Done, NoMemory}
 
@@ -17,7 +17,7 @@ pub record IsFaultless (text : List ℕ) : Type 0 where
 
 -- a request, and files with these bytes, of which nothing is refused
 abbrev pub IsAccepted : Request → (List ℕ → List ℕ) → Type 0
-IsAccepted Help held = ⊤
+IsAccepted (Tell about) held = ⊤
 IsAccepted (Do task name) held = IsFaultless (held name)
 
 -- what the top call says of an outcome, where no count of faults rises, leaves these two

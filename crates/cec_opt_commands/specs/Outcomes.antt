@@ -10,9 +10,9 @@ use Rattle.cec_opt_texts.specs.Optimized.{IsTextNet}
 use Rattle.cec_text_io.specs.Contents.{Content, Holds}
 use Rattle.cec_text_io.specs.Writings.{LeavesText, LeavesPieces}
 use Rattle.cec_opt_commands.specs.Answers.{IsAnswer}
-use Rattle.cec_opt_commands.specs.HelpTexts.{help_text}
+use Rattle.cec_opt_commands.specs.HelpTexts.{own_text}
 use Rattle.cec_opt_commands.specs.Statuses.{written_of}
-use Rattle.cec_opt_commands.specs.Words.{Request, Help, Do}
+use Rattle.cec_opt_commands.specs.Words.{Request, Tell, Do}
 use Rattle.cec_opt_commands.specs.declared.outcome.OptOutcome.{OptOutcome}
 use Rattle.cec_opt_commands.specs.declared.outcome.OptOutcome.TheVariants.{Done, Usage, FileFault, BadText, TooLong}
 use Rattle.cec_opt_commands.specs.declared.outcome.OptOutcome.TheVariants.{WriteFault}
@@ -52,7 +52,7 @@ IsWriting others = ⊥
 -- what an outcome says of the words and of the bytes in the files
 abbrev pub IsOptOutcomeOf : Option Request → Content → OptOutcome → Type 0
 IsOptOutcomeOf None content outcome = outcome ≡ Usage
-IsOptOutcomeOf (Some Help) content outcome = IsWriting outcome
+IsOptOutcomeOf (Some (Tell about)) content outcome = IsWriting outcome
 IsOptOutcomeOf (Some (Do task name)) content outcome = AgreesOnFile content name outcome
 
 -- ---- the files
@@ -76,5 +76,5 @@ IsTextOf task name content written = Holds content name (λ text. IsAnswer task 
 
 abbrev pub GainsOut : Option Request → Content → OptOutcome → SinkChange → Type 0
 GainsOut None content outcome s = Appends s.before s.after s.faults_before s.faults_now []
-GainsOut (Some Help) content outcome s = LeavesText (λ written. written ≡ help_text) s (written_of outcome)
+GainsOut (Some (Tell about)) content outcome s = LeavesText (λ written. written ≡ own_text about) s (written_of outcome)
 GainsOut (Some (Do task name)) content outcome s = LeavesAnswer task (IsTextOf task name content) s outcome

@@ -1,11 +1,14 @@
 // The line about an outcome.
 
-ghost use Rattle.std.specs.Prelude.{◌++◌, codes};
+ghost use Rattle.std.specs.Prelude.{◌++◌, codes, map};
+ghost use Rattle.std.specs.String.{string_bytes};
 ghost use Rattle.base_types.specs.Writing.{Wrote};
 ghost use Rattle.cec_text_io.specs.ErrorLines.{GainsLine};
 ghost use Rattle.cec_opt_commands.specs.Lines.{circuit_text, fault_text, line_of};
+ghost use Rattle.cec_opt_commands.specs.Words.{misuse_of};
 
 use crate::outcome::OptOutcome;
+use crate::words::misuse_of;
 use base_types::{Sink, SinkFault, write_pieces};
 use blif_net::CircuitFault;
 use cec_opt_texts::OptFault;
@@ -13,29 +16,62 @@ use cec_text_io::put_loop;
 use itoa::Buffer;
 
 /// Writes the line of an outcome, where a command reads the file of this name; a sink that fails changes nothing.
-pub(crate) fn report<E: Sink>(err: &mut E, name: &str, outcome: &OptOutcome)
+pub(crate) fn report<E: Sink>(err: &mut E, subject: &str, outcome: &OptOutcome)
     ensures { GainsLine (E.told err.old) (E.told err.new) (E.faults err.old) (E.faults err.new)
-        (line_of name.now outcome.now) }
+        (line_of subject.now outcome.now) }
 {
-    let _ = put_line(err, name, outcome);
+    let _ = put_line(err, subject, outcome);
+}
+
+/// Writes the line about words that have no meaning; a sink that fails changes nothing.
+pub(crate) fn report_misuse<E: Sink>(err: &mut E, words: &[String])
+    ensures { GainsLine (E.told err.old) (E.told err.new) (E.faults err.old) (E.faults err.new)
+        (line_of (misuse_of (map string_bytes words.now)) OptOutcome.Usage) }
+{
+    let _ = put_misuse(err, words);
+}
+
+// The line about words that have no meaning.
+fn put_misuse<E: Sink>(err: &mut E, words: &[String]) -> Result<(), SinkFault>
+    ensures { Wrote (E.told err.old) (E.told err.new) (E.faults err.old) (E.faults err.new)
+        (line_of (misuse_of (map string_bytes words.now)) OptOutcome.Usage) result }
+{
+    let misuse = misuse_of(words);
+    write_pieces(
+        err,
+        &[
+            b"cec-opt: ",
+            misuse.fault,
+            misuse.word,
+            b", see cec-opt --help",
+            b"\n",
+        ],
+    )
 }
 
 // The line of an outcome, none for `Done`. Writing it takes no memory; a prefix of the line was appended where the
 // sink failed.
-fn put_line<E: Sink>(err: &mut E, name: &str, outcome: &OptOutcome) -> Result<(), SinkFault>
+fn put_line<E: Sink>(err: &mut E, subject: &str, outcome: &OptOutcome) -> Result<(), SinkFault>
     ensures { Wrote (E.told err.old) (E.told err.new) (E.faults err.old) (E.faults err.new)
-        (line_of name.now outcome.now) result }
+        (line_of subject.now outcome.now) result }
 {
     match outcome {
         OptOutcome::Done => Ok(()),
-        OptOutcome::Usage => write_pieces(
-            err,
-            &[b"cec-opt: ", b"usage, see cec-opt --help", b"\n"],
-        ),
+        OptOutcome::Usage => {
+            write_pieces(
+                err,
+                &[
+                    b"cec-opt: ",
+                    subject.as_bytes(),
+                    b", see cec-opt --help",
+                    b"\n",
+                ],
+            )
+        }
         OptOutcome::FileFault => {
             write_pieces(
                 err,
-                &[b"cec-opt: ", b"cannot read ", name.as_bytes(), b"\n"],
+                &[b"cec-opt: ", b"cannot read ", subject.as_bytes(), b"\n"],
             )
         }
         OptOutcome::BadText(fault) => put_fault(err, fault),

@@ -29,7 +29,7 @@ pub fn cec_opt_steadily<E: Sink>(
     ensures files_stay { held files.new ≡ held files.old }
     ensures out { GainsOut (request_by (map string_bytes words.now)) (Some (held files.old)) result
         (record { before = told_of out.old; after = told_of out.new; faults_before = 0; faults_now = 0 }) }
-    ensures err { GainsErr (request_by (map string_bytes words.now)) result
+    ensures err { GainsErr (map string_bytes words.now) (request_by (map string_bytes words.now)) result
         (E.told err.old) (E.told err.new) (E.faults err.old) (E.faults err.new) }
 {
     cec_opt(alloc, words, files, out, err)

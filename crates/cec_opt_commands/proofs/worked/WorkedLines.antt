@@ -7,9 +7,10 @@ use Rattle.blif_net.specs.declared.fault.CircuitFault.TheVariants.{NoPause, Mode
 use Rattle.cec_opt_texts.specs.declared.fault.OptFault.TheVariants.{Line, TwoDrivers, NoDriver, Circuit}
 use Rattle.cec_opt_commands.specs.Answers.{counts_line}
 use Rattle.cec_opt_commands.specs.Depths.{op_depth, net_depths, greatest, depth_of}
-use Rattle.cec_opt_commands.specs.Lines.{line_of, name_in}
+use Rattle.cec_opt_commands.specs.Lines.{line_of, subject_of}
 use Rattle.cec_opt_commands.specs.Statuses.{status_of, written_of, written_outcome}
-use Rattle.cec_opt_commands.specs.Words.{Help, request_by}
+use Rattle.cec_opt_commands.specs.Words.{Tell, misuse_of, request_by}
+use Rattle.cec_opt_commands.specs.declared.words.About.TheVariants.{Commands, Version}
 use Rattle.cec_opt_commands.specs.declared.outcome.OptOutcome.TheVariants.{Done, Usage, FileFault, BadText, TooLong, WriteFault, NoMemory}
 use Rattle.cec_text_io.specs.declared.writing.Written.TheVariants as ends
 
@@ -54,7 +55,7 @@ statuses : map status_of (Done ∷ Usage ∷ FileFault ∷ BadText (Line 3) ∷ 
 statuses = refl
 
 lines : map (line_of (codes "p.blif")) (Done ∷ Usage ∷ FileFault ∷ TooLong ∷ WriteFault ∷ NoMemory ∷ [])
-    ≡ [] ∷ codes "cec-opt: usage, see cec-opt --help\n" ∷ codes "cec-opt: cannot read p.blif\n" ∷ codes "cec-opt: limit: text\n"
+    ≡ [] ∷ codes "cec-opt: p.blif, see cec-opt --help\n" ∷ codes "cec-opt: cannot read p.blif\n" ∷ codes "cec-opt: limit: text\n"
     ∷ codes "cec-opt: cannot write\n" ∷ codes "cec-opt: out of memory\n" ∷ []
 lines = refl
 
@@ -76,11 +77,17 @@ outcomes = refl
 
 -- ---- words
 
-some_words : map request_by ((codes "--help" ∷ []) ∷ [] ∷ (codes "check" ∷ []) ∷ (codes "check" ∷ codes "-p" ∷ []) ∷ (codes "check" ∷ [] ∷ []) ∷ (codes "run"
+some_words : map request_by ((codes "--help" ∷ []) ∷ (codes "--version" ∷ []) ∷ [] ∷ (codes "check" ∷ []) ∷ (codes "check" ∷ codes "-p" ∷ []) ∷ (codes "check" ∷ [] ∷ []) ∷ (codes "run"
     ∷ codes "p" ∷ [])
     ∷ (codes "check" ∷ codes "p" ∷ codes "p" ∷ []) ∷ (codes "--help" ∷ codes "p" ∷ []) ∷ [])
-    ≡ Some Help ∷ None ∷ None ∷ None ∷ None ∷ None ∷ None ∷ None ∷ []
+    ≡ Some (Tell Commands) ∷ Some (Tell Version) ∷ None ∷ None ∷ None ∷ None ∷ None ∷ None ∷ None ∷ []
 some_words = refl
 
-files : map name_in (None ∷ Some Help ∷ []) ≡ [] ∷ [] ∷ []
-files = refl
+misuses : map misuse_of ([] ∷ (codes "check" ∷ []) ∷ (codes "run" ∷ []) ∷ (codes "check" ∷ codes "-p" ∷ []) ∷ (codes "run" ∷ codes "p" ∷ [])
+    ∷ (codes "c" ∷ codes "p" ∷ codes "q" ∷ codes "r" ∷ []) ∷ (codes "--help" ∷ codes "p" ∷ codes "q" ∷ []) ∷ [])
+    ≡ codes "no command" ∷ codes "no file after check" ∷ codes "unknown word: run" ∷ codes "not a file: -p" ∷ codes "unknown word: run"
+    ∷ codes "one word too many: q" ∷ codes "one word too many: p" ∷ []
+misuses = refl
+
+subjects : map (subject_of (codes "run" ∷ [])) (None ∷ Some (Tell Commands) ∷ Some (Tell Version) ∷ []) ≡ codes "unknown word: run" ∷ [] ∷ [] ∷ []
+subjects = refl

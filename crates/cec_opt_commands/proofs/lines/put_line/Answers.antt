@@ -1,10 +1,11 @@
+use Rattle.std.proofs.Common.{append_assoc, codes}
 use Rattle.cec_opt_commands.proofs.lines.put_line.Goals as goal
 
 pub returns-in-Usage : goal.returns-in-Usage
-returns-in-Usage g c = rw c.in-Usage.is c.write_pieces.ensures
+returns-in-Usage g c = rw (c.in-Usage.is, ← c.as_bytes.ensures.value, append_assoc c.as_bytes.result.now (codes ", see cec-opt --help") (codes "\n")) c.write_pieces.ensures
 
 pub returns-in-FileFault : goal.returns-in-FileFault
-returns-in-FileFault g c = rw (c.in-FileFault.is, ← c.as_bytes.ensures.value) c.write_pieces-in-FileFault.ensures
+returns-in-FileFault g c = rw (c.in-FileFault.is, ← c.as_bytes-in-FileFault.ensures.value) c.write_pieces-in-FileFault.ensures
 
 pub returns-in-TooLong : goal.returns-in-TooLong
 returns-in-TooLong g c = rw c.in-TooLong.is c.write_pieces-in-TooLong.ensures

@@ -1,8 +1,8 @@
 use Rattle.std.proofs.Common.{◌≡◌}
 use Rattle.base_types.specs.SinkChanges.{change}
-use Rattle.cec_opt_commands.specs.HelpTexts.{help_text}
+use Rattle.cec_opt_commands.specs.HelpTexts.{own_text}
 use Rattle.cec_opt_commands.proofs.Outcomes.{written_text, written_writes}
-use Rattle.cec_opt_commands.proofs.command.write_help.Goals as goal
+use Rattle.cec_opt_commands.proofs.command.tell.Goals as goal
 
 pub returns-clause-agrees : goal.returns-clause-agrees
 returns-clause-agrees g c = rw c.from-outcome.ensures (written_writes c.write_whole.result)
@@ -10,5 +10,5 @@ returns-clause-agrees g c = rw c.from-outcome.ensures (written_writes c.write_wh
 pub returns-clause-out : goal.returns-clause-out
 returns-clause-out g c =
     rw c.from-outcome.ensures
-    (written_text (λ written. written ≡ help_text) (λ written. written ≡ help_text)
+    (written_text (λ written. written ≡ own_text c.args.about) (λ written. written ≡ own_text c.args.about)
     (change g.O.Sink.told g.O.Sink.faults c.args.out.now c.write_whole.new.out) c.write_whole.result (λ written is. is) c.write_whole.ensures)
