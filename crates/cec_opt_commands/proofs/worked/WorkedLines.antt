@@ -77,9 +77,8 @@ outcomes = refl
 
 -- ---- words
 
-some_words : map request_by ((codes "--help" ∷ []) ∷ (codes "--version" ∷ []) ∷ [] ∷ (codes "check" ∷ []) ∷ (codes "check" ∷ codes "-p" ∷ []) ∷ (codes "check" ∷ [] ∷ []) ∷ (codes "run"
-    ∷ codes "p" ∷ [])
-    ∷ (codes "check" ∷ codes "p" ∷ codes "p" ∷ []) ∷ (codes "--help" ∷ codes "p" ∷ []) ∷ [])
+some_words : map request_by ((codes "--help" ∷ []) ∷ (codes "--version" ∷ []) ∷ [] ∷ (codes "check" ∷ []) ∷ (codes "check" ∷ codes "-p" ∷ [])
+    ∷ (codes "check" ∷ [] ∷ []) ∷ (codes "run" ∷ codes "p" ∷ []) ∷ (codes "check" ∷ codes "p" ∷ codes "p" ∷ []) ∷ (codes "--help" ∷ codes "p" ∷ []) ∷ [])
     ≡ Some (Tell Commands) ∷ Some (Tell Version) ∷ None ∷ None ∷ None ∷ None ∷ None ∷ None ∷ None ∷ []
 some_words = refl
 
