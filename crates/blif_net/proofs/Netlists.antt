@@ -35,7 +35,7 @@ use Rattle.blif_run.specs.Loops.{equations_of}
 use Rattle.blif_run.specs.Plans.{given_names, all_names}
 use Rattle.blif_run.proofs.Exports.{names-are, given-count, sound-equations, IsOnly, only-instant}
 use Rattle.blif_net.specs.declared.assembling.Named.{Named}
-use Rattle.blif_net.specs.Conversions.{IsWide, ShowSame, SameLatches, IsNetOf}
+use Rattle.blif_net.specs.Conversions.{FitsCircuit, ShowsCircuit, SameLatches, IsNetOf}
 use Rattle.blif_net.specs.Drawings.{IsDrawing, read_values}
 use Rattle.blif_net.specs.Interfaces.{IsFit}
 use Rattle.blif_net.specs.Tables.{Settles, IsNamed, net_with, net_named, latch_named}
@@ -253,7 +253,7 @@ module _ (c : Circuit) (sound : IsSound c) (fit : IsFit c) (order : List ℕ)
       sources [] driven = refl
       sources (l ∷ ls) driven = rw (agrees l.source driven.0, sources ls driven.1) refl
 
-      shows : ShowSame net c (gate_values begins gates) u
+      shows : ShowsCircuit net c (gate_values begins gates) u
       shows =
           let values = gate_values begins gates in
           let listed : map u (listed_names c.outputs) ≡ map (λ (o : NetOut). value_in values o.net.0) named.outputs.items =
@@ -268,7 +268,7 @@ module _ (c : Circuit) (sound : IsSound c) (fit : IsFit c) (order : List ℕ)
       next : next_latches net (gate_values begins gates) ≡ map (λ l. u l.source) c.latches
       next = ap (map (λ (l : Latch). value_in (gate_values begins gates) l.from.0)) n.latches ∙ sources c.latches sound.driven.sources
 
-  pub net-follows : Follows (net_machine net) (circuit_machine c) (IsWide c) (ShowSame net c) (SameLatches c)
+  pub net-follows : Follows (net_machine net) (circuit_machine c) (FitsCircuit c) (ShowsCircuit net c) (SameLatches c)
   net-follows = record {
     agrees = record {
       starts = record {
@@ -277,7 +277,7 @@ module _ (c : Circuit) (sound : IsSound c) (fit : IsFit c) (order : List ℕ)
       };
       steps = λ latches kept inputs values u m wide own instant.
           let here : IsInstant c latches inputs u = subst (λ l. IsInstant c l inputs u) (sym m.same) instant in
-          let same : ShowSame net c values u = subst (λ vs. ShowSame net c vs u) (sym own) (shows latches inputs m.each_latch wide u here) in
+          let same : ShowsCircuit net c values u = subst (λ vs. ShowsCircuit net c vs u) (sym own) (shows latches inputs m.each_latch wide u here) in
           let after : SameLatches c (next_latches net values) (map (λ (l : CircuitLatch). u l.source) c.latches) = record {
             same = ap (next_latches net) own ∙ next latches inputs m.each_latch wide u here;
             each_latch = length-map named.latches.items (λ (l : Latch). value_in values l.from.0) ∙ ap length n.latches

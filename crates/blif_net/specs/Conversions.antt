@@ -1,4 +1,4 @@
--- Contract: what the netlist of a circuit is.
+-- To believe: what the netlist of a circuit is.
 use Rattle.std.specs.Prelude.{◌≡◌, ℕ, Bool, List, [], ◌∷◌, ◌++◌, length, map}
 use Rattle.base_machines.specs.Machines.{Follows}
 use Rattle.net_ir.specs.Gates.{carried}
@@ -9,12 +9,12 @@ use Rattle.blif_text.specs.Runs.{circuit_machine}
 use Rattle.blif_text.specs.Written.{output_words}
 
 -- an event has one value for each input
-abbrev pub IsWide : Circuit → List Bool → Type 0
-IsWide circuit event = length event ≡ length circuit.inputs
+abbrev pub FitsCircuit : Circuit → List Bool → Type 0
+FitsCircuit circuit event = length event ≡ length circuit.inputs
 
 -- in an instant the outputs of the circuit have the values that the net shows, and the last one that of `paused`
-abbrev pub ShowSame : Netlist → Circuit → List Bool → (List ℕ → Bool) → Type 0
-ShowSame net circuit values v =
+abbrev pub ShowsCircuit : Netlist → Circuit → List Bool → (List ℕ → Bool) → Type 0
+ShowsCircuit net circuit values v =
     map v circuit.outputs ≡ (shown net values).outputs ++ (shown net values).paused ∷ []
 
 -- the latches have the same values, in their order, one each
@@ -31,5 +31,5 @@ pub record IsNetOf (circuit : Circuit) (net : Netlist) : Type 0 where
   pub inputs : net.inputs ≡ circuit.inputs
   pub outputs : output_words net ≡ circuit.outputs
   pub silent : carried net.gates ≡ []
-  pub follows : Follows (net_machine net) (circuit_machine circuit) (IsWide circuit) (ShowSame net circuit)
+  pub follows : Follows (net_machine net) (circuit_machine circuit) (FitsCircuit circuit) (ShowsCircuit net circuit)
       (SameLatches circuit)

@@ -1,4 +1,4 @@
--- Contract: which circuits have a netlist, and why another has none.
+-- To believe: which circuits have a netlist, and why another has none.
 use Rattle.std.specs.Prelude.{◌≡◌, ℕ, ◌<◌, ◌^◌, false, List, [], ◌∷◌, ◌++◌, Some, None, All, IsTrue}
 use Rattle.base_types.specs.Names.{is_name}
 use Rattle.net_ir.specs.NameLists.{first_again}

@@ -1,4 +1,4 @@
--- Contract: how many nets the netlist of a circuit needs at most.
+-- To believe: how many nets the netlist of a circuit needs at most.
 use Rattle.std.specs.Prelude.{ℕ, ◌+◌, ◌*◌, List, length}
 use Rattle.std.specs.List.{sum_by}
 use Rattle.blif_text.specs.declared.circuit.Cell.{Cell}

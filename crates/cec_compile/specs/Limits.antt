@@ -1,4 +1,4 @@
--- To believe: the refusal that stands for a fault of a pass.
+-- Contract: the refusal that stands for a fault of a pass.
 use Rattle.est_front.specs.declared.refusal.Quantity.{Quantity}
 use Rattle.est_front.specs.declared.refusal.Quantity.TheVariants as quantities
 use Rattle.est_front.specs.declared.refusal.SourceRefusal as fronts

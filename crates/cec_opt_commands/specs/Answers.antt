@@ -1,4 +1,4 @@
--- Contract: what a task writes of a text.
+-- To believe: what a task writes of a text.
 use Rattle.std.specs.Prelude.{◌≡◌, ℕ, ◌+◌, List, [], ◌∷◌, ◌++◌, length, codes, decimal}
 use Rattle.std.specs.List.{concat}
 use Rattle.net_ir.specs.Netlists.{Netlist}

@@ -1,4 +1,4 @@
--- Contract: the list of the commands, and the version.
+-- To believe: the list of the commands, and the version.
 use Rattle.std.specs.Prelude.{ℕ, List, [], ◌∷◌, codes}
 use Rattle.std.specs.List.{concat}
 use Rattle.cec_opt_commands.specs.declared.words.About.{About}

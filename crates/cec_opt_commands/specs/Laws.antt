@@ -1,4 +1,4 @@
--- Contract: which texts are accepted, and that a command on such a text is done.
+-- To believe: which texts are accepted, and that a command on such a text is done.
 use Rattle.std.specs.Prelude.{◌≡◌, ℕ, ◌≤◌, ◌⊎◌, ⊤, List, length, Some}
 use Rattle.base_types.specs.declared.bounds.TheConstants.Limits.{TEXT_BYTES}
 use Rattle.base_types.specs.Faults.{Rose}

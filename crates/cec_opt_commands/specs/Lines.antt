@@ -1,4 +1,4 @@
--- Contract: the line that is written about an outcome.
+-- To believe: the line that is written about an outcome.
 use Rattle.std.specs.Prelude.{ℕ, List, [], ◌++◌, Option, Some, codes, decimal}
 use Rattle.blif_net.specs.declared.fault.CircuitFault.{CircuitFault}
 use Rattle.blif_net.specs.declared.fault.CircuitFault.TheVariants.{NoPause, Model, Input, Output, Again, Loop}
@@ -12,20 +12,20 @@ use Rattle.cec_opt_commands.specs.declared.outcome.OptOutcome.TheVariants.{Done,
 use Rattle.cec_opt_commands.specs.declared.outcome.OptOutcome.TheVariants.{WriteFault}
 use Rattle.cec_opt_commands.specs.declared.outcome.OptOutcome.TheVariants.{NoMemory}
 
-abbrev pub circuit_text : CircuitFault → List ℕ
-circuit_text NoPause = codes "last output is not _paused"
-circuit_text (Model name) = codes "bad model: " ++ name
-circuit_text (Input name) = codes "bad input: " ++ name
-circuit_text (Output name) = codes "bad output: " ++ name
-circuit_text (Again name) = codes "output twice: " ++ name
-circuit_text (Loop names) = codes "loop: " ++ joined_names names.items
-circuit_text TooManyNets = codes "limit: nets"
+abbrev pub circuit_line_text : CircuitFault → List ℕ
+circuit_line_text NoPause = codes "last output is not _paused"
+circuit_line_text (Model name) = codes "bad model: " ++ name
+circuit_line_text (Input name) = codes "bad input: " ++ name
+circuit_line_text (Output name) = codes "bad output: " ++ name
+circuit_line_text (Again name) = codes "output twice: " ++ name
+circuit_line_text (Loop names) = codes "loop: " ++ joined_names names.items
+circuit_line_text TooManyNets = codes "limit: nets"
 
 abbrev pub fault_text : OptFault → List ℕ
 fault_text (Line number) = codes "line " ++ (decimal number ++ codes ": not in the profile")
 fault_text (TwoDrivers name) = codes "two drivers: " ++ name
 fault_text (NoDriver name) = codes "no driver: " ++ name
-fault_text (Circuit fault) = circuit_text fault
+fault_text (Circuit fault) = circuit_line_text fault
 
 -- what is said of an outcome; the subject is the name of the file, or what is wrong with the words
 abbrev pub said_of : List ℕ → OptOutcome → List ℕ

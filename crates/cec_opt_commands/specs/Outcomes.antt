@@ -1,4 +1,4 @@
--- Contract: what each outcome of the top call says.
+-- To believe: what each outcome of the top call says.
 use Rattle.std.specs.Prelude.{◌≡◌, ℕ, ◌<◌, ◌≤◌, ⊤, List, [], length, Option, Some, None}
 use Rattle.base_types.specs.declared.bounds.TheConstants.Limits.{TEXT_BYTES}
 use Rattle.base_types.specs.Reading.{KeepsFaults, Notes}

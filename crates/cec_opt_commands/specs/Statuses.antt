@@ -1,4 +1,4 @@
--- Contract: the status that the program ends with, and the outcome that a fault or the end of a writing is.
+-- To believe: the status that the program ends with, and the outcome that a fault or the end of a writing is.
 use Rattle.std.specs.Prelude.{ℕ, Option, Some, None}
 use Rattle.base_types.specs.declared.files.reading.FileFault as unread
 use Rattle.base_types.specs.declared.files.reading.FileFault.TheVariants as reading

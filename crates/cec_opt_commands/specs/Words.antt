@@ -1,4 +1,4 @@
--- Contract: what the words of a command line ask for.
+-- To believe: what the words of a command line ask for.
 use Rattle.std.specs.Prelude.{ℕ, Bool, false, not, ◌==◌, if◌then◌else◌, List, [], ◌∷◌, Option, Some, None, option_map}
 use Rattle.std.specs.Prelude.{◌++◌, codes}
 use Rattle.base_types.specs.Names.{is_same_name}

@@ -4,7 +4,7 @@ ghost use Rattle.std.specs.Prelude.{◌++◌, codes, map};
 ghost use Rattle.std.specs.String.{string_bytes};
 ghost use Rattle.base_types.specs.Writing.{Wrote};
 ghost use Rattle.cec_text_io.specs.ErrorLines.{GainsLine};
-ghost use Rattle.cec_opt_commands.specs.Lines.{circuit_text, fault_text, line_of};
+ghost use Rattle.cec_opt_commands.specs.Lines.{circuit_line_text, fault_text, line_of};
 ghost use Rattle.cec_opt_commands.specs.Words.{misuse_of};
 
 use crate::outcome::OptOutcome;
@@ -114,7 +114,7 @@ fn put_fault<E: Sink>(err: &mut E, fault: &OptFault) -> Result<(), SinkFault>
 // The line of a fault of a circuit.
 fn put_circuit_fault<E: Sink>(err: &mut E, fault: &CircuitFault) -> Result<(), SinkFault>
     ensures { Wrote (E.told err.old) (E.told err.new) (E.faults err.old) (E.faults err.new)
-        (codes "cec-opt: " ++ (circuit_text fault.now ++ codes "\n")) result }
+        (codes "cec-opt: " ++ (circuit_line_text fault.now ++ codes "\n")) result }
 {
     match fault {
         CircuitFault::NoPause => {

@@ -11,7 +11,7 @@ use Rattle.cec_compile.specs.declared.compiler.Compiled.{Compiled}
 use Rattle.cec_compile.specs.Compiling.{StandsForNet}
 use Rattle.cec_compile.specs.NetMeaning.{NetKeeps}
 use Rattle.cec_compile.proofs.Exports.{given-few, inputs_wide, widths, text_keeps, c_text_keeps, verilog_text_keeps}
-use Rattle.cec_opt_sources.specs.SmallTexts.{StandsForSmallNet, StandsForSmallBlif, StandsForSmallC, StandsForSmallVerilog, IsSmallNetOf}
+use Rattle.cec_opt_sources.specs.SmallTexts.{StandsForSmallNet, StandsForSmallBlif, StandsForSmallC, StandsForSmallVerilog, IsSmallSourceNet}
 
 optimized_keeps : (net new : Netlist) (p : Program) → given_count p ≡ length net.inputs → Optimizes net new → NetKeeps net p → NetKeeps new p
 optimized_keeps net new p wide o keeps = record {
@@ -23,7 +23,7 @@ optimized_keeps net new p wide o keeps = record {
       (found.0, found.1, o.replaces.followed.runs items (widths p (length net.inputs) wide items fits) ∙ found.2);
 }
 
-pub small_stands : (bytes : List ℕ) (main : Option (List ℕ)) (net : Netlist) → IsSmallNetOf bytes main net → StandsForSmallNet bytes main net
+pub small_stands : (bytes : List ℕ) (main : Option (List ℕ)) (net : Netlist) → IsSmallSourceNet bytes main net → StandsForSmallNet bytes main net
 small_stands bytes main net small =
     let s = small.compiled in
     record {
@@ -36,7 +36,7 @@ small_stands bytes main net small =
 few : (bytes : List ℕ) (main : Option (List ℕ)) (made : Compiled) → (s : StandsForNet bytes main made) → given_count s.program ≤ length s.program.signals
 few bytes main made s = given-few s.program s.compiled.formed
 
-pub blif_stands : (bytes : List ℕ) (main : Option (List ℕ)) (net : Netlist) (written : List ℕ) → IsSmallNetOf bytes main net → Means written net
+pub blif_stands : (bytes : List ℕ) (main : Option (List ℕ)) (net : Netlist) (written : List ℕ) → IsSmallSourceNet bytes main net → Means written net
     → StandsForSmallBlif bytes main written
 unfolding small_stands
 blif_stands bytes main net written small means =
@@ -49,7 +49,7 @@ blif_stands bytes main net written small means =
       keeps = text_keeps written net s.program (few bytes main small.made s) stands.keeps means;
     }
 
-pub c_stands : (bytes : List ℕ) (main : Option (List ℕ)) (net : Netlist) (written : List ℕ) → IsSmallNetOf bytes main net → c_texts.Means written net
+pub c_stands : (bytes : List ℕ) (main : Option (List ℕ)) (net : Netlist) (written : List ℕ) → IsSmallSourceNet bytes main net → c_texts.Means written net
     → StandsForSmallC bytes main written
 unfolding small_stands
 c_stands bytes main net written small means =
@@ -62,7 +62,7 @@ c_stands bytes main net written small means =
       keeps = c_text_keeps written net s.program (few bytes main small.made s) stands.keeps means;
     }
 
-pub verilog_stands : (bytes : List ℕ) (main : Option (List ℕ)) (net : Netlist) (written : List ℕ) → IsSmallNetOf bytes main net
+pub verilog_stands : (bytes : List ℕ) (main : Option (List ℕ)) (net : Netlist) (written : List ℕ) → IsSmallSourceNet bytes main net
     → vlog_texts.Means written net → StandsForSmallVerilog bytes main written
 unfolding small_stands
 verilog_stands bytes main net written small means =

@@ -1,4 +1,4 @@
--- Contract: what the small netlist of a source keeps, and its texts.
+-- To believe: what the small netlist of a source keeps, and its texts.
 use Rattle.std.specs.Prelude.{◌≡◌, ℕ, List, Option}
 use Rattle.est_kernel.specs.Plain.{Program}
 use Rattle.net_ir.specs.Netlists.{Netlist}
@@ -45,7 +45,7 @@ pub record StandsForSmallVerilog (text : List ℕ) (main : Option (List ℕ)) (w
 
 -- The netlist is that of the compiled program, optimized: it has its interface, follows it, has no more gates and no
 -- more latches, nothing is left to simplify, and something shows each latch and each gate.
-pub record IsSmallNetOf (bytes : List ℕ) (main : Option (List ℕ)) (net : Netlist) : Type 0 where
+pub record IsSmallSourceNet (bytes : List ℕ) (main : Option (List ℕ)) (net : Netlist) : Type 0 where
   pub made : Compiled
   pub compiled : StandsForNet bytes main made
   pub optimizes : Optimizes (netlist_of made.net) net
@@ -55,15 +55,15 @@ pub record IsSmallNetOf (bytes : List ℕ) (main : Option (List ℕ)) (net : Net
 -- The text is that of such a netlist: it has a table for each gate, in the order of the gates.
 pub record IsSmallBlifOf (bytes : List ℕ) (main : Option (List ℕ)) (written : List ℕ) : Type 0 where
   pub net : Netlist
-  pub small : IsSmallNetOf bytes main net
+  pub small : IsSmallSourceNet bytes main net
   pub text : written ≡ blif_texts.written net
 
 pub record IsSmallCOf (bytes : List ℕ) (main : Option (List ℕ)) (written : List ℕ) : Type 0 where
   pub net : Netlist
-  pub small : IsSmallNetOf bytes main net
+  pub small : IsSmallSourceNet bytes main net
   pub text : written ≡ c_texts.written net
 
 pub record IsSmallVerilogOf (bytes : List ℕ) (main : Option (List ℕ)) (written : List ℕ) : Type 0 where
   pub net : Netlist
-  pub small : IsSmallNetOf bytes main net
+  pub small : IsSmallSourceNet bytes main net
   pub text : written ≡ vlog_texts.written net

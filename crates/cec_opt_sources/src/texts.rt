@@ -4,7 +4,7 @@ ghost use Rattle.std.specs.Prelude.{◌≤◌, length, IfOk, IfErr, option_map};
 ghost use Rattle.net_ir.specs.Runs.{netlist_of};
 ghost use Rattle.cec_compile.specs.Refusals.{IsRefused};
 ghost use Rattle.cec_opt_sources.specs.SmallTexts.{StandsForSmallNet, StandsForSmallBlif, StandsForSmallC};
-ghost use Rattle.cec_opt_sources.specs.SmallTexts.{StandsForSmallVerilog, IsSmallNetOf, IsSmallBlifOf, IsSmallCOf};
+ghost use Rattle.cec_opt_sources.specs.SmallTexts.{StandsForSmallVerilog, IsSmallSourceNet, IsSmallBlifOf, IsSmallCOf};
 ghost use Rattle.cec_opt_sources.specs.SmallTexts.{IsSmallVerilogOf};
 
 use base_types::Limits;
@@ -88,7 +88,7 @@ pub fn small_net<P: Picker>(
     requires { length text.now ≤ Limits.SOURCE_BYTES }
     ensures compiles { IfOk result (λ net. StandsForSmallNet text.now
         (option_map (λ m. m.now) main.entry) (netlist_of net)) }
-    ensures made { IfOk result (λ net. IsSmallNetOf text.now
+    ensures made { IfOk result (λ net. IsSmallSourceNet text.now
         (option_map (λ m. m.now) main.entry) (netlist_of net)) }
     ensures refuses { IfErr result (IsRefused text.now (option_map (λ m. m.now) main.entry)) }
 {

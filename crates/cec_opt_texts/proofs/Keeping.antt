@@ -19,8 +19,8 @@ use Rattle.csub_text.specs.Trees.{Program}
 use Rattle.csub_text.specs.Written as c_texts
 use Rattle.vlog_text.specs.Written as vlog_texts
 use Rattle.net_expressions.specs.Values.{value_of}
-use Rattle.blif_net.specs.Conversions.{ShowSame, SameLatches}
-use Rattle.cec_opt_texts.specs.Alike.{IsWide, HasOutputs, BlifKeeps, CKeeps, VerilogKeeps}
+use Rattle.blif_net.specs.Conversions.{FitsCircuit, ShowsCircuit, SameLatches}
+use Rattle.cec_opt_texts.specs.Alike.{HasOutputs, BlifKeeps, CKeeps, VerilogKeeps}
 use Rattle.cec_opt_texts.specs.Optimized.{IsSmallOf, IsSmallNetOf}
 
 -- what a netlist shows, as a row of values
@@ -51,7 +51,7 @@ module _ (c : Circuit) (net : Netlist) (small : IsSmallOf c net) where
       ap (λ l. l ++ paused_word ∷ []) (words-of net.inputs net.outputs ∙ ap (λ ins. map (output_word ins) (output_names net)) inputs-kept)
       ∙ sym named
 
-  module _ (items : List Item) (fits : EachEvent (IsWide c) items) where
+  module _ (items : List Item) (fits : EachEvent (FitsCircuit c) items) where
     pub wide : EachEvent (λ event. length event ≡ length net.inputs) items
     wide = wide_events (length c.inputs) (length net.inputs) (ap length (sym inputs-kept)) items fits
 
@@ -68,7 +68,7 @@ module _ (c : Circuit) (net : Netlist) (small : IsSmallOf c net) where
         (λ values. row (shown made values)) (initial_latches made) items in
         subst (λ l. Shows (circuit_machine c) (λ v. map v c.outputs) (circuit_machine c).start items l)
         (sym (map-twice row (shown made) _) ∙ ap (map row) (sym followed))
-        (shows-through (net_machine made) (circuit_machine c) (IsWide c) (ShowSame made c) (SameLatches c) (λ values. row (shown made values))
+        (shows-through (net_machine made) (circuit_machine c) (FitsCircuit c) (ShowsCircuit made c) (SameLatches c) (λ values. row (shown made values))
         (λ v. map v c.outputs) small.is.follows (λ values v same. same) (initial_latches made) (circuit_machine c).start items _
         small.is.follows.agrees.starts fits net-shows)
 
@@ -147,7 +147,7 @@ c-keeps text written net s means =
       };
     }
   where
-    c-shows : (c : Circuit) (net : Netlist) → (small : IsSmallOf c net) → (p : Program) (items : List Item) → (fits : EachEvent (IsWide c) items)
+    c-shows : (c : Circuit) (net : Netlist) → (small : IsSmallOf c net) → (p : Program) (items : List Item) → (fits : EachEvent (FitsCircuit c) items)
         → map (seen p) (memories p items) ≡ map c_texts.shown_by_call (net_run net items)
         → Shows (program_machine p) (λ memory. map memory (outputs_of p) ++ value_of memory p.answer ∷ []) (program_machine p).start items
         (rows c net small items fits)

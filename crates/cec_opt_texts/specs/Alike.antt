@@ -1,9 +1,10 @@
--- Contract: what the text of an optimized netlist keeps of the BLIF text that was read: the interface, and what is
+-- To believe: what the text of an optimized netlist keeps of the BLIF text that was read: the interface, and what is
 -- shown over items.
-use Rattle.std.specs.Prelude.{◌≡◌, ℕ, Bool, List, [], ◌∷◌, ◌++◌, length, map, codes, Ok}
+use Rattle.std.specs.Prelude.{◌≡◌, ℕ, Bool, List, [], ◌∷◌, ◌++◌, map, codes, Ok}
 use Rattle.base_types.specs.Items.{Item, EachEvent}
 use Rattle.net_expressions.specs.Values.{value_of}
 use Rattle.base_machines.specs.Machines.{Machine, Shows}
+use Rattle.blif_net.specs.Conversions.{FitsCircuit}
 use Rattle.blif_text.specs.Circuits.{Circuit, reading}
 use Rattle.blif_text.specs.OutputNames.{output_word, paused_word}
 use Rattle.blif_text.specs.Runs.{circuit_machine}
@@ -16,15 +17,11 @@ use Rattle.vlog_text.specs.Names.{paused_name}
 use Rattle.vlog_text.specs.Trees as vlog_trees
 use Rattle.vlog_text.specs.Texts as vlog_texts
 
--- an event has one value for each input
-abbrev pub IsWide : Circuit → List Bool → Type 0
-IsWide circuit event = length event ≡ length circuit.inputs
-
 -- Over all items whose events have one value for each input of the circuit, its machine and the other one both have a
 -- run, and all runs of both show the same: the values of the outputs, and the last one says whether the program is
 -- still active.
 pub record ShowAlike {X : Type 0} (circuit : Circuit) (M : Machine X) (see : X → List Bool) : Type 0 where
-  pub alike : (items : List Item) → EachEvent (IsWide circuit) items → (seen : List (List Bool))
+  pub alike : (items : List Item) → EachEvent (FitsCircuit circuit) items → (seen : List (List Bool))
       × Shows (circuit_machine circuit) (λ v. map v circuit.outputs) (circuit_machine circuit).start items seen
       × Shows M see M.start items seen
 

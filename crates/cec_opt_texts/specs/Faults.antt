@@ -1,4 +1,4 @@
--- Contract: the first fault of a BLIF text that is to be optimized.
+-- To believe: the first fault of a BLIF text that is to be optimized.
 use Rattle.std.specs.Prelude.{◌≡◌, ℕ, List, Ok, Err}
 use Rattle.base_types.specs.declared.stop.Stop.{Stop}
 use Rattle.base_types.specs.declared.stop.Stop.TheVariants.{Fault}

@@ -1,4 +1,4 @@
--- Contract: the netlist of a BLIF text, and its optimized one.
+-- To believe: the netlist of a BLIF text, and its optimized one.
 use Rattle.std.specs.Prelude.{◌≡◌, ℕ, List, Ok}
 use Rattle.net_ir.specs.Netlists.{Netlist}
 use Rattle.net_opt.specs.Optimized.{Optimizes}

@@ -1,4 +1,4 @@
--- Contract: what it means that one netlist follows another.
+-- To believe: what it means that one netlist follows another.
 use Rattle.std.specs.Prelude.{◌≡◌, Bool, List, length, map}
 use Rattle.base_types.specs.Items.{Item, EachEvent}
 use Rattle.base_machines.specs.Machines.{Follows}

@@ -1,4 +1,4 @@
--- Contract: what an optimized netlist keeps of the given one.
+-- To believe: what an optimized netlist keeps of the given one.
 use Rattle.std.specs.Prelude.{◌≡◌, ◌≤◌, [], length}
 use Rattle.net_ir.specs.Gates.{carried}
 use Rattle.net_ir.specs.Netlists.{Netlist, output_names}

@@ -1,4 +1,4 @@
--- Contract: netlists in which nothing is unobserved.
+-- To believe: netlists in which nothing is unobserved.
 use Rattle.std.specs.Prelude.{⊤, ℕ, ◌+◌, ◌<◌, ◌≤◌, Bool, length, slice_index_or, IsTrue, All}
 use Rattle.net_ir.specs.declared.netlist.Op.{Op}
 use Rattle.net_ir.specs.declared.netlist.Op.TheVariants.{Const, Copy, Not, And, Or}

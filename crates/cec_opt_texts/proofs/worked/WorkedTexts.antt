@@ -22,7 +22,8 @@ use Rattle.csub_text.specs.Names.{inputs_of, outputs_of}
 use Rattle.csub_text.specs.Texts as c_texts
 use Rattle.vlog_text.specs.Machine.{vlog_machine}
 use Rattle.vlog_text.specs.Texts as vlog_texts
-use Rattle.cec_opt_texts.specs.Alike.{IsWide, ShowAlike, HasOutputs, BlifKeeps, CKeeps, VerilogKeeps}
+use Rattle.blif_net.specs.Conversions.{FitsCircuit}
+use Rattle.cec_opt_texts.specs.Alike.{ShowAlike, HasOutputs, BlifKeeps, CKeeps, VerilogKeeps}
 use Rattle.cec_opt_texts.specs.Faults.{IsOptFault, IsNetFault, IsReadFault}
 use Rattle.cec_opt_texts.specs.Optimized.{IsSmallOf, IsSmallNetOf, IsTextNet}
 use Rattle.cec_opt_texts.specs.declared.fault.OptFault.TheVariants as faults
@@ -85,11 +86,11 @@ circuit = record {
 its_outputs : HasOutputs circuit (codes "B" ∷ codes "O" ∷ [])
 its_outputs = refl
 
-not_wide : IsWide circuit [] → ⊥
+not_wide : FitsCircuit circuit [] → ⊥
 not_wide h = omega (arith, h)
 
 shown_alike : {X : Type 0} → (circuit : Circuit) (M : Machine X) (see : X → List Bool) → ShowAlike circuit M see → (items : List Item)
-    → EachEvent (IsWide circuit) items → (seen : List (List Bool))
+    → EachEvent (FitsCircuit circuit) items → (seen : List (List Bool))
     × Shows (circuit_machine circuit) (λ v. map v circuit.outputs) (circuit_machine circuit).start items seen × Shows M see M.start items seen
 shown_alike circuit M see h = h.alike
 
