@@ -2,7 +2,7 @@
 
 use crate::blocks::{Block, Change, block_of, change_of, changed};
 use crate::calls::{
-    Ended, command_ended, has_small_text, is_done_steadily, is_optimized_text, is_text_of, sink,
+    Ended, command_ended, is_done_steadily, is_optimized_text, is_text_of, sink,
 };
 use base_types::{ListSink, NoMemory, Sink, SinkFault, write_pieces};
 use std::alloc::{AllocError, Global};
@@ -124,18 +124,9 @@ fn told_besides(
     Ok(told_of_text(alloc, block.words.trim(), block.source, out))
 }
 
-// What is said of a text that is written: nothing where the call that gives it as a whole gives the same, and where a
-// source has a small text too.
+// What is said of a text that is written: nothing where the call that gives it as a whole gives the same.
 fn told_of_text(alloc: Global, words: &str, source: &[u8], out: &[u8]) -> &'static str {
-    if words == "blif m" || words == "c m" || words == "verilog m" {
-        if !is_text_of(alloc, words, source, out) {
-            return ", not by one call";
-        }
-        if !has_small_text(alloc, words, source) {
-            return ", without a small text";
-        }
-    }
-    if words == "c --guard m" && !is_text_of(alloc, words, source, out) {
+    if is_plain_text(words) && !is_text_of(alloc, words, source, out) {
         return ", not by one call";
     }
     if words == "cec-opt blif m" || words == "cec-opt c m" || words == "cec-opt verilog m" {
@@ -144,6 +135,15 @@ fn told_of_text(alloc: Global, words: &str, source: &[u8], out: &[u8]) -> &'stat
         }
     }
     ""
+}
+
+// Whether the words ask for a text of the file `m`, with no option that the library calls do not take.
+fn is_plain_text(words: &str) -> bool {
+    words == "blif m"
+        || words == "blif --encode m"
+        || words == "c m"
+        || words == "c --guard m"
+        || words == "verilog m"
 }
 
 // Where `out` is to fail, whether what it has is a beginning of what it has otherwise.

@@ -5,8 +5,11 @@ ghost use Rattle.std.specs.Prelude.{◌≤◌, length};
 use crate::blocks::{Block, numbers_behind};
 use base_types::{
     FileEntry, Limits, ListSink, MapFiles, NoMemory, SteadyFiles, SteadySink, Stop, Text,
+    write_pieces,
 };
-use cec_commands::{Refusal, blif_of, c_of, cec, cec_steadily, guarded_c_of, verilog_of};
+use cec_commands::{
+    Refusal, blif_of, c_of, cec, cec_steadily, encoded_blif_of, guarded_c_of, verilog_of,
+};
 use cec_opt_commands::{cec_opt, cec_opt_steadily};
 use cec_opt_sources::{small_blif_of, small_c_of, small_verilog_of};
 use cec_opt_texts::{OptFault, optimized_blif, optimized_c, optimized_verilog};
@@ -23,7 +26,12 @@ const ERR_ROOM: u64 = 4_096;
 enum Program {
     Cec,
     CecOpt,
+    // The library calls that give small texts of sources; no program of the repository.
+    Small,
 }
+
+// The status of a library call that refuses the source.
+const REFUSED: u8 = 1;
 
 /// How a command ended: its status, and what the two sinks have.
 #[derive(Drop)]
@@ -46,16 +54,47 @@ pub(crate) fn command_ended(
     ended.status = match program {
         Program::Cec => cec(alloc, &words, &mut files, out, err).number(),
         Program::CecOpt => cec_opt(alloc, &words, &mut files, out, err).number(),
+        Program::Small => small_written(alloc, block, out),
     };
     Ok(ended)
 }
 
-// The program that a line of words calls, and the words behind its name, which stands before those of `cec-opt` alone.
-fn asked_of(alloc: Global, line: &str) -> Result<(Program, Vec<String>), NoMemory> {
-    match line.split_once("cec-opt") {
-        Some((_, behind)) => Ok((Program::CecOpt, words_of(alloc, behind)?)),
-        None => Ok((Program::Cec, words_of(alloc, line)?)),
+// Writes the small text of a source in the form that the words ask for, and gives the status.
+fn small_written(alloc: Global, block: Block<'_>, out: &mut ListSink) -> u8 {
+    if block.source.len() as u64 > Limits::SOURCE_BYTES {
+        return REFUSED;
     }
+    match small_text(alloc, block.words, block.source) {
+        Ok(text) => {
+            let _ = write_pieces(out, &[&text]);
+            0
+        }
+        Err(_) => REFUSED,
+    }
+}
+
+// The small text of a source in the form that the words ask for.
+fn small_text(alloc: Global, words: &str, source: &[u8]) -> Result<Vec<u8>, Refusal>
+    requires { length source.now ≤ Limits.SOURCE_BYTES }
+{
+    if words.ends_with("blif m") {
+        small_blif_of(alloc, source, None, &mut First)
+    } else if words.ends_with("verilog m") {
+        small_verilog_of(alloc, source, None, &mut First)
+    } else {
+        small_c_of(alloc, source, None, &mut First)
+    }
+}
+
+// The program that a line of words calls, and the words after its name; those of `cec` have no name before them.
+fn asked_of(alloc: Global, line: &str) -> Result<(Program, Vec<String>), NoMemory> {
+    if let Some((_, rest)) = line.split_once("cec-opt") {
+        return Ok((Program::CecOpt, words_of(alloc, rest)?));
+    }
+    if let Some((_, rest)) = line.split_once("small ") {
+        return Ok((Program::Small, words_of(alloc, rest)?));
+    }
+    Ok((Program::Cec, words_of(alloc, line)?))
 }
 
 /// Whether `cec_steadily`, or `cec_opt_steadily`, is done with a block's command and writes these bytes.
@@ -74,6 +113,7 @@ pub(crate) fn is_done_steadily(
         Program::CecOpt => {
             cec_opt_steadily(alloc, &words, &mut files, &mut out, &mut err).number()
         }
+        Program::Small => return Ok(true),
     };
     Ok(status == 0 && out.bytes() == written && err.bytes().is_empty())
 }
@@ -102,21 +142,6 @@ fn optimized_text(alloc: Global, words: &str, text: &[u8]) -> Result<Vec<u8>, St
     }
 }
 
-/// Whether a source has a small text in the form that the words ask for.
-pub(crate) fn has_small_text(alloc: Global, words: &str, source: &[u8]) -> bool {
-    if source.len() as u64 > Limits::SOURCE_BYTES {
-        return false;
-    }
-    let small = if words.starts_with("blif") {
-        small_blif_of(alloc, source, None, &mut First)
-    } else if words.starts_with("verilog") {
-        small_verilog_of(alloc, source, None, &mut First)
-    } else {
-        small_c_of(alloc, source, None, &mut First)
-    };
-    small.is_ok()
-}
-
 /// Whether a source has this text, in the form that the words ask for, by the call that gives the text as a whole.
 pub(crate) fn is_text_of(alloc: Global, words: &str, source: &[u8], written: &[u8]) -> bool {
     if source.len() as u64 > Limits::SOURCE_BYTES {
@@ -132,7 +157,9 @@ pub(crate) fn is_text_of(alloc: Global, words: &str, source: &[u8], written: &[u
 fn text_of(alloc: Global, words: &str, source: &[u8]) -> Result<Vec<u8>, Refusal>
     requires { length source.now ≤ Limits.SOURCE_BYTES }
 {
-    if words.starts_with("blif") {
+    if words.starts_with("blif --encode") {
+        encoded_blif_of(alloc, source, None, &mut First)
+    } else if words.starts_with("blif") {
         blif_of(alloc, source, None, &mut First)
     } else if words.starts_with("verilog") {
         verilog_of(alloc, source, None, &mut First)
