@@ -1,9 +1,7 @@
 // What is written of each block.
 
 use crate::blocks::{Block, Change, block_of, change_of, changed};
-use crate::calls::{
-    Ended, command_ended, is_done_steadily, is_optimized_text, is_text_of, sink,
-};
+use crate::calls::{Ended, command_ended, is_done_steadily, is_optimized_text, is_text_of, sink};
 use base_types::{ListSink, NoMemory, Sink, SinkFault, write_pieces};
 use std::alloc::{AllocError, Global};
 
