@@ -23,13 +23,13 @@
 //! `m`: on what stands before the place, on the file without the byte there, and on the file with the byte C there. The
 //! answer is the number and words, and for each place a line with the place, the status, and the line in `err`.
 //!
-//! The answer to a block is else its number and words, a line with the status and the numbers of bytes, and the bytes
-//! of `out` and `err`. Words after `cec-opt` are those of the optimizer; `small blif m`, `small c m` and `small verilog
-//! m` call `small_blif_of`, `small_c_of` and `small_verilog_of`; all others are words of the compiler. Where `out` is to
-//! fail, the command runs once more without that, and the answer says whether `out` is a beginning of what it has then.
-//! Where it is done, it runs once more by `cec_steadily`, and a text of `blif m`, `blif --encode m`, `c m`, `c --guard
-//! m` or `verilog m` is made once more by `blif_of`, `encoded_blif_of`, `c_of`, `guarded_c_of` or `verilog_of`: the
-//! answer says where those write anything else.
+//! The answer to a block is else its number and words, a line with the status and the numbers of bytes, and the
+//! bytes of `out` and `err`. Words after `cec-opt` are those of the optimizer; `small blif m`, `small c m` and
+//! `small verilog m` call `small_blif_of`, `small_c_of` and `small_verilog_of`; all others are words of the
+//! compiler. Where `out` is to fail, the command runs once more without that, and the answer says whether `out` is
+//! a beginning of what it has then. Where it is done, it runs once more by `cec_steadily`, and a text of `blif m`,
+//! `blif --encode m`, `c m`, `c --guard m` or `verilog m` is made once more by `blif_of`, `encoded_blif_of`,
+//! `c_of`, `guarded_c_of` or `verilog_of`: the answer says where those write anything else.
 #![tactic(auto)]
 
 mod answers;
