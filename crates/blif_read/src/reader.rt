@@ -27,6 +27,9 @@ use std::alloc::Global;
 ///
 /// The profile is Berkeley's BLIF, cut down to one model of latches with an initial value and tables of at
 /// most eight inputs. The time and the memory that it takes are linear in the length of the text.
+///
+/// Example: the lines `.model M`, `.inputs A`, `.outputs O`, `.names A O`, `1 1` and `.end` describe a circuit
+/// whose output is its input.
 pub fn read_blif(alloc: Global, text: &[u8]) -> Result<Blif, BlifError>
     ensures reads { IfOk result (ReadsAs text.now) }
     ensures refuses { IfErr result (ReadsFault text.now) }

@@ -48,6 +48,9 @@ use std::alloc::Global;
 /// cause; for `Cyclic` that is a cycle of the dependency relation, which is shown. That nothing but such a cause, a
 /// failing file or sink, or want of memory keeps a command from being done is the law `accepted_requests_are_done`.
 /// Want of memory may come between two pieces, or two lines, and leaves a prefix.
+///
+/// Example: the words `blif` and `abro.strl` write the BLIF text of that file to `out`, and the outcome is `Done`,
+/// status 0.
 pub fn cec<F: Files, O: Sink, E: Sink>(
     alloc: Global,
     words: &[String],

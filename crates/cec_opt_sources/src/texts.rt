@@ -21,6 +21,8 @@ use vlog_text::write_verilog;
 /// of that of `cec_compile::blif_of`: it has a reading by the BLIF profile, and over every list of events that meet the
 /// source's relations each reaction of the source is constructive, the text has a run, any two runs agree, and the
 /// outputs and `_paused` are those of the reactions. It refuses what `blif_of` refuses.
+///
+/// Example: the text of `module M: output O; emit O end module` begins with `.model M`.
 pub fn small_blif_of<P: Picker>(
     alloc: Global,
     text: &[u8],

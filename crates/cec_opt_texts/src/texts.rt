@@ -26,6 +26,8 @@ use vlog_text::write_verilog;
 
 /// The BLIF text of the optimized netlist of a BLIF text. Over all items it shows what the text shows that was read, on
 /// the same inputs and outputs. The fault is the text's first one, and want of memory is the only other error.
+///
+/// Example: of two latches with the same source and the same first value, the text has one.
 pub fn optimized_blif(alloc: Global, text: &[u8]) -> Result<Vec<u8>, Stop<OptFault>>
     requires { length text.now ≤ Limits.TEXT_BYTES }
     ensures keeps { IfOk result (λ written. BlifKeeps text.now written.items) }

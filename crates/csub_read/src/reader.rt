@@ -29,6 +29,8 @@ const NESTING: u32 = 200;
 ///
 /// The time and the memory that it takes are linear in the length of the text, and it recurses only as deep as
 /// brackets and `!` stand one in another.
+///
+/// Example: `int I_A; int O_O; int react(void) { O_O = I_A; return 0; }` is a program whose output is its input.
 pub fn read_c(alloc: Global, text: &[u8]) -> Result<CProgram, CError>
     ensures reads { IfOk result (λ p. ReadsAs text.now (program_of p)) }
     ensures keeps_names { IfOk result (λ p. name_fault (program_of p) ≡ None) }

@@ -20,6 +20,8 @@ use std::alloc::Global;
 
 /// The static codes of each statement of the body, by its number in preorder.
 /// Its errors are an instantaneous loop, the first one by its place, and want of memory.
+///
+/// Example: `present A then pause end` has the codes 0 and 1 when it is started, so a loop around it is refused.
 pub fn codes(alloc: Global, body: &Kernel) -> Result<Codes, CodeFault>
     requires { KeepsLimits (term_of body.now) }
     ensures no_loop { IfOk result (λ codes. NoInstantLoop (term_of body.now)) }

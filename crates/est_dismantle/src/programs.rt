@@ -27,6 +27,9 @@ use std::alloc::Global;
 ///
 /// A count that is 0 or above 255 is refused first, then a kernel body above the limits on size, on height and on
 /// traps one in another, in this order.
+///
+/// Example: `halt` becomes `loop pause end`, and `await A` becomes `trap T in loop pause; present A then exit T
+/// end end end`.
 pub fn dismantle(alloc: Global, flat: Box<Flat>) -> Result<KernelProgram, Stop<DismantleFault>>
     ensures expands { IfOk result (λ p. expansion (flat_of flat.value) ≡ Expanded (program_of p)) }
     ensures refuses { IfFault result (λ fault. FaultHasCause (expansion (flat_of flat.value)) fault) }

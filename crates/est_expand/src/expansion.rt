@@ -39,6 +39,9 @@ use std::alloc::Global;
 ///
 /// A limit is answered where a count passes it, so nothing is built that does not fit. Names are found by their
 /// hashes, so the time is linear in what is met and in the interfaces of the modules that are run.
+///
+/// Example: where M has the output O and the body `run N`, and N has the output O and the body `emit O`, the flat
+/// program of M is `emit O`, with the O of M.
 pub fn expand<'a>(
     alloc: Global,
     program: &'a Program,

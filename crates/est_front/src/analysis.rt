@@ -26,6 +26,9 @@ pub struct Analysed {
 /// The kernel program of a source, with the static codes of its statements. `main` is the name of the main module;
 /// without it that is the first one. A source is refused for its first fault: of its tokens, its tree, its names, its
 /// flat form, its counts, for what passes its limit, and at last for an instantaneous loop.
+///
+/// Example: `module M: output O; loop emit O end end module` is refused for its loop. With `emit O; pause` in the
+/// loop it has a program.
 pub fn analyse(alloc: Global, text: &[u8], main: Option<&[u8]>) -> Result<Analysed, SourceRefusal>
     requires { length text.now ≤ Limits.SOURCE_BYTES }
     ensures program { IfOk result (λ a.

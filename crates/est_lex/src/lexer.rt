@@ -14,6 +14,9 @@ use std::alloc::Global;
 /// and marks are told apart from identifiers and numbers; spaces and comments are left out.
 ///
 /// It takes time and memory in proportion to the text.
+///
+/// Example: `emit S % comment` has two tokens: the word `emit`, bytes 0 to 4, and the identifier `S`, bytes 5 to
+/// 6.
 pub fn lex(alloc: Global, text: &[u8]) -> Result<Vec<Token>, LexError>
     requires { length text.now ≤ Limits.SOURCE_BYTES }
     ensures tokens { IfOk result (λ tokens. LexesAs text.now (Tokens tokens.items)) }

@@ -29,6 +29,8 @@ use std::alloc::Global;
 /// that its module does not declare as an input or an inputoutput.
 ///
 /// Names are found by their hashes, so the time and the memory are linear in the program.
+///
+/// Example: in `module M: input A, A; nothing end module` the fault is `DuplicateSignal` at the second `A`.
 pub fn check_modules<'a>(
     alloc: Global,
     program: &'a Program,

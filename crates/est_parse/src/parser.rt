@@ -23,6 +23,9 @@ use std::alloc::Global;
 ///
 /// It reads from the left with one token ahead, in time and memory linear in the tokens, and
 /// recurses only as deep as the program is nested.
+///
+/// Example: the tokens of `module M: nothing end module` are a program of one module. Those of `module M: output
+/// O; emit` are refused with `Syntax(7)`, because they end too soon.
 pub fn parse(alloc: Global, tokens: &[Token]) -> Result<Program, ParseError>
     requires { length tokens.now < 2 ^ 32 }
     ensures program { IfOk result (λ p. IsOnly IsProgram Limits.NESTING tokens.now (program_of p)) }

@@ -20,6 +20,8 @@ use std::alloc::Global;
 
 /// The dependency edges between the wires of a graph, each once, in ascending order. The time is linear in the edges
 /// but for a logarithm; the error is want of memory.
+///
+/// Example: in `present S then emit O end` the wire that starts `emit O` depends on the status of S.
 pub fn edges(alloc: Global, graph: &Graph) -> Result<Edges, NoMemory>
     requires { IsGraphOf graph.now (program_of graph.now.program) }
     ensures count { IfOk result (λ e. e.count ≡ length graph.now.wires.items) }

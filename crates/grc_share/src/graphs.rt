@@ -46,6 +46,9 @@ pub enum SharedOrFull {
 /// the graph as it was. The given edges are those of the graph. The time is linear in the wires, in the edges and in
 /// the graph's formulas, but for searches of instances and of status wires, which are logarithmic; the error is want of
 /// memory.
+///
+/// Example: the graph of `present A then pause end`, three times in a sequence, has 69 wires, and its shared graph
+/// has 45.
 pub fn share(alloc: Global, graph: Graph, edges: &Edges) -> Result<SharedOrFull, NoMemory>
     requires built { IsGraphOf graph (program_of graph.program) }
     requires edges { AreEdgesOf (names_of graph) (program_edges (program_of graph.program)) edges.now.pairs.items }

@@ -21,6 +21,9 @@ use std::alloc::Global;
 /// The netlist of a graph along an order in which its equations read. The graph's equations and `next` formulas are
 /// any. The netlist has at most 15 gates for each wire and each live test node of the program's own graph. Its only
 /// error is want of memory.
+///
+/// Example: the equation of a wire that is started by one of two others becomes an or gate, which carries the
+/// wire.
 pub fn generate(alloc: Global, graph: &Graph, order: &Order) -> Result<Net, NoMemory>
     requires names { HasNames (program_of graph.now.program) }
     requires order { IsReadingOrder (names_of graph.now)

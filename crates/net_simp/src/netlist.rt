@@ -23,6 +23,8 @@ use std::alloc::Global;
 /// order its operands stand, of none the rules make less, none is a copy, none reads a copy, a constant, or one
 /// net twice, and each is read. It takes time linear in the gates, but for hashing. Its only error is want of
 /// memory.
+///
+/// Example: where one gate negates another that negates `a`, both go, and their readers read `a`.
 pub fn simplify(alloc: Global, net: Net) -> Result<Net, NoMemory>
     ensures parts { IfOk result (λ new. SameParts (netlist_of net) (netlist_of new)) }
     ensures instants { IfOk result (λ new. SameInstants (netlist_of net) (netlist_of new)) }

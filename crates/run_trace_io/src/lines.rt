@@ -20,6 +20,8 @@ pub enum Word {
 /// The line of an answer: the names of the outgoing signals that are present, in their order, with
 /// one space between, or `-` where there is none; then the word, and a line feed. Its only error is
 /// want of memory.
+///
+/// Example: for the names O and P, of which P is present, and a program that pauses, the line is `P | paused`.
 pub fn reaction_line(
     alloc: Global,
     names: &[Text],

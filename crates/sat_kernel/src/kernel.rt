@@ -72,6 +72,8 @@ impl Kernel {
 
     /// Derives a clause where propagation along the hints shows that it follows, and returns the premise by which hints
     /// cite it. The only error is running out of memory.
+    ///
+    /// Example: where the clauses `a or b` and `not b` are assumed, the clause `a` is derived along these two.
     pub fn derive(
         &mut self,
         alloc: Global,
