@@ -61,6 +61,51 @@ pub(crate) fn any_more(
     }
 }
 
+/// The same of two results. Results as arguments spare callers a `?` over owned formulas, which is dear to prove.
+pub(crate) fn any_more_of(
+    alloc: Global,
+    first: Result<Option<Formula>, NoMemory>,
+    rest: Result<Option<Formula>, NoMemory>,
+) -> Result<Option<Formula>, NoMemory>
+    ensures { (insts : List Instance) (names : List Wire) (b : Bool) (x : plain_formula) (xs : List plain_formula)
+        → IfOk first (λ r. MeansIf insts names r b x) → IfOk rest (λ r. MeansAny insts names r xs)
+        → IfOk result (λ r. MeansAny insts names r (formula_if b x ++ xs)) }
+{
+    let first = first?;
+    any_more(alloc, first, rest?)
+}
+
+/// The disjunction of an optional formula and another, both results.
+pub(crate) fn any_with(
+    alloc: Global,
+    first: Result<Option<Formula>, NoMemory>,
+    last: Result<Formula, NoMemory>,
+) -> Result<Formula, NoMemory>
+    ensures { (insts : List Instance) (names : List Wire) (b : Bool) (x y : plain_formula)
+        → IfOk first (λ r. MeansIf insts names r b x) → IfOk last (λ f. Means insts names f y)
+        → IfOk result (λ f. Means insts names f (any_of (formula_if b x ++ y ∷ []))) }
+{
+    match (first, last) {
+        (Ok(Some(first)), Ok(last)) => either(alloc, first, last),
+        (Ok(None), last) => last,
+        _ => Err(NoMemory),
+    }
+}
+
+/// The conjunction of two formulas, both results.
+pub(crate) fn both_of(
+    alloc: Global,
+    left: Result<Formula, NoMemory>,
+    right: Result<Formula, NoMemory>,
+) -> Result<Formula, NoMemory>
+    ensures { (insts : List Instance) (names : List Wire) (x y : plain_formula)
+        → IfOk left (λ f. Means insts names f x) → IfOk right (λ f. Means insts names f y)
+        → IfOk result (λ f. Means insts names f (Conjunction x y)) }
+{
+    let left = left?;
+    both(alloc, left, right?)
+}
+
 /// A formula, or the one that is false where it is missing.
 pub(crate) fn or_false(found: Option<Formula>) -> Formula
     ensures { (insts : List Instance) (names : List Wire) (xs : List plain_formula)
