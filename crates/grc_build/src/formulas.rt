@@ -1,6 +1,6 @@
 // Formulas made of formulas.
 
-ghost use Rattle.std.specs.Prelude.{◌≡◌, ◌↔◌, true, [], ◌∷◌, ◌++◌, List, Bool, Contains, IfOk};
+ghost use Rattle.std.specs.Prelude.{◌≡◌, ◌↔◌, true, [], ◌∷◌, ◌++◌, List, Bool, Contains, IfOk, IsOk};
 ghost use Rattle.grc_graph.specs.Instances.{Instance};
 ghost use Rattle.grc_graph.specs.Wires.{Wire};
 ghost use Rattle.grc_graph.specs.Formulas.{Formula as plain_formula, Value, Negation, Conjunction, Disjunction, any_of};
@@ -104,6 +104,32 @@ pub(crate) fn both_of(
 {
     let left = left?;
     both(alloc, left, right?)
+}
+
+/// The conjunction of a formula and another, a result.
+pub(crate) fn both_with(
+    alloc: Global,
+    left: Formula,
+    right: Result<Formula, NoMemory>,
+) -> Result<Formula, NoMemory>
+    ensures means { (insts : List Instance) (names : List Wire) (x y : plain_formula) → Means insts names left x
+        → IfOk right (λ f. Means insts names f y) → IfOk result (λ f. Means insts names f (Conjunction x y)) }
+    ensures made { IfOk result (λ _. IsOk right) }
+{
+    both(alloc, left, right?)
+}
+
+/// The disjunction of a formula and another, a result.
+pub(crate) fn either_with(
+    alloc: Global,
+    left: Formula,
+    right: Result<Formula, NoMemory>,
+) -> Result<Formula, NoMemory>
+    ensures means { (insts : List Instance) (names : List Wire) (x y : plain_formula) → Means insts names left x
+        → IfOk right (λ f. Means insts names f y) → IfOk result (λ f. Means insts names f (Disjunction x y)) }
+    ensures made { IfOk result (λ _. IsOk right) }
+{
+    either(alloc, left, right?)
 }
 
 /// A formula, or the one that is false where it is missing.
