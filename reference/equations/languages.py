@@ -118,7 +118,7 @@ def design(m: VerilogModule) -> str:
     init, nexts = dict(m.inits), dict(m.nexts)
     registers = ["register (%s) %s (%s)" % (codes(r), bit(init[r]), codes(nexts[r])) for r in m.of_kind("reg")]
     kinds = [words(m.of_kind(kind)) for kind in ("input", "output")]
-    return apply("module", codes(m.name), *kinds, listed(registers), words(m.of_kind("wire")), assigns(m.assigns))
+    return apply("made_of", codes(m.name), *kinds, listed(registers), words(m.of_kind("wire")), assigns(m.assigns))
 
 
 def fault_of(read: Callable[[bytes], Any], text: bytes) -> Optional[TextFault]:

@@ -47,7 +47,7 @@ bit false = 48
 
 abbrev seen : Option Reaction → Option (List ℕ)
 seen None = None
-seen (Some x) = Some (map bit x.answer.outputs ++ codes "/" ++ (x.answer.code + 48 ∷ []))
+seen (Some x) = Some (map bit x.answer.outputs ++ codes "/" ++ ((x.answer.code + 48) ∷ []))
 
 -- what a reaction answers, where there is one
 abbrev answer : Program → State → List ℕ → Option (List ℕ)

@@ -59,8 +59,8 @@ source word ports declarations initials assigns clock nexts = record {
 }
 
 -- a module of its name, its inputs and outputs, its registers and its wires, and what is assigned
-abbrev module : List ℕ → List ℕ → List ℕ → List Register → List ℕ → List (Assign Expr) → VerilogModule
-module word inputs outputs registers wires assigns = record {
+abbrev made_of : List ℕ → List ℕ → List ℕ → List Register → List ℕ → List (Assign Expr) → VerilogModule
+made_of word inputs outputs registers wires assigns = record {
   name = word;
   inputs = words inputs;
   outputs = words outputs;
@@ -174,12 +174,12 @@ case_0 = source (codes "m_T") (codes "clk i_A o_O paused") (decl Input (codes "c
 case_0_fault : name_fault case_0 ≡ None
 case_0_fault = refl
 
-case_0_module : module_said case_0 ≡ module (codes "m_T") (codes "clk i_A") (codes "o_O paused") (register (codes "s0") false (codes "g1") ∷ [])
+case_0_module : module_said case_0 ≡ made_of (codes "m_T") (codes "clk i_A") (codes "o_O paused") (register (codes "s0") false (codes "g1") ∷ [])
     (codes "g0 g1") (assign (codes "g0") (And (exprs (name (codes "i_A") ∷ name (codes "s0") ∷ []))) ∷ assign (codes "g1") (Not (name (codes "g0"))) ∷ assign
     (codes "o_O") (name (codes "g0")) ∷ assign (codes "paused") (name (codes "s0")) ∷ [])
 case_0_module = refl
 
-case_0_run : runs (module (codes "m_T") (codes "clk i_A") (codes "o_O paused") (register (codes "s0") false (codes "g1") ∷ []) (codes "g0 g1") (assign
+case_0_run : runs (made_of (codes "m_T") (codes "clk i_A") (codes "o_O paused") (register (codes "s0") false (codes "g1") ∷ []) (codes "g0 g1") (assign
     (codes "g0") (And (exprs (name (codes "i_A") ∷ name (codes "s0") ∷ []))) ∷ assign (codes "g1") (Not (name (codes "g0"))) ∷ assign (codes "o_O") (name
     (codes "g0")) ∷ assign (codes "paused") (name (codes "s0")) ∷ [])) (codes ".1 .1 .1 ! .1") (codes "i_A g1" ∷ codes "i_A o_O paused s0 g0" ∷ codes "i_A g1"
     ∷ codes "i_A g1" ∷ [])
@@ -372,7 +372,7 @@ case_17 = source (codes "m_T") (codes "clk i_A o_O paused") (decl Input (codes "
 case_17_fault : name_fault case_17 ≡ None
 case_17_fault = refl
 
-case_17_module : module_said case_17 ≡ module (codes "m_T") (codes "clk i_A") (codes "o_O paused") (register (codes "s0") false (codes "g1") ∷ [])
+case_17_module : module_said case_17 ≡ made_of (codes "m_T") (codes "clk i_A") (codes "o_O paused") (register (codes "s0") false (codes "g1") ∷ [])
     (codes "g0 g1") (assign (codes "g0") (name (codes "g1")) ∷ assign (codes "g1") (Not (name (codes "g0"))) ∷ assign (codes "o_O") (name (codes "g0")) ∷
     assign (codes "paused") (name (codes "s0")) ∷ [])
 case_17_module = refl
@@ -421,7 +421,7 @@ case_21 = source (codes "m_T") (codes "o_x i_A o_O paused") (decl Input (codes "
 case_21_fault : name_fault case_21 ≡ None
 case_21_fault = refl
 
-case_21_module : module_said case_21 ≡ module (codes "m_T") (codes "o_x i_A") (codes "o_O paused") (register (codes "s0") false (codes "g1") ∷ [])
+case_21_module : module_said case_21 ≡ made_of (codes "m_T") (codes "o_x i_A") (codes "o_O paused") (register (codes "s0") false (codes "g1") ∷ [])
     (codes "g0 g1") (assign (codes "g0") (And (exprs (name (codes "i_A") ∷ name (codes "s0") ∷ []))) ∷ assign (codes "g1") (Not (name (codes "g0"))) ∷ assign
     (codes "o_O") (name (codes "g0")) ∷ assign (codes "paused") (name (codes "s0")) ∷ [])
 case_21_module = refl
@@ -466,7 +466,7 @@ case_25 = source (codes "m") (codes "clk i_a i__ o_y") (decl Reg (codes "s0") �
 case_25_fault : name_fault case_25 ≡ None
 case_25_fault = refl
 
-case_25_module : module_said case_25 ≡ module (codes "m") (codes "clk i_a i__") (codes "o_y") (register (codes "s0") false (codes "y") ∷ []) (codes "y _")
+case_25_module : module_said case_25 ≡ made_of (codes "m") (codes "clk i_a i__") (codes "o_y") (register (codes "s0") false (codes "y") ∷ []) (codes "y _")
     (assign (codes "y") (name (codes "i__")) ∷ assign (codes "o_y") (name (codes "_")) ∷ assign (codes "_") (Or (exprs (name (codes "i__") ∷ name
     (codes "i__") ∷ Not (name (codes "s0")) ∷ []))) ∷ [])
 case_25_module = refl
@@ -479,7 +479,7 @@ case_26 = source (codes "m") (codes "c i__") (decl Input (codes "c") ∷ decl In
 case_26_fault : name_fault case_26 ≡ None
 case_26_fault = refl
 
-case_26_module : module_said case_26 ≡ module (codes "m") (codes "c i__") [] (register (codes "s0") false (codes "s0") ∷ []) [] []
+case_26_module : module_said case_26 ≡ made_of (codes "m") (codes "c i__") [] (register (codes "s0") false (codes "s0") ∷ []) [] []
 case_26_module = refl
 
 -- module m(i_x, i_b, o_y, o_paused, paused); input i_x; input i_b; output o_y; output o_paused; output paused; wire wire1; wire y; wire w0; assign o_paused =
@@ -495,7 +495,7 @@ case_27 = source (codes "m") (codes "i_x i_b o_y o_paused paused") (decl Input (
 case_27_fault : name_fault case_27 ≡ None
 case_27_fault = refl
 
-case_27_module : module_said case_27 ≡ module (codes "m") (codes "i_x i_b") (codes "o_y o_paused paused") [] (codes "wire1 y w0") (assign (codes "o_paused")
+case_27_module : module_said case_27 ≡ made_of (codes "m") (codes "i_x i_b") (codes "o_y o_paused paused") [] (codes "wire1 y w0") (assign (codes "o_paused")
     (Not (name (codes "i_b"))) ∷ assign (codes "paused") (And (exprs (name (codes "y") ∷ name (codes "y") ∷ name (codes "o_paused") ∷ []))) ∷ assign
     (codes "o_y") (Not (name (codes "wire1"))) ∷ assign (codes "y") (name (codes "wire1")) ∷ assign (codes "w0") (Not (name (codes "wire1"))) ∷ assign
     (codes "wire1") (Not (Not (name (codes "i_b")))) ∷ [])
@@ -525,7 +525,7 @@ case_29 = source (codes "m") (codes "clk i__ o_y paused") (decl Wire (codes "w0"
 case_29_fault : name_fault case_29 ≡ None
 case_29_fault = refl
 
-case_29_module : module_said case_29 ≡ module (codes "m") (codes "clk i__") (codes "o_y paused") [] (codes "w0 x wire1") (assign (codes "wire1") (Or (exprs
+case_29_module : module_said case_29 ≡ made_of (codes "m") (codes "clk i__") (codes "o_y paused") [] (codes "w0 x wire1") (assign (codes "wire1") (Or (exprs
     (And (exprs (Const false ∷ Const false ∷ [])) ∷ Not (Not (name (codes "i__"))) ∷ []))) ∷ assign (codes "w0") (name (codes "i__")) ∷ assign (codes "x")
     (And (exprs (name (codes "w0") ∷ name (codes "i__") ∷ []))) ∷ assign (codes "o_y") (name (codes "i__")) ∷ assign (codes "paused") (name (codes "wire1")) ∷
     [])
@@ -577,7 +577,7 @@ case_33 = source (codes "m") (codes "clk o_y o_paused") (decl Input (codes "clk"
 case_33_fault : name_fault case_33 ≡ None
 case_33_fault = refl
 
-case_33_module : module_said case_33 ≡ module (codes "m") (codes "clk") (codes "o_y o_paused") [] (codes "w0 wire1") (assign (codes "wire1") (name
+case_33_module : module_said case_33 ≡ made_of (codes "m") (codes "clk") (codes "o_y o_paused") [] (codes "w0 wire1") (assign (codes "wire1") (name
     (codes "w0")) ∷ assign (codes "o_y") (Not (And (exprs (Const true ∷ Const false ∷ [])))) ∷ assign (codes "w0") (And (exprs (name (codes "o_y") ∷ name
     (codes "o_y") ∷ []))) ∷ assign (codes "o_paused") (Not (name (codes "w0"))) ∷ [])
 case_33_module = refl
@@ -594,7 +594,7 @@ case_34 = source (codes "m") (codes "clk i_a o_y") (decl Input (codes "clk") ∷
 case_34_fault : name_fault case_34 ≡ None
 case_34_fault = refl
 
-case_34_module : module_said case_34 ≡ module (codes "m") (codes "clk i_a") (codes "o_y") [] (codes "_ w0 wire1") (assign (codes "_") (name (codes "i_a")) ∷
+case_34_module : module_said case_34 ≡ made_of (codes "m") (codes "clk i_a") (codes "o_y") [] (codes "_ w0 wire1") (assign (codes "_") (name (codes "i_a")) ∷
     assign (codes "w0") (And (exprs (Not (name (codes "w0")) ∷ name (codes "i_a") ∷ []))) ∷ assign (codes "o_y") (Not (Const false)) ∷ assign (codes "wire1")
     (Or (exprs (And (exprs (name (codes "_") ∷ name (codes "_") ∷ [])) ∷ Or (exprs (name (codes "i_a") ∷ Not (name (codes "o_y")) ∷ Or (exprs (And (exprs
     (name (codes "i_a") ∷ name (codes "_") ∷ [])) ∷ name (codes "i_a") ∷ name (codes "i_a") ∷ [])) ∷ [])) ∷ []))) ∷ [])
@@ -611,7 +611,7 @@ case_35 = source (codes "m") (codes "c i_a i__ o_y paused") (decl Input (codes "
 case_35_fault : name_fault case_35 ≡ None
 case_35_fault = refl
 
-case_35_module : module_said case_35 ≡ module (codes "m") (codes "c i_a i__") (codes "o_y paused") (register (codes "s0") true (codes "i__") ∷ register
+case_35_module : module_said case_35 ≡ made_of (codes "m") (codes "c i_a i__") (codes "o_y paused") (register (codes "s0") true (codes "i__") ∷ register
     (codes "s1") true (codes "s0") ∷ []) [] (assign (codes "paused") (Not (name (codes "s0"))) ∷ assign (codes "o_y") (name (codes "paused")) ∷ [])
 case_35_module = refl
 
@@ -626,7 +626,7 @@ case_36 = source (codes "m") (codes "clk i__ i_a o_paused o_y") (decl Output (co
 case_36_fault : name_fault case_36 ≡ None
 case_36_fault = refl
 
-case_36_module : module_said case_36 ≡ module (codes "m") (codes "clk i__ i_a") (codes "o_paused o_y") [] (codes "_ wire1") (assign (codes "o_y") (name
+case_36_module : module_said case_36 ≡ made_of (codes "m") (codes "clk i__ i_a") (codes "o_paused o_y") [] (codes "_ wire1") (assign (codes "o_y") (name
     (codes "o_paused")) ∷ assign (codes "_") (And (exprs (name (codes "i__") ∷ And (exprs (name (codes "i__") ∷ Not (name (codes "i_a")) ∷ [])) ∷ []))) ∷
     assign (codes "o_paused") (name (codes "i_a")) ∷ assign (codes "wire1") (name (codes "i_a")) ∷ [])
 case_36_module = refl
@@ -654,7 +654,7 @@ case_38 = source (codes "m") (codes "clk o_a o_y") (decl Input (codes "clk") ∷
 case_38_fault : name_fault case_38 ≡ None
 case_38_fault = refl
 
-case_38_module : module_said case_38 ≡ module (codes "m") (codes "clk") (codes "o_a o_y") [] (codes "_ x") (assign (codes "x") (Or (exprs (Const true ∷ Not
+case_38_module : module_said case_38 ≡ made_of (codes "m") (codes "clk") (codes "o_a o_y") [] (codes "_ x") (assign (codes "x") (Or (exprs (Const true ∷ Not
     (Not (Or (exprs (Const true ∷ Const true ∷ [])))) ∷ []))) ∷ assign (codes "_") (Or (exprs (name (codes "x") ∷ Not (name (codes "x")) ∷ []))) ∷ assign
     (codes "o_y") (And (exprs (Not (name (codes "x")) ∷ name (codes "_") ∷ []))) ∷ assign (codes "o_a") (Const true) ∷ [])
 case_38_module = refl
@@ -685,7 +685,7 @@ case_40 = source (codes "m") (codes "c i_a i__ o_a o_y") (decl Reg (codes "s0") 
 case_40_fault : name_fault case_40 ≡ None
 case_40_fault = refl
 
-case_40_module : module_said case_40 ≡ module (codes "m") (codes "c i_a i__") (codes "o_a o_y") (register (codes "s0") false (codes "_") ∷ register
+case_40_module : module_said case_40 ≡ made_of (codes "m") (codes "c i_a i__") (codes "o_a o_y") (register (codes "s0") false (codes "_") ∷ register
     (codes "s1") true (codes "o_y") ∷ []) (codes "_ y") (assign (codes "_") (name (codes "i_a")) ∷ assign (codes "y") (Not (name (codes "s0"))) ∷ assign
     (codes "o_a") (Or (exprs (name (codes "s0") ∷ Not (Not (name (codes "_"))) ∷ name (codes "s0") ∷ []))) ∷ assign (codes "o_y") (name (codes "s1")) ∷ [])
 case_40_module = refl
@@ -700,7 +700,7 @@ case_41 = source (codes "m") (codes "clk") (decl Reg (codes "s0") ∷ decl Wire 
 case_41_fault : name_fault case_41 ≡ None
 case_41_fault = refl
 
-case_41_module : module_said case_41 ≡ module (codes "m") (codes "clk") [] (register (codes "s0") true (codes "s0") ∷ register (codes "s1") true (codes "s0")
+case_41_module : module_said case_41 ≡ made_of (codes "m") (codes "clk") [] (register (codes "s0") true (codes "s0") ∷ register (codes "s1") true (codes "s0")
     ∷ []) (codes "wire1") (assign (codes "wire1") (Const false) ∷ [])
 case_41_module = refl
 
@@ -714,7 +714,7 @@ case_42 = source (codes "m") (codes "clk o_paused o_y paused") (decl Input (code
 case_42_fault : name_fault case_42 ≡ None
 case_42_fault = refl
 
-case_42_module : module_said case_42 ≡ module (codes "m") (codes "clk") (codes "o_paused o_y paused") [] [] (assign (codes "o_paused") (Const true) ∷ assign
+case_42_module : module_said case_42 ≡ made_of (codes "m") (codes "clk") (codes "o_paused o_y paused") [] [] (assign (codes "o_paused") (Const true) ∷ assign
     (codes "o_y") (name (codes "o_paused")) ∷ assign (codes "paused") (And (exprs (name (codes "o_y") ∷ name (codes "o_y") ∷ name (codes "o_y") ∷ []))) ∷ [])
 case_42_module = refl
 
@@ -729,7 +729,7 @@ case_43 = source (codes "m") (codes "i_x o_a o_paused paused") (decl Input (code
 case_43_fault : name_fault case_43 ≡ None
 case_43_fault = refl
 
-case_43_module : module_said case_43 ≡ module (codes "m") (codes "i_x") (codes "o_a o_paused paused") (register (codes "s0") false (codes "o_a") ∷ []) []
+case_43_module : module_said case_43 ≡ made_of (codes "m") (codes "i_x") (codes "o_a o_paused paused") (register (codes "s0") false (codes "o_a") ∷ []) []
     (assign (codes "o_a") (Or (exprs (name (codes "s0") ∷ name (codes "s0") ∷ []))) ∷ assign (codes "o_paused") (And (exprs (name (codes "o_a") ∷ name
     (codes "s0") ∷ []))) ∷ assign (codes "paused") (name (codes "s0")) ∷ [])
 case_43_module = refl
@@ -747,7 +747,7 @@ case_44 = source (codes "m") (codes "i_x i__ i_a o_a o_paused") (decl Input (cod
 case_44_fault : name_fault case_44 ≡ None
 case_44_fault = refl
 
-case_44_module : module_said case_44 ≡ module (codes "m") (codes "i_x i__ i_a") (codes "o_a o_paused") (register (codes "s0") true (codes "i_a") ∷ register
+case_44_module : module_said case_44 ≡ made_of (codes "m") (codes "i_x i__ i_a") (codes "o_a o_paused") (register (codes "s0") true (codes "i_a") ∷ register
     (codes "s1") true (codes "wire1") ∷ []) (codes "wire1") (assign (codes "o_a") (name (codes "i__")) ∷ assign (codes "o_paused") (And (exprs (name
     (codes "i__") ∷ name (codes "i_a") ∷ []))) ∷ assign (codes "wire1") (Or (exprs (And (exprs (name (codes "s1") ∷ Not (name (codes "s1")) ∷ [])) ∷ name
     (codes "i_a") ∷ []))) ∷ [])
@@ -763,7 +763,7 @@ case_45 = source (codes "m") (codes "c i__") (decl Input (codes "c") ∷ decl In
 case_45_fault : name_fault case_45 ≡ None
 case_45_fault = refl
 
-case_45_module : module_said case_45 ≡ module (codes "m") (codes "c i__") [] [] (codes "wire1 _ x") (assign (codes "wire1") (name (codes "_")) ∷ assign
+case_45_module : module_said case_45 ≡ made_of (codes "m") (codes "c i__") [] [] (codes "wire1 _ x") (assign (codes "wire1") (name (codes "_")) ∷ assign
     (codes "_") (And (exprs (Not (name (codes "x")) ∷ name (codes "i__") ∷ []))) ∷ assign (codes "x") (name (codes "i__")) ∷ [])
 case_45_module = refl
 
@@ -778,7 +778,7 @@ case_46 = source (codes "m") (codes "i_x i__ i_b paused") (decl Reg (codes "s1")
 case_46_fault : name_fault case_46 ≡ None
 case_46_fault = refl
 
-case_46_module : module_said case_46 ≡ module (codes "m") (codes "i_x i__ i_b") (codes "paused") (register (codes "s1") false (codes "i__") ∷ register
+case_46_module : module_said case_46 ≡ made_of (codes "m") (codes "i_x i__ i_b") (codes "paused") (register (codes "s1") false (codes "i__") ∷ register
     (codes "s0") false (codes "x") ∷ []) (codes "y x") (assign (codes "x") (Or (exprs (Const true ∷ name (codes "s1") ∷ []))) ∷ assign (codes "y") (Not (name
     (codes "s0"))) ∷ assign (codes "paused") (Not (name (codes "i_b"))) ∷ [])
 case_46_module = refl
