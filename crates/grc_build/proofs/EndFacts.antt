@@ -1,28 +1,15 @@
 -- Which ends of the parts of a live statement are there.
-use Rattle.std.proofs.Common.{◌≡◌, ℕ, ◌+◌, ◌<◌, Bool, true, false, ◌==◌, ◌&&◌, not, [], ◌∷◌, ◌++◌, refl, sym, ap, ◌∙◌, subst, arith, get_or, append_assoc}
-use Rattle.std.proofs.lemmas.Bool.{and_parts, and_from, false≢true, and_right}
-use Rattle.est_kernel.specs.Plain.{term_of}
-use Rattle.est_kernel.specs.Terms.{Expression, Term, Present, Suspend, Seq, Loop, Par, Trap, Local}
-use Rattle.est_kernel.specs.Preorder.{statement_count}
-use Rattle.est_kernel.specs.StaticCodes.{codes_if, has_code, started_codes, resumed_codes}
-use Rattle.est_kernel.proofs.Exports.{upto-in}
-use Rattle.grc_graph.specs.declared.statements.Statement.{Statement}
-use Rattle.grc_graph.specs.Equations.{end_formula, branch_over}
-use Rattle.grc_graph.specs.Formulas.{Conjunction, any_of}
-use Rattle.grc_graph.specs.Layers.{Layer, Resumed, Started, Liveness, can_pass, part_liveness, second_liveness, loop_liveness}
-use Rattle.grc_graph.specs.Rows.{row, rows, second_of, program_rows, live_in}
-use Rattle.grc_graph.specs.Scopes.{Scope, bind}
-use Rattle.grc_graph.specs.Spots.{test_formula}
-use Rattle.grc_graph.specs.Statements.{Entry, Part, Branch, Then, Else, Suspended, Second, Looped}
-use Rattle.grc_graph.specs.Wires.{End, instance_codes}
-use Rattle.grc_graph.proofs.Exports.{program_kernel, codes_below-kernel, StandsAt, Placed, program_placed, length-rows, stands_one, stands_first}
-use Rattle.grc_graph.proofs.Exports.{stands_second, row_read, IsEnd}
-use Rattle.grc_build.specs.declared.tables.Tables.{Tables}
-use Rattle.grc_build.specs.Ending.{IsEnding, IsParallel, Tells, TellsLive, end_if, held_upto, held_end, suspension_ends, sequence_ends, loop_ends}
-use Rattle.grc_build.specs.Ending.{parallel_formula}
-use Rattle.grc_build.specs.Meanings.{formula_if}
-use Rattle.base_types.specs.declared.place.Span.{Span}
-use Rattle.grc_build.specs.Tabled.{program_in, row_in, AreTables}
+use Rattle.std.proofs.Common.{append_assoc}
+use Rattle.std.proofs.lemmas.Bool.{and_right}
+use Rattle.grc_graph.proofs.Exports.{length-rows, stands_one, stands_first, stands_second}
+use Rattle.grc_build.specs.Ending.{IsParallel, TellsLive, suspension_ends, sequence_ends, loop_ends, parallel_formula}
+use Rattle.grc_build.proofs.Words.{◌≡◌, ℕ, ◌+◌, ◌<◌, Bool, true, false, ◌==◌, ◌&&◌, not, [], ◌∷◌, ◌++◌, refl, sym, ap, ◌∙◌, subst, arith, get_or, and_parts}
+use Rattle.grc_build.proofs.Words.{and_from, false≢true, term_of, Expression, Term, Present, Suspend, Seq, Loop, Par, Trap, Local, statement_count, codes_if}
+use Rattle.grc_build.proofs.Words.{has_code, started_codes, resumed_codes, upto-in, Statement, end_formula, branch_over, Conjunction, any_of, Layer, Resumed}
+use Rattle.grc_build.proofs.Words.{Started, Liveness, can_pass, part_liveness, second_liveness, loop_liveness, row, rows, second_of, program_rows, live_in}
+use Rattle.grc_build.proofs.Words.{Scope, bind, test_formula, signals_of, Entry, Part, Branch, Then, Else, Suspended, Second, Looped, Go, End, instance_codes}
+use Rattle.grc_build.proofs.Words.{program_kernel, codes_below-kernel, StandsAt, Placed, program_placed, row_read, IsEnd, Tables, IsEnding, Tells, end_if}
+use Rattle.grc_build.proofs.Words.{held_upto, held_end, formula_if, Span, IsTestOf, program_in, row_in, AreTables, IsThere}
 use Rattle.grc_build.proofs.PartLiveness.{part_live, part_resumed, second_started, second_own, second_resumed, loop_own, loop_part_live, and_true}
 use Rattle.grc_build.proofs.TableFacts.{Here, here, is_live, go_there, end_there, only_there, within_rows, statement_row, kernel_of}
 
@@ -39,6 +26,32 @@ tells_end t c k l h w = (
 
 pub tells_live : (t : Tables) (c : ℕ) (l : Layer) → AreTables t → c < statement_count (program_in t).body → TellsLive t c l (live_in (row_in t c).live l)
 tells_live t c l h w = (λ x. (here t c l h x).live, λ e. is_live t c l h w e)
+
+-- ---- a statement whose end is made
+
+pub ending_here : (t : Tables) (n : ℕ) (l : Layer) (k : ℕ) → IsEnding t n l k → Here t n l
+ending_here t n l k h =
+    let o = only_there t (IsEnd k) n l h.tables h.there in
+    record { within = o.within; live = o.live; placed = program_placed (program_in t) n o.within }
+
+-- a live instance whose statement has this form, with the number m of its second part
+pub record FormAt (t : Tables) (n : ℕ) (l : Layer) (m : ℕ) (f : Term) : Type 0 where
+  pub tables : AreTables t
+  pub here : Here t n l
+  pub statement : (row_in t n).statement ≡ f
+  pub second : m ≡ second_of f n
+
+pub form_at : {t : Tables} {n : ℕ} {l : Layer} {k : ℕ} {s : Statement} {f : Term} → IsEnding t n l k → s ≡ get_or t.statements.items n s
+    → term_of s.body.now ≡ f
+    → FormAt t n l s.second f
+form_at {t} {n} {l} {k} {s} {f} h e g =
+    let i = ending_here t n l k h in
+    let v = statement_row t n s h.tables i.within e in
+    let same : (row_in t n).statement ≡ f = sym (ap (λ y. y.statement) v) ∙ g in
+    record { tables = h.tables; here = i; statement = same; second = ap (λ y. y.second) v ∙ i.placed.second ∙ ap (λ y. second_of y n) same }
+
+pub go_here : {t : Tables} {n : ℕ} {l : Layer} {m : ℕ} {f : Term} → FormAt t n l m f → IsThere t (Go n l)
+go_here o = go_there _ _ _ o.tables o.here.within o.here.live
 
 -- ---- the rows of parts
 
@@ -58,85 +71,84 @@ stands_as : (t : Tables) (n : ℕ) (s : Term) → Placed (program_rows (program_
     → StandsAt (program_rows (program_in t)) n (rows (row_in t n).live (row_in t n).scope (row_in t n).entry s n)
 stands_as t n s p e = subst (λ v. StandsAt (program_rows (program_in t)) n (rows (row_in t n).live (row_in t n).scope (row_in t n).entry v n)) e p.stands
 
-pub present_first : (t : Tables) (n : ℕ) (e : Expression) (p q : Term) → Placed (program_rows (program_in t)) n → (row_in t n).statement ≡ Present e p q →
-    PartRow t (n + 1) (part_liveness (row_in t n).live p) p
-present_first t n e p q h s =
+pub present_first : {t : Tables} {n : ℕ} {l : Layer} {m : ℕ} {e : Expression} {p q : Term} → FormAt t n l m (Present e p q)
+    → PartRow t (n + 1) (part_liveness (row_in t n).live p) p
+present_first {t} {n} {l} {m} {e} {p} {q} o =
     part_row t (n + 1) 0 (part_liveness (row_in t n).live p) (row_in t n).scope (Then n e) p
     (stands_first (program_rows (program_in t)) n (row (row_in t n).live (row_in t n).scope (row_in t n).entry (Present e p q) (n + 1 + statement_count p))
     (rows (part_liveness (row_in t n).live p) (row_in t n).scope (Then n e) p (n + 1))
-    (rows (part_liveness (row_in t n).live q) (row_in t n).scope (Else n e) q (n + 1 + statement_count p)) (stands_as t n (Present e p q) h s))
+    (rows (part_liveness (row_in t n).live q) (row_in t n).scope (Else n e) q (n + 1 + statement_count p))
+    (stands_as t n (Present e p q) o.here.placed o.statement))
 
-pub present_second : (t : Tables) (n : ℕ) (e : Expression) (p q : Term) → Placed (program_rows (program_in t)) n → (row_in t n).statement ≡ Present e p q
-    → PartRow t (n + 1 + statement_count p) (part_liveness (row_in t n).live q) q
-present_second t n e p q h s =
-    part_row t (n + 1 + statement_count p) 0 (part_liveness (row_in t n).live q) (row_in t n).scope (Else n e) q
+pub present_second : {t : Tables} {n : ℕ} {l : Layer} {m : ℕ} {e : Expression} {p q : Term} → FormAt t n l m (Present e p q)
+    → PartRow t m (part_liveness (row_in t n).live q) q
+present_second {t} {n} {l} {m} {e} {p} {q} o =
+    subst (λ m. PartRow t m (part_liveness (row_in t n).live q) q) (sym o.second)
+    (part_row t (n + 1 + statement_count p) 0 (part_liveness (row_in t n).live q) (row_in t n).scope (Else n e) q
     (stands_second (program_rows (program_in t)) n (row (row_in t n).live (row_in t n).scope (row_in t n).entry (Present e p q) (n + 1 + statement_count p)) p
     (rows (part_liveness (row_in t n).live p) (row_in t n).scope (Then n e) p (n + 1))
     (rows (part_liveness (row_in t n).live q) (row_in t n).scope (Else n e) q (n + 1 + statement_count p))
-    (length-rows (part_liveness (row_in t n).live p) (row_in t n).scope (Then n e) p (n + 1)) (stands_as t n (Present e p q) h s))
+    (length-rows (part_liveness (row_in t n).live p) (row_in t n).scope (Then n e) p (n + 1)) (stands_as t n (Present e p q) o.here.placed o.statement)))
 
-pub seq_first : (t : Tables) (n : ℕ) (p q : Term) → Placed (program_rows (program_in t)) n → (row_in t n).statement ≡ Seq p q →
-    PartRow t (n + 1) (part_liveness (row_in t n).live p) p
-seq_first t n p q h s =
+pub seq_first : {t : Tables} {n : ℕ} {l : Layer} {m : ℕ} {p q : Term} → FormAt t n l m (Seq p q) → PartRow t (n + 1) (part_liveness (row_in t n).live p) p
+seq_first {t} {n} {l} {m} {p} {q} o =
     part_row t (n + 1) 0 (part_liveness (row_in t n).live p) (row_in t n).scope (Branch n) p
     (stands_first (program_rows (program_in t)) n (row (row_in t n).live (row_in t n).scope (row_in t n).entry (Seq p q) (n + 1 + statement_count p))
     (rows (part_liveness (row_in t n).live p) (row_in t n).scope (Branch n) p (n + 1))
     (rows (second_liveness (row_in t n).live p q (n + 1 + statement_count p)) (row_in t n).scope (Second n) q (n + 1 + statement_count p))
-    (stands_as t n (Seq p q) h s))
+    (stands_as t n (Seq p q) o.here.placed o.statement))
 
-pub seq_second : (t : Tables) (n : ℕ) (p q : Term) → Placed (program_rows (program_in t)) n → (row_in t n).statement ≡ Seq p q
-    → PartRow t (n + 1 + statement_count p) (second_liveness (row_in t n).live p q (n + 1 + statement_count p)) q
-seq_second t n p q h s =
-    part_row t (n + 1 + statement_count p) 0 (second_liveness (row_in t n).live p q (n + 1 + statement_count p)) (row_in t n).scope (Second n) q
+pub seq_second : {t : Tables} {n : ℕ} {l : Layer} {m : ℕ} {p q : Term} → FormAt t n l m (Seq p q) → PartRow t m (second_liveness (row_in t n).live p q (m)) q
+seq_second {t} {n} {l} {m} {p} {q} o =
+    subst (λ m. PartRow t m (second_liveness (row_in t n).live p q m) q) (sym o.second)
+    (part_row t (n + 1 + statement_count p) 0 (second_liveness (row_in t n).live p q (n + 1 + statement_count p)) (row_in t n).scope (Second n) q
     (stands_second (program_rows (program_in t)) n (row (row_in t n).live (row_in t n).scope (row_in t n).entry (Seq p q) (n + 1 + statement_count p)) p
     (rows (part_liveness (row_in t n).live p) (row_in t n).scope (Branch n) p (n + 1))
     (rows (second_liveness (row_in t n).live p q (n + 1 + statement_count p)) (row_in t n).scope (Second n) q (n + 1 + statement_count p))
-    (length-rows (part_liveness (row_in t n).live p) (row_in t n).scope (Branch n) p (n + 1)) (stands_as t n (Seq p q) h s))
+    (length-rows (part_liveness (row_in t n).live p) (row_in t n).scope (Branch n) p (n + 1)) (stands_as t n (Seq p q) o.here.placed o.statement)))
 
-pub par_first : (t : Tables) (n : ℕ) (p q : Term) → Placed (program_rows (program_in t)) n → (row_in t n).statement ≡ Par p q →
-    PartRow t (n + 1) (part_liveness (row_in t n).live p) p
-par_first t n p q h s =
+pub par_first : {t : Tables} {n : ℕ} {l : Layer} {m : ℕ} {p q : Term} → FormAt t n l m (Par p q) → PartRow t (n + 1) (part_liveness (row_in t n).live p) p
+par_first {t} {n} {l} {m} {p} {q} o =
     part_row t (n + 1) 0 (part_liveness (row_in t n).live p) (row_in t n).scope (Branch n) p
     (stands_first (program_rows (program_in t)) n (row (row_in t n).live (row_in t n).scope (row_in t n).entry (Par p q) (n + 1 + statement_count p))
     (rows (part_liveness (row_in t n).live p) (row_in t n).scope (Branch n) p (n + 1))
-    (rows (part_liveness (row_in t n).live q) (row_in t n).scope (Branch n) q (n + 1 + statement_count p)) (stands_as t n (Par p q) h s))
+    (rows (part_liveness (row_in t n).live q) (row_in t n).scope (Branch n) q (n + 1 + statement_count p)) (stands_as t n (Par p q) o.here.placed o.statement))
 
-pub par_second : (t : Tables) (n : ℕ) (p q : Term) → Placed (program_rows (program_in t)) n → (row_in t n).statement ≡ Par p q
-    → PartRow t (n + 1 + statement_count p) (part_liveness (row_in t n).live q) q
-par_second t n p q h s =
-    part_row t (n + 1 + statement_count p) 0 (part_liveness (row_in t n).live q) (row_in t n).scope (Branch n) q
+pub par_second : {t : Tables} {n : ℕ} {l : Layer} {m : ℕ} {p q : Term} → FormAt t n l m (Par p q) → PartRow t m (part_liveness (row_in t n).live q) q
+par_second {t} {n} {l} {m} {p} {q} o =
+    subst (λ m. PartRow t m (part_liveness (row_in t n).live q) q) (sym o.second)
+    (part_row t (n + 1 + statement_count p) 0 (part_liveness (row_in t n).live q) (row_in t n).scope (Branch n) q
     (stands_second (program_rows (program_in t)) n (row (row_in t n).live (row_in t n).scope (row_in t n).entry (Par p q) (n + 1 + statement_count p)) p
     (rows (part_liveness (row_in t n).live p) (row_in t n).scope (Branch n) p (n + 1))
     (rows (part_liveness (row_in t n).live q) (row_in t n).scope (Branch n) q (n + 1 + statement_count p))
-    (length-rows (part_liveness (row_in t n).live p) (row_in t n).scope (Branch n) p (n + 1)) (stands_as t n (Par p q) h s))
+    (length-rows (part_liveness (row_in t n).live p) (row_in t n).scope (Branch n) p (n + 1)) (stands_as t n (Par p q) o.here.placed o.statement)))
 
-pub suspend_part : (t : Tables) (n : ℕ) (e : Expression) (p : Term) → Placed (program_rows (program_in t)) n → (row_in t n).statement ≡ Suspend e p →
-    PartRow t (n + 1) (part_liveness (row_in t n).live p) p
-suspend_part t n e p h e' =
+pub suspend_part : {t : Tables} {n : ℕ} {l : Layer} {m : ℕ} {e : Expression} {p : Term} → FormAt t n l m (Suspend e p)
+    → PartRow t (n + 1) (part_liveness (row_in t n).live p) p
+suspend_part {t} {n} {l} {m} {e} {p} o =
     part_row t (n + 1) 0 (part_liveness (row_in t n).live p) (row_in t n).scope (Suspended n e) p
     (stands_one (program_rows (program_in t)) n (row (row_in t n).live (row_in t n).scope (row_in t n).entry (Suspend e p) 0)
-    (rows (part_liveness (row_in t n).live p) (row_in t n).scope (Suspended n e) p (n + 1)) (stands_as t n (Suspend e p) h e'))
+    (rows (part_liveness (row_in t n).live p) (row_in t n).scope (Suspended n e) p (n + 1)) (stands_as t n (Suspend e p) o.here.placed o.statement))
 
-pub loop_part : (t : Tables) (n : ℕ) (at : Span) (p : Term) → Placed (program_rows (program_in t)) n → (row_in t n).statement ≡ Loop at p →
-    PartRow t (n + 1) (loop_liveness (row_in t n).live p (n + 1)) p
-loop_part t n at p h e' =
+pub loop_part : {t : Tables} {n : ℕ} {l : Layer} {m : ℕ} {at : Span} {p : Term} → FormAt t n l m (Loop at p)
+    → PartRow t (n + 1) (loop_liveness (row_in t n).live p (n + 1)) p
+loop_part {t} {n} {l} {m} {at} {p} o =
     part_row t (n + 1) 0 (loop_liveness (row_in t n).live p (n + 1)) (row_in t n).scope (Looped n) p
     (stands_one (program_rows (program_in t)) n (row (row_in t n).live (row_in t n).scope (row_in t n).entry (Loop at p) 0)
-    (rows (loop_liveness (row_in t n).live p (n + 1)) (row_in t n).scope (Looped n) p (n + 1)) (stands_as t n (Loop at p) h e'))
+    (rows (loop_liveness (row_in t n).live p (n + 1)) (row_in t n).scope (Looped n) p (n + 1)) (stands_as t n (Loop at p) o.here.placed o.statement))
 
-pub trap_part : (t : Tables) (n : ℕ) (p : Term) → Placed (program_rows (program_in t)) n → (row_in t n).statement ≡ Trap p →
-    PartRow t (n + 1) (part_liveness (row_in t n).live p) p
-trap_part t n p h e' =
+pub trap_part : {t : Tables} {n : ℕ} {l : Layer} {m : ℕ} {p : Term} → FormAt t n l m (Trap p) → PartRow t (n + 1) (part_liveness (row_in t n).live p) p
+trap_part {t} {n} {l} {m} {p} o =
     part_row t (n + 1) 0 (part_liveness (row_in t n).live p) (row_in t n).scope (Part n) p
     (stands_one (program_rows (program_in t)) n (row (row_in t n).live (row_in t n).scope (row_in t n).entry (Trap p) 0)
-    (rows (part_liveness (row_in t n).live p) (row_in t n).scope (Part n) p (n + 1)) (stands_as t n (Trap p) h e'))
+    (rows (part_liveness (row_in t n).live p) (row_in t n).scope (Part n) p (n + 1)) (stands_as t n (Trap p) o.here.placed o.statement))
 
-pub local_part : (t : Tables) (n : ℕ) (s : ℕ) (p : Term) → Placed (program_rows (program_in t)) n → (row_in t n).statement ≡ Local s p →
-    PartRow t (n + 1) (part_liveness (row_in t n).live p) p
-local_part t n s p h e' =
-    part_row t (n + 1) 0 (part_liveness (row_in t n).live p) (bind (row_in t n).scope s n) (Part n) p
-    (stands_one (program_rows (program_in t)) n (row (row_in t n).live (row_in t n).scope (row_in t n).entry (Local s p) 0)
-    (rows (part_liveness (row_in t n).live p) (bind (row_in t n).scope s n) (Part n) p (n + 1)) (stands_as t n (Local s p) h e'))
+pub local_part : {t : Tables} {n : ℕ} {l : Layer} {m : ℕ} {x : ℕ} {p : Term} → FormAt t n l m (Local x p)
+    → PartRow t (n + 1) (part_liveness (row_in t n).live p) p
+local_part {t} {n} {l} {m} {x} {p} o =
+    part_row t (n + 1) 0 (part_liveness (row_in t n).live p) (bind (row_in t n).scope x n) (Part n) p
+    (stands_one (program_rows (program_in t)) n (row (row_in t n).live (row_in t n).scope (row_in t n).entry (Local x p) 0)
+    (rows (part_liveness (row_in t n).live p) (bind (row_in t n).scope x n) (Part n) p (n + 1)) (stands_as t n (Local x p) o.here.placed o.statement))
 
 -- ---- conditions
 
@@ -183,64 +195,85 @@ by_row : (t : Tables) (c k : ℕ) (l : Layer) (a : Liveness) (q : Term) (b : Boo
 by_row t c k l a q b h r e =
     subst (Tells t (End c l k)) ((λ i. live_in (r.live i) l && instance_codes (r.statement i) l k) ∙ e) (tells_end t c k l h r.within)
 
-pub part_tells : (t : Tables) (n c k : ℕ) (l : Layer) (q : Term) → AreTables t → Here t n l → PartRow t c (part_liveness (row_in t n).live q) q
+pub part_tells : {t : Tables} {n c k m : ℕ} {l : Layer} {f q : Term} → FormAt t n l m f → PartRow t c (part_liveness (row_in t n).live q) q
     → Tells t (End c l k) (instance_codes q l k)
-part_tells t n c k l q h i r = by_row t c k l (part_liveness (row_in t n).live q) q _ h r (part_bool (row_in t n).live q l k (bounded t c q _ l k h r) i.live)
+part_tells {t} {n} {c} {k} {m} {l} {f} {q} o r =
+    by_row t c k l (part_liveness (row_in t n).live q) q _ o.tables r (part_bool (row_in t n).live q l k (bounded t c q _ l k o.tables r) o.here.live)
 
-pub loop_tells : (t : Tables) (n c k : ℕ) (l : Layer) (q : Term) → AreTables t → Here t n l → PartRow t c (loop_liveness (row_in t n).live q c) q
+pub loop_tells : {t : Tables} {n c k m : ℕ} {l : Layer} {f q : Term} → FormAt t n l m f → PartRow t c (loop_liveness (row_in t n).live q c) q
     → Tells t (End c l k) (instance_codes q l k)
-loop_tells t n c k l q h i r = by_row t c k l (loop_liveness (row_in t n).live q c) q _ h r
-    (loop_bool (row_in t n).live q c l k (bounded t c q _ l k h r) i.live)
+loop_tells {t} {n} {c} {k} {m} {l} {f} {q} o r =
+    by_row t c k l (loop_liveness (row_in t n).live q c) q _ o.tables r (loop_bool (row_in t n).live q c l k (bounded t c q _ l k o.tables r) o.here.live)
 
 -- where the second part of a sequence has a code, in a layer of the sequence
 abbrev pub second_code : Term → Term → Layer → ℕ → Bool
 second_code p q Resumed = codes_if (can_pass p) (resumed_codes q)
 second_code p q (Started r) = codes_if (started_codes p 0) (started_codes q)
 
-pub second_tells : (t : Tables) (n c k : ℕ) (l : Layer) (p q : Term) → n < c → AreTables t → Here t n l
-    → PartRow t c (second_liveness (row_in t n).live p q c) q → Tells t (End c l k) (second_code p q l k)
-second_tells t n c k Resumed p q lt h i r =
-    by_row t c k Resumed (second_liveness (row_in t n).live p q c) q _ h r
-    ((λ j. second_resumed (row_in t n).live p q c i.live j && resumed_codes q k) ∙ second_bool (can_pass p) (resumed_codes q) k (bounded t c q _ Resumed k h r))
-second_tells t n c k (Started s) p q lt h i r =
-    by_row t c k (Started s) (second_liveness (row_in t n).live p q c) q _ h r
-    (λ j. second_started (row_in t n).live p q n c s i.placed.roots lt i.live j && started_codes q k)
+pub second_tells : {t : Tables} {n m k : ℕ} {l : Layer} {p q : Term} → FormAt t n l m (Seq p q) → Tells t (End m l k) (second_code p q l k)
+second_tells {t} {n} {m} {k} {l = Resumed} {p} {q} o =
+    let r = seq_second o in
+    by_row t m k Resumed (second_liveness (row_in t n).live p q m) q _ o.tables r
+    ((λ j. second_resumed (row_in t n).live p q m o.here.live j && resumed_codes q k)
+    ∙ second_bool (can_pass p) (resumed_codes q) k (bounded t m q _ Resumed k o.tables r))
+second_tells {t} {n} {m} {k} {l = Started s} {p} {q} o =
+    by_row t m k (Started s) (second_liveness (row_in t n).live p q m) q _ o.tables (seq_second o)
+    (λ j. second_started (row_in t n).live p q n m s o.here.placed.roots (omega (arith, o.second)) o.here.live j && started_codes q k)
 
-pub own_tells : (t : Tables) (n c k : ℕ) (p q : Term) → n < c → AreTables t → Here t n Resumed
-    → PartRow t c (second_liveness (row_in t n).live p q c) q → Tells t (End c (Started c) k) (resumed_codes p 0 && started_codes q k)
-own_tells t n c k p q lt h i r =
-    by_row t c k (Started c) (second_liveness (row_in t n).live p q c) q _ h r
-    (λ j. second_own (row_in t n).live p q n c i.placed.roots lt i.live j && started_codes q k)
+pub own_tells : {t : Tables} {n m k : ℕ} {l : Layer} {p q : Term} → FormAt t n l m (Seq p q) → l ≡ Resumed
+    → Tells t (End m (Started m) k) (resumed_codes p 0 && started_codes q k)
+own_tells {t} {n} {m} {k} {l} {p} {q} o e =
+    let i = subst (Here t n) e o.here in
+    by_row t m k (Started m) (second_liveness (row_in t n).live p q m) q _ o.tables (seq_second o)
+    (λ j. second_own (row_in t n).live p q n m i.placed.roots (omega (arith, o.second)) i.live j && started_codes q k)
 
-pub restart_tells : (t : Tables) (n c k : ℕ) (p : Term) → n < c → AreTables t → Here t n Resumed
-    → PartRow t c (loop_liveness (row_in t n).live p c) p → Tells t (End c (Started c) k) (resumed_codes p 0 && started_codes p k)
-restart_tells t n c k p lt h i r =
-    by_row t c k (Started c) (loop_liveness (row_in t n).live p c) p _ h r
-    (λ j. loop_own (row_in t n).live p n c i.placed.roots lt i.live j && started_codes p k)
+pub restart_tells : {t : Tables} {n m k : ℕ} {l : Layer} {x : Span} {p : Term} → FormAt t n l m (Loop x p) → l ≡ Resumed
+    → Tells t (End (n + 1) (Started (n + 1)) k) (resumed_codes p 0 && started_codes p k)
+restart_tells {t} {n} {m} {k} {l} {x} {p} o e =
+    let i = subst (Here t n) e o.here in
+    by_row t (n + 1) k (Started (n + 1)) (loop_liveness (row_in t n).live p (n + 1)) p _ o.tables (loop_part o)
+    (λ j. loop_own (row_in t n).live p n (n + 1) i.placed.roots (omega arith) i.live j && started_codes p k)
 
 -- ---- the lists of ends are the definition's
 
-pub sequence_same : (B : Scope) (p q : Term) (n : ℕ) (l : Layer) (k : ℕ)
-    → any_of (sequence_ends (instance_codes p l k) (second_code p q l k) (resumed_codes p 0 && started_codes q k) (n + 1) (n + 1 + statement_count p) l k)
-    ≡ end_formula B (Seq p q) n l k
-sequence_same B p q n Resumed k = refl
-sequence_same B p q n (Started r) k = refl
+pub sequence_same : {t : Tables} {n m : ℕ} {l : Layer} {p q : Term} → FormAt t n l m (Seq p q) → (k : ℕ)
+    → any_of (sequence_ends (instance_codes p l k) (second_code p q l k) (resumed_codes p 0 && started_codes q k) (n + 1) m l k)
+    ≡ end_formula (row_in t n).scope (row_in t n).statement n l k
+sequence_same {t} {n} {m} {l} {p} {q} o k =
+    (λ j. any_of (sequence_ends (instance_codes p l k) (second_code p q l k) (resumed_codes p 0 && started_codes q k) (n + 1) (o.second j) l k))
+    ∙ by l ∙ ap (λ v. end_formula (row_in t n).scope v n l k) (sym o.statement)
+  where
+    by : (l : Layer) → any_of (sequence_ends (instance_codes p l k) (second_code p q l k) (resumed_codes p 0 && started_codes q k)
+        (n + 1) (n + 1 + statement_count p) l k)
+        ≡ end_formula (row_in t n).scope (Seq p q) n l k
+    by Resumed = refl
+    by (Started r) = refl
 
-pub loop_same : (B : Scope) (at : Span) (p : Term) (n : ℕ) (l : Layer) (k : ℕ)
-    → any_of (loop_ends (instance_codes p l k) (resumed_codes p 0 && started_codes p k) (n + 1) l k) ≡ end_formula B (Loop at p) n l k
-loop_same B at p n Resumed k =
-    λ i. any_of (end_if (resumed_codes p k && not (k == 0)) (n + 1) Resumed k
-    ++ end_if (assoc (resumed_codes p 0) (started_codes p k) (not (k == 0)) i) (n + 1) (Started (n + 1)) k)
+pub loop_same : {t : Tables} {n m : ℕ} {l : Layer} {x : Span} {p : Term} → FormAt t n l m (Loop x p) → (k : ℕ)
+    → any_of (loop_ends (instance_codes p l k) (resumed_codes p 0 && started_codes p k) (n + 1) l k)
+    ≡ end_formula (row_in t n).scope (row_in t n).statement n l k
+loop_same {t} {n} {m} {l} {x} {p} o k = by l ∙ ap (λ v. end_formula (row_in t n).scope v n l k) (sym o.statement)
   where
     assoc : (a b c : Bool) → ((a && b) && c) ≡ (a && (b && c))
     assoc true b c = refl
     assoc false b c = refl
-loop_same B at p n (Started r) k = refl
 
-pub suspension_same : (B : Scope) (e : Expression) (p : Term) (n : ℕ) (l : Layer) (k : ℕ)
-    → any_of (suspension_ends (instance_codes p l k) (test_formula B e l) n (n + 1) l k) ≡ end_formula B (Suspend e p) n l k
-suspension_same B e p n Resumed k = refl
-suspension_same B e p n (Started r) k = refl
+    by : (l : Layer) → any_of (loop_ends (instance_codes p l k) (resumed_codes p 0 && started_codes p k) (n + 1) l k)
+        ≡ end_formula (row_in t n).scope (Loop x p) n l k
+    by Resumed =
+        λ i. any_of (end_if (resumed_codes p k && not (k == 0)) (n + 1) Resumed k
+        ++ end_if (assoc (resumed_codes p 0) (started_codes p k) (not (k == 0)) i) (n + 1) (Started (n + 1)) k)
+    by (Started r) = refl
+
+pub suspension_same : {t : Tables} {n m : ℕ} {l : Layer} {e : Expression} {p : Term} → FormAt t n l m (Suspend e p) → (k : ℕ)
+    → any_of (suspension_ends (instance_codes p l k) (test_formula (row_in t n).scope e l) n (n + 1) l k)
+    ≡ end_formula (row_in t n).scope (row_in t n).statement n l k
+suspension_same {t} {n} {m} {l} {e} {p} o k = by l ∙ ap (λ v. end_formula (row_in t n).scope v n l k) (sym o.statement)
+  where
+    by : (l : Layer) → any_of (suspension_ends (instance_codes p l k) (test_formula (row_in t n).scope e l) n (n + 1) l k)
+        ≡ end_formula (row_in t n).scope (Suspend e p) n l k
+    by Resumed = refl
+    by (Started r) = refl
 
 -- the ends of the branches of a resumed parallel, grouped by branches
 regroup : (a i b x : Bool) (n c d k : ℕ)
@@ -254,47 +287,37 @@ regroup a i b x n c d k =
     (any_of (sym (append_assoc (formula_if b (held_end c k)) (formula_if (k == 0) (branch_over n c))
     (formula_if x (held_end d k) ++ formula_if (k == 0) (branch_over n d))) j)))
 
-pub parallel_same : (t : Tables) (B : Scope) (p q : Term) (n c d : ℕ) (l : Layer) (k : ℕ) → c ≡ n + 1 → d ≡ n + 1 + statement_count p
-    → Here t n l
-    → PartRow t c (part_liveness (row_in t n).live p) p
-    → PartRow t d (part_liveness (row_in t n).live q) q
-    → parallel_formula (live_in (row_in t c).live Resumed) (live_in (row_in t d).live Resumed) (instance_codes p l k) (instance_codes q l k) n c d l k
-    ≡ end_formula B (Par p q) n l k
-parallel_same t B p q n c d Resumed k e f h r s =
-    (λ i. parallel_formula
-    (((λ j. live_in (r.live j) Resumed) ∙ part_resumed (row_in t n).live p h.live) i)
-    (((λ j. live_in (s.live j) Resumed) ∙ part_resumed (row_in t n).live q h.live) i)
-    (resumed_codes p k) (resumed_codes q k) n (e i) (f i) Resumed k)
-    ∙ regroup (has_code (resumed_codes p)) (has_code (resumed_codes q)) (resumed_codes p k) (resumed_codes q k) n (n + 1) (n + 1 + statement_count p) k
-parallel_same t B p q n c d (Started v) k e f h r s =
-    λ i. parallel_formula (live_in (row_in t c).live Resumed) (live_in (row_in t d).live Resumed) (started_codes p k) (started_codes q k) n (e i) (f i)
-    (Started v) k
+pub parallel_same : {t : Tables} {n m : ℕ} {l : Layer} {p q : Term} → FormAt t n l m (Par p q) → (k : ℕ)
+    → parallel_formula (live_in (row_in t (n + 1)).live Resumed) (live_in (row_in t m).live Resumed)
+    (instance_codes p l k) (instance_codes q l k) n (n + 1) m l k
+    ≡ end_formula (row_in t n).scope (row_in t n).statement n l k
+parallel_same {t} {n} {m} {l} {p} {q} o k = by l o ∙ ap (λ v. end_formula (row_in t n).scope v n l k) (sym o.statement)
+  where
+    by : (l : Layer) → FormAt t n l m (Par p q) → parallel_formula (live_in (row_in t (n + 1)).live Resumed) (live_in (row_in t m).live Resumed)
+        (instance_codes p l k) (instance_codes q l k) n (n + 1) m l k ≡ end_formula (row_in t n).scope (Par p q) n l k
+    by Resumed o =
+        (λ i. parallel_formula
+        (((λ j. live_in ((par_first o).live j) Resumed) ∙ part_resumed (row_in t n).live p o.here.live) i)
+        (((λ j. live_in ((par_second o).live j) Resumed) ∙ part_resumed (row_in t n).live q o.here.live) i)
+        (resumed_codes p k) (resumed_codes q k) n (n + 1) (o.second i) Resumed k)
+        ∙ regroup (has_code (resumed_codes p)) (has_code (resumed_codes q)) (resumed_codes p k) (resumed_codes q k) n (n + 1) (n + 1 + statement_count p) k
+    by (Started v) o =
+        λ i. parallel_formula (live_in (row_in t (n + 1)).live Resumed) (live_in (row_in t m).live Resumed) (started_codes p k) (started_codes q k) n (n + 1)
+        (o.second i) (Started v) k
 
--- ---- a statement whose end is made
+pub test_of : {t : Tables} {n m : ℕ} {l : Layer} {e : Expression} {p : Term} → FormAt t n l m (Suspend e p) → IsTestOf t n e l
+test_of o = record {
+  tables = o.tables;
+  live = is_live _ _ _ o.tables o.here.within o.here.live;
+  go = go_here o;
+  signals = ap (λ v. signals_of v) o.statement;
+}
 
-pub ending_here : (t : Tables) (n : ℕ) (l : Layer) (k : ℕ) → IsEnding t n l k → Here t n l
-ending_here t n l k h =
-    let o = only_there t (IsEnd k) n l h.tables h.there in
-    record { within = o.within; live = o.live; placed = program_placed (program_in t) n o.within }
-
--- its statement by form, and the number of its second part
-pub record FormAt (t : Tables) (n : ℕ) (s : Statement) (f : Term) : Type 0 where
-  pub statement : (row_in t n).statement ≡ f
-  pub second : s.second ≡ second_of f n
-
-pub form_at : (t : Tables) (n : ℕ) (l : Layer) (s : Statement) (f : Term) → AreTables t → Here t n l → s ≡ get_or t.statements.items n s →
-    term_of s.body.now ≡ f → FormAt t n s f
-form_at t n l s f h i e g =
-    let v = statement_row t n s h i.within e in
-    let same : (row_in t n).statement ≡ f = sym (ap (λ y. y.statement) v) ∙ g in
-    record { statement = same; second = ap (λ y. y.second) v ∙ i.placed.second ∙ ap (λ y. second_of y n) same }
-
-pub is_parallel : (t : Tables) (n : ℕ) (p q : Term) (l : Layer) → AreTables t → Here t n l
-    → PartRow t (n + 1) (part_liveness (row_in t n).live p) p
-    → PartRow t (n + 1 + statement_count p) (part_liveness (row_in t n).live q) q
-    → IsParallel t n (n + 1) (n + 1 + statement_count p) l
-is_parallel t n p q Resumed h i r s = go_there t n Resumed h i.within i.live
-is_parallel t n p q (Started v) h i r s = (
-  is_live t (n + 1) (Started v) h r.within (subst (λ a. live_in a (Started v) ≡ true) (sym r.live) i.live),
-  is_live t (n + 1 + statement_count p) (Started v) h s.within (subst (λ a. live_in a (Started v) ≡ true) (sym s.live) i.live),
-)
+pub is_parallel : {t : Tables} {n m : ℕ} {l : Layer} {p q : Term} → FormAt t n l m (Par p q) → IsParallel t n (n + 1) m l
+is_parallel {l = Resumed} o = go_here o
+is_parallel {t} {n} {m} {l = Started v} o =
+    let r = par_first o in
+    let s = par_second o in (
+      is_live t (n + 1) (Started v) o.tables r.within (subst (λ a. live_in a (Started v) ≡ true) (sym r.live) o.here.live),
+      is_live t m (Started v) o.tables s.within (subst (λ a. live_in a (Started v) ≡ true) (sym s.live) o.here.live),
+    )

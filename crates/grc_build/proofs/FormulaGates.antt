@@ -1,25 +1,15 @@
 -- How many gates the formulas of a graph need, by names.
-use Rattle.std.proofs.Common.{◌≡◌, ℕ, zero, suc, ◌+◌, ◌≤◌, Bool, true, false, ◌==◌, List, [], ◌∷◌, ◌++◌, length, map, refl, ap, arith}
-use Rattle.std.specs.Prelude.{if◌then◌else◌}
-use Rattle.base_types.specs.declared.place.Span.{Span}
-use Rattle.est_kernel.specs.Preorder.{statement_count}
-use Rattle.est_kernel.specs.StaticCodes.{codes_if, has_code, started_codes, resumed_codes}
 use Rattle.base_types.specs.Codes.{except}
-use Rattle.est_kernel.specs.Terms.{Expression, Tick, Sig, Not, And, Or, Term, Nothing, Pause, Emit, Exit, Present, Suspend, Seq, Loop, Par, Trap, Local, Awake}
+use Rattle.grc_graph.specs.Equations.{resumed_parallel}
+use Rattle.grc_graph.specs.GateCosts.{any_cost}
+use Rattle.grc_build.proofs.Words.{◌≡◌, ℕ, zero, suc, ◌+◌, ◌≤◌, Bool, true, false, ◌==◌, List, [], ◌∷◌, ◌++◌, length, map, refl, ap, arith, if◌then◌else◌, Span}
+use Rattle.grc_build.proofs.Words.{statement_count, codes_if, has_code, started_codes, resumed_codes, Expression, Tick, Sig, Not, And, Or, Term, Nothing, Pause}
+use Rattle.grc_build.proofs.Words.{Emit, Exit, Present, Suspend, Seq, Loop, Par, Trap, Local, Awake, part_end, trapped_ends, branch_over, end_formula, Formula}
+use Rattle.grc_build.proofs.Words.{Value, Selected, Upto, Negation, Conjunction, Disjunction, any_of, Instance, Layer, Resumed, Started, can_pass, formula_of}
+use Rattle.grc_build.proofs.Words.{wire_at, entry_formula, Binding, Entering, Scope, status_formula, test_formula, Entry, Body, Part, Branch, Then, Else}
+use Rattle.grc_build.proofs.Words.{Suspended, Second, Looped, Wire, Go, End, instance_codes, operators, cost_of}
 use Rattle.grc_graph.specs.declared.formulas.Formula as declared
 use Rattle.grc_graph.specs.declared.formulas.Formula.TheVariants as formulas
-use Rattle.grc_graph.specs.Equations.{part_end, trapped_ends, branch_over, resumed_parallel, end_formula}
-use Rattle.grc_graph.specs.Formulas.{Formula, Value, Selected, Upto, Negation, Conjunction, Disjunction, any_of}
-use Rattle.grc_graph.specs.Instances.{Instance}
-use Rattle.grc_graph.specs.Layers.{Layer, Resumed, Started, can_pass}
-use Rattle.grc_graph.specs.PlainGraphs.{formula_of, wire_at}
-use Rattle.grc_graph.specs.Rows.{entry_formula}
-use Rattle.grc_graph.specs.Scopes.{Binding, Entering, Scope}
-use Rattle.grc_graph.specs.Spots.{status_formula, test_formula}
-use Rattle.grc_graph.specs.Statements.{Entry, Body, Part, Branch, Then, Else, Suspended, Second, Looped}
-use Rattle.grc_graph.specs.Wires.{Wire, Go, End, instance_codes}
-use Rattle.grc_graph.specs.RowCosts.{operators}
-use Rattle.grc_graph.specs.GateCosts.{any_cost, cost_of}
 
 -- the same as `cost_of`, by names
 abbrev pub gates_of : Formula → ℕ

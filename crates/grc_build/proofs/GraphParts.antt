@@ -1,37 +1,25 @@
 -- The parts of a graph, and the graph that they make.
-use Rattle.std.proofs.Common.{◌≡◌, ◌≤◌, length, map, refl, sym, ap, ◌∙◌, subst}
-use Rattle.std.specs.Prelude.{All, IsTrue, None}
-use Rattle.std.proofs.lemmas.List.{length-map}
-use Rattle.base_types.specs.declared.bounds.TheConstants.Limits.{WIRES}
-use Rattle.est_kernel.specs.declared.programs.KernelProgram.{KernelProgram}
-use Rattle.est_kernel.specs.Plain.{program_of, interface_of, interface_count}
+use Rattle.std.specs.Prelude.{None}
 use Rattle.est_kernel.specs.WellFormed.{IsWellFormed}
-use Rattle.est_kernel.proofs.Exports.{trees_are_kernels_lem}
 use Rattle.grc_graph.specs.declared.graph.Graph.{Graph}
-use Rattle.grc_graph.specs.declared.instances.Instances.{Instances}
 use Rattle.grc_graph.specs.declared.neighbours.Neighbours.{Neighbours}
 use Rattle.grc_graph.specs.declared.trees.SelTree.{SelTree}
 use Rattle.grc_graph.specs.BuiltGraphs.{IsGraphOf}
-use Rattle.grc_graph.specs.GraphSizes.{graph_size}
-use Rattle.grc_graph.specs.GraphRuns.{graph_of, program_spots}
-use Rattle.grc_graph.specs.GraphShapes.{IndicesFit, formula_fits, node_fits}
-use Rattle.grc_graph.specs.Instances.{body_instances}
+use Rattle.grc_graph.specs.GraphShapes.{IndicesFit}
 use Rattle.grc_graph.specs.Layouts.{IsLaidOut}
-use Rattle.grc_graph.specs.Neighbouring.{instances_in, names_in, program_wires}
-use Rattle.grc_graph.specs.Nodes as plain
-use Rattle.grc_graph.specs.PlainGraphs.{instances_of, names_of, wire_of, node_form, formula_of, equations_of, lasting_in}
-use Rattle.grc_graph.specs.PlainInstances.{instance_of}
-use Rattle.grc_graph.specs.Rows.{program_rows, spot_at}
-use Rattle.grc_graph.specs.Scopes.{program_scope}
-use Rattle.grc_graph.specs.SelectionTrees.{body_leaves, body_tree}
-use Rattle.grc_graph.specs.TreeForms as forms
-use Rattle.grc_graph.proofs.Exports.{laid-out, wires_fit, program_spots_by_row}
+use Rattle.grc_graph.specs.PlainGraphs.{instances_of, names_of, lasting_in}
+use Rattle.grc_graph.specs.SelectionTrees.{body_tree}
+use Rattle.grc_graph.proofs.Exports.{laid-out}
 use Rattle.grc_build.specs.declared.graphs.Formulas.{Formulas}
-use Rattle.grc_build.specs.declared.graphs.Parts.{Parts}
-use Rattle.grc_build.specs.declared.tables.Tables.{Tables}
-use Rattle.grc_build.specs.Parts.{AreParts, AreFormulas, AreFormulasBy, IsLayoutOf}
-use Rattle.grc_build.specs.Tabled.{AreTables, program_in}
-use Rattle.grc_build.specs.WireFormulas.{wire_formula}
+use Rattle.grc_build.specs.Parts.{AreFormulas, AreFormulasBy, IsLayoutOf}
+use Rattle.grc_build.proofs.Words.{◌≡◌, ◌≤◌, length, map, refl, sym, ap, ◌∙◌, subst, All, IsTrue, length-map, WIRES, KernelProgram, program_of, interface_of}
+use Rattle.grc_build.proofs.Words.{interface_count, trees_are_kernels_lem, Instances, graph_size, graph_of, program_spots, formula_fits, node_fits}
+use Rattle.grc_build.proofs.Words.{body_instances, instances_in, names_in, program_wires, wire_of, node_form}
+use Rattle.grc_build.proofs.Words.{formula_of, equations_of, instance_of, program_rows}
+use Rattle.grc_build.proofs.Words.{spot_at, program_scope, body_leaves, wires_fit, program_spots_by_row, Parts, Tables, AreParts, AreTables, program_in}
+use Rattle.grc_build.proofs.Words.{wire_formula}
+use Rattle.grc_graph.specs.Nodes as plain
+use Rattle.grc_graph.specs.TreeForms as forms
 use Rattle.grc_build.proofs.TableFacts.{kernel_of}
 use Rattle.grc_build.proofs.WireEquations.{equation_of, equations_by_wire, equations_zipped}
 

@@ -1,39 +1,19 @@
 -- Which instances are leaves, and what selects a leaf in the next instant.
-use Rattle.std.proofs.Common.{◌≡◌, ℕ, ◌+◌, ◌<◌, ◌≤◌, true, ◌&&◌, List, [], ◌∷◌, ◌++◌, length, map, get_or, refl, sym, ap, ◌∙◌, subst, arith, length-append}
-use Rattle.std.specs.Prelude.{filter, flat_map}
-use Rattle.std.proofs.lemmas.Bool.{lt-ltb}
-use Rattle.std.proofs.lemmas.List.{take_all}
-use Rattle.std.proofs.lemmas.Simd.{map-map}
-use Rattle.base_types.specs.declared.indices.InstId.{InstId}
+use Rattle.std.specs.Prelude.{flat_map}
 use Rattle.base_types.specs.declared.indices.PathId.{PathId}
-use Rattle.est_kernel.specs.Plain.{term_of, interface_count}
 use Rattle.est_kernel.specs.Preorder.{preorder}
-use Rattle.est_kernel.specs.Terms.{Nothing}
 use Rattle.grc_graph.specs.declared.formulas.Formula.{Formula}
+use Rattle.grc_graph.specs.InstanceLaws.{is_resumed, is_pause, is_resumed_pause}
+use Rattle.grc_graph.specs.Selected.{HasExitCodes}
+use Rattle.grc_graph.proofs.Exports.{leaves_are_resumed_pauses_lem, preorder_read}
+use Rattle.grc_build.proofs.Words.{◌≡◌, ℕ, ◌+◌, ◌<◌, ◌≤◌, true, ◌&&◌, List, [], ◌∷◌, ◌++◌, length, map, get_or, refl, sym, ap, ◌∙◌, subst, arith, length-append}
+use Rattle.grc_build.proofs.Words.{filter, lt-ltb, take_all, map-map, InstId, term_of, interface_count, Nothing, Statement, kept_start, next_formula, Value}
+use Rattle.grc_build.proofs.Words.{Selected, Kept, Held, Conjunction, Disjunction, any_of, graph_of, Instance, Ascends, body_instances, Layer, Resumed, Started}
+use Rattle.grc_build.proofs.Words.{body_liveness, body_layers, instances_in, instance_at, instance_of, program_rows, program_scope, Body, IsNumberOf, Wire, Go}
+use Rattle.grc_build.proofs.Words.{program_kernel, stands_whole, instances_ascend_lem, length-program_rows, row_read, Tables, Means, layers_from, IsRun}
+use Rattle.grc_build.proofs.Words.{selected_from, leaves_before, program_in, AreTables}
 use Rattle.grc_graph.specs.declared.formulas.Formula.TheVariants as formulas
 use Rattle.grc_graph.specs.declared.instances.Instance as stored
-use Rattle.grc_graph.specs.declared.statements.Statement.{Statement}
-use Rattle.grc_graph.specs.Equations.{kept_start, next_formula}
-use Rattle.grc_graph.specs.Formulas.{Value, Selected, Kept, Held, Conjunction, Disjunction, any_of}
-use Rattle.grc_graph.specs.GraphRuns.{graph_of}
-use Rattle.grc_graph.specs.InstanceLaws.{is_resumed, is_pause, is_resumed_pause}
-use Rattle.grc_graph.specs.Instances.{Instance, Ascends, body_instances}
-use Rattle.grc_graph.specs.Layers.{Layer, Resumed, Started, body_liveness, body_layers}
-use Rattle.grc_graph.specs.Neighbouring.{instances_in}
-use Rattle.grc_graph.specs.PlainGraphs.{instance_at}
-use Rattle.grc_graph.specs.PlainInstances.{instance_of}
-use Rattle.grc_graph.specs.Rows.{program_rows}
-use Rattle.grc_graph.specs.Scopes.{program_scope}
-use Rattle.grc_graph.specs.Selected.{HasExitCodes}
-use Rattle.grc_graph.specs.Statements.{Body}
-use Rattle.grc_graph.specs.WireTables.{IsNumberOf}
-use Rattle.grc_graph.specs.Wires.{Wire, Go}
-use Rattle.grc_graph.proofs.Exports.{program_kernel, stands_whole, instances_ascend_lem, leaves_are_resumed_pauses_lem, preorder_read, length-program_rows}
-use Rattle.grc_graph.proofs.Exports.{row_read}
-use Rattle.grc_build.specs.declared.tables.Tables.{Tables}
-use Rattle.grc_build.specs.Meanings.{Means}
-use Rattle.grc_build.specs.Nexts.{layers_from, IsRun, selected_from, leaves_before}
-use Rattle.grc_build.specs.Tabled.{program_in, AreTables}
 use Rattle.grc_build.proofs.AnyOf.{some_more}
 use Rattle.grc_build.proofs.StatementRuns.{layers_of_statement, layer_more, resumed_first, run_over, is_started}
 use Rattle.grc_build.proofs.StatusWires.{instance_here, own_statement, read_number}

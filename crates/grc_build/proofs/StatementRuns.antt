@@ -1,21 +1,19 @@
 -- The instances of a statement stand one behind another among those of a body, the resumed one first.
-use Rattle.std.proofs.Common.{◌≡◌, ℕ, ◌+◌, ◌-◌, ◌<◌, ◌≤◌, ◌⊎◌, inl, inr, true, false, ◌==◌, List, [], ◌∷◌, ◌++◌, length, map, take, drop, get_or, refl}
-use Rattle.std.proofs.Common.{sym, ap, ◌∙◌, subst, ⊎_elim, arith}
-use Rattle.std.specs.Prelude.{All, filter, nat_lt, if◌then◌else◌}
-use Rattle.std.proofs.lemmas.Bool.{cases_lt, cases_eq, eq-eqb, ne_eqb, lt-ltb, le-ltb, cond-true, cond-false}
-use Rattle.std.proofs.lemmas.List.{append-nil, map-id, take-append-drop, drop_more, drop_all, get_or-drop, get_or_default, length-drop}
+use Rattle.std.proofs.Common.{◌⊎◌, drop}
+use Rattle.std.proofs.lemmas.Bool.{cond-true, cond-false}
+use Rattle.std.proofs.lemmas.List.{map-id, take-append-drop, drop_more, drop_all, get_or-drop, length-drop}
 use Rattle.std.proofs.lemmas.List.Elements.{All-nil, All-cons, All-weaker, All-map, All-contains, Contains-append_right, filter-append}
-use Rattle.std.proofs.lemmas.Simd.{map-map}
 use Rattle.base_facts.proofs.Lists.{filter-none}
-use Rattle.est_kernel.specs.Terms.{Term, Nothing, Pause, Emit, Exit, Present, Suspend, Seq, Loop, Par, Trap, Local, Awake}
-use Rattle.est_kernel.specs.Preorder.{statement_count}
-use Rattle.est_kernel.specs.WellFormed.{IsKernel}
-use Rattle.grc_graph.specs.Instances.{Instance, instances_at, instances, body_instances, LayerBefore, Before, Ascends}
-use Rattle.grc_graph.specs.Layers.{Layer, Resumed, Started, Liveness, layers_of, liveness_at, body_liveness, body_layers, part_liveness, second_liveness}
-use Rattle.grc_graph.specs.Layers.{loop_liveness}
-use Rattle.grc_graph.specs.PlainGraphs.{instance_at}
-use Rattle.grc_graph.proofs.Exports.{at_layer, instances_among}
-use Rattle.grc_build.specs.Nexts.{is_of, layers_from, IsRun}
+use Rattle.grc_graph.specs.Instances.{instances}
+use Rattle.grc_graph.specs.Layers.{liveness_at}
+use Rattle.grc_graph.proofs.Exports.{instances_among}
+use Rattle.grc_build.specs.Nexts.{is_of}
+use Rattle.grc_build.proofs.Words.{◌≡◌, ℕ, ◌+◌, ◌-◌, ◌<◌, ◌≤◌, inl, inr, true, false, ◌==◌, List, [], ◌∷◌, ◌++◌, length, map, take, get_or, refl, sym, ap, ◌∙◌}
+use Rattle.grc_build.proofs.Words.{subst, ⊎_elim, arith, All, filter, nat_lt, if◌then◌else◌, cases_lt, cases_eq, eq-eqb, ne_eqb, lt-ltb, le-ltb, append-nil}
+use Rattle.grc_build.proofs.Words.{get_or_default, map-map, Term, Nothing, Pause, Emit, Exit, Present, Suspend, Seq, Loop, Par, Trap, Local, Awake}
+use Rattle.grc_build.proofs.Words.{statement_count, IsKernel, Instance, instances_at, body_instances, LayerBefore, Before, Ascends, Layer, Resumed, Started}
+use Rattle.grc_build.proofs.Words.{Liveness, layers_of, body_liveness, body_layers, part_liveness, second_liveness, loop_liveness, instance_at, at_layer}
+use Rattle.grc_build.proofs.Words.{layers_from, IsRun}
 
 -- ---- the instances of a statement are those with its path
 

@@ -1,7 +1,8 @@
 // What lets an instance run.
 
-ghost use Rattle.std.specs.Prelude.{IfOk};
+ghost use Rattle.std.specs.Prelude.{if◌then◌else◌, IfOk};
 ghost use Rattle.est_kernel.specs.Plain.{expression_of};
+ghost use Rattle.grc_graph.specs.Formulas.{Negation};
 ghost use Rattle.grc_graph.specs.PlainInstances.{layer_of};
 ghost use Rattle.grc_graph.specs.Rows.{entry_formula};
 ghost use Rattle.grc_graph.specs.Spots.{test_formula, body_entry, branch_entry, second_entry, loop_entry};
@@ -10,7 +11,7 @@ ghost use Rattle.grc_build.specs.declared.tables.Tables.{Tables as tables_record
 ghost use Rattle.grc_build.specs.Tabled.{AreTables, IsLive, IsThere, MeansIn, row_in};
 ghost use Rattle.grc_build.specs.Entering.{IsTestOf, FirstEnd, LoopStart, suspended_by, tested_by};
 
-use crate::formulas::{both, negated, wire};
+use crate::formulas::{both, both_of, negated, wire};
 use crate::statuses::test_formula;
 use crate::tables::Tables;
 use base_types::{NoMemory, PathId};
@@ -88,12 +89,8 @@ fn tested_entry(
     match layer {
         Layer::Resumed => both(alloc, go, Formula::Selected(PathId(path))),
         Layer::Started(_) => {
-            let holds = own_test(alloc, tables, whole, test, layer)?;
-            if negates {
-                both(alloc, go, negated(alloc, holds)?)
-            } else {
-                both(alloc, go, holds)
-            }
+            let holds = signed_test(alloc, tables, whole, test, negates, layer);
+            both_of(alloc, Ok(go), holds)
         }
     }
 }
@@ -113,10 +110,33 @@ fn suspended_entry(
     let go = wire(tables.wires.find_go(whole, layer));
     match layer {
         Layer::Resumed => {
-            let holds = own_test(alloc, tables, whole, test, layer)?;
-            both(alloc, go, negated(alloc, holds)?)
+            let holds = signed_test(alloc, tables, whole, test, true, layer);
+            both_of(alloc, Ok(go), holds)
         }
         Layer::Started(_) => Ok(go),
+    }
+}
+
+// The formula of a statement's own test, or of its negation.
+fn signed_test(
+    alloc: Global,
+    tables: &Tables<'_>,
+    path: u32,
+    test: &Test,
+    negates: bool,
+    layer: Layer,
+) -> Result<Formula, NoMemory>
+    requires { IsTestOf tables.now path (expression_of test.now) (layer_of layer) }
+    ensures { IfOk result (λ f. MeansIn tables.now f
+        (if negates
+        then Negation (test_formula (row_in tables.now path).scope (expression_of test.now) (layer_of layer))
+        else test_formula (row_in tables.now path).scope (expression_of test.now) (layer_of layer))) }
+{
+    let holds = own_test(alloc, tables, path, test, layer)?;
+    if negates {
+        negated(alloc, holds)
+    } else {
+        Ok(holds)
     }
 }
 

@@ -1,6 +1,6 @@
 // Formulas made of formulas.
 
-ghost use Rattle.std.specs.Prelude.{◌≡◌, ◌↔◌, true, [], ◌∷◌, ◌++◌, List, Bool, Contains, IfOk};
+ghost use Rattle.std.specs.Prelude.{◌≡◌, ◌↔◌, true, [], ◌∷◌, ◌++◌, List, Bool, Contains, IfOk, IsOk};
 ghost use Rattle.grc_graph.specs.Instances.{Instance};
 ghost use Rattle.grc_graph.specs.Wires.{Wire};
 ghost use Rattle.grc_graph.specs.Formulas.{Formula as plain_formula, Value, Negation, Conjunction, Disjunction, any_of};
@@ -59,6 +59,77 @@ pub(crate) fn any_more(
             }
         },
     }
+}
+
+/// The same of two results. Results as arguments spare callers a `?` over owned formulas, which is dear to prove.
+pub(crate) fn any_more_of(
+    alloc: Global,
+    first: Result<Option<Formula>, NoMemory>,
+    rest: Result<Option<Formula>, NoMemory>,
+) -> Result<Option<Formula>, NoMemory>
+    ensures { (insts : List Instance) (names : List Wire) (b : Bool) (x : plain_formula) (xs : List plain_formula)
+        → IfOk first (λ r. MeansIf insts names r b x) → IfOk rest (λ r. MeansAny insts names r xs)
+        → IfOk result (λ r. MeansAny insts names r (formula_if b x ++ xs)) }
+{
+    let first = first?;
+    any_more(alloc, first, rest?)
+}
+
+/// The disjunction of an optional formula and another, both results.
+pub(crate) fn any_with(
+    alloc: Global,
+    first: Result<Option<Formula>, NoMemory>,
+    last: Result<Formula, NoMemory>,
+) -> Result<Formula, NoMemory>
+    ensures { (insts : List Instance) (names : List Wire) (b : Bool) (x y : plain_formula)
+        → IfOk first (λ r. MeansIf insts names r b x) → IfOk last (λ f. Means insts names f y)
+        → IfOk result (λ f. Means insts names f (any_of (formula_if b x ++ y ∷ []))) }
+{
+    match (first, last) {
+        (Ok(Some(first)), Ok(last)) => either(alloc, first, last),
+        (Ok(None), last) => last,
+        _ => Err(NoMemory),
+    }
+}
+
+/// The conjunction of two formulas, both results.
+pub(crate) fn both_of(
+    alloc: Global,
+    left: Result<Formula, NoMemory>,
+    right: Result<Formula, NoMemory>,
+) -> Result<Formula, NoMemory>
+    ensures { (insts : List Instance) (names : List Wire) (x y : plain_formula)
+        → IfOk left (λ f. Means insts names f x) → IfOk right (λ f. Means insts names f y)
+        → IfOk result (λ f. Means insts names f (Conjunction x y)) }
+{
+    let left = left?;
+    both(alloc, left, right?)
+}
+
+/// The conjunction of a formula and another, a result.
+pub(crate) fn both_with(
+    alloc: Global,
+    left: Formula,
+    right: Result<Formula, NoMemory>,
+) -> Result<Formula, NoMemory>
+    ensures means { (insts : List Instance) (names : List Wire) (x y : plain_formula) → Means insts names left x
+        → IfOk right (λ f. Means insts names f y) → IfOk result (λ f. Means insts names f (Conjunction x y)) }
+    ensures made { IfOk result (λ _. IsOk right) }
+{
+    both(alloc, left, right?)
+}
+
+/// The disjunction of a formula and another, a result.
+pub(crate) fn either_with(
+    alloc: Global,
+    left: Formula,
+    right: Result<Formula, NoMemory>,
+) -> Result<Formula, NoMemory>
+    ensures means { (insts : List Instance) (names : List Wire) (x y : plain_formula) → Means insts names left x
+        → IfOk right (λ f. Means insts names f y) → IfOk result (λ f. Means insts names f (Disjunction x y)) }
+    ensures made { IfOk result (λ _. IsOk right) }
+{
+    either(alloc, left, right?)
 }
 
 /// A formula, or the one that is false where it is missing.

@@ -143,12 +143,26 @@ fn table_formulas(alloc: Global, tables: Tables<'_>) -> Result<Formulas, NoMemor
     ensures { IfOk result (λ formulas. AreFormulas tables.entry formulas) }
 {
     let emitters = gather_emissions(alloc, &tables)?;
-    let nodes = nodes(alloc, &tables)?;
-    let equations = equations(alloc, &tables, &emitters)?;
-    let next = next_formulas(alloc, &tables)?;
-    Ok(Formulas {
-        nodes,
-        equations,
-        next,
-    })
+    let equations = equations(alloc, &tables, &emitters);
+    let nodes = nodes(alloc, &tables);
+    all_formulas(nodes, equations, next_formulas(alloc, &tables))
+}
+
+// The formulas of a graph's nodes and wires, from results. All parts are results, so that none is owned over a `?`.
+fn all_formulas(
+    nodes: Result<Vec<Node>, NoMemory>,
+    equations: Result<Vec<Formula>, NoMemory>,
+    next: Result<Vec<Formula>, NoMemory>,
+) -> Result<Formulas, NoMemory>
+    ensures { IfOk result (λ formulas. (nodes ≡ Ok formulas.nodes) × (equations ≡ Ok formulas.equations)
+        × (next ≡ Ok formulas.next)) }
+{
+    match (nodes, equations, next) {
+        (Ok(nodes), Ok(equations), Ok(next)) => Ok(Formulas {
+            nodes,
+            equations,
+            next,
+        }),
+        _ => Err(NoMemory),
+    }
 }

@@ -11,7 +11,7 @@ ghost use Rattle.grc_build.specs.Meanings.{formula_if};
 ghost use Rattle.grc_build.specs.Tabled.{IsLive, IsThere, MeansIn};
 
 use crate::ends::{Ending, part_end};
-use crate::formulas::{any_more, both, negated, or_false, wire};
+use crate::formulas::{any_more, any_more_of, any_with, both, both_of, negated, or_false, wire};
 use crate::tables::Tables;
 use base_types::{NoMemory, PathId};
 use grc_graph::{Formula, Layer};
@@ -71,10 +71,9 @@ pub(crate) fn resumed_parallel(
         ++ (formula_if x (held_end second ending.code)
         ++ formula_if (ending.code == 0) (branch_over ending.path second)))))))) }
 {
-    let ends = resumed_ends(alloc, tables, first, second, ending)?;
-    let other = branch_upto(alloc, tables, second, ending)?;
-    let rest = both(alloc, other, ends)?;
-    both(alloc, branch_upto(alloc, tables, first, ending)?, rest)
+    let ends = resumed_ends(alloc, tables, first, second, ending);
+    let rest = both_of(alloc, branch_upto(alloc, tables, second, ending), ends);
+    both_of(alloc, branch_upto(alloc, tables, first, ending), rest)
 }
 
 // One of the branches ends with the code.
@@ -94,11 +93,11 @@ fn resumed_ends(
         ++ (formula_if x (held_end second ending.code)
         ++ formula_if (ending.code == 0) (branch_over ending.path second)))))) }
 {
-    let over = over_end(alloc, tables, second, ending)?;
-    let found = any_more(alloc, held_end(alloc, tables, second, ending.code)?, over)?;
-    let found = any_more(alloc, over_end(alloc, tables, first, ending)?, found)?;
-    let found = any_more(alloc, held_end(alloc, tables, first, ending.code)?, found)?;
-    Ok(or_false(found))
+    let over = over_end(alloc, tables, second, ending);
+    let found = any_more_of(alloc, held_end(alloc, tables, second, ending.code), over);
+    let found = any_more_of(alloc, over_end(alloc, tables, first, ending), found);
+    let all = any_more_of(alloc, held_end(alloc, tables, first, ending.code), found)?;
+    Ok(or_false(all))
 }
 
 // A branch ends with at most the code, or has ended before.
@@ -112,10 +111,8 @@ fn branch_upto(
     ensures { (b : Bool) → TellsLive tables.now path Resumed b → IfOk result (λ f. MeansIn tables.now f
         (any_of (formula_if b (held_upto path ending.code) ++ branch_over ending.path path ∷ []))) }
 {
-    let over = branch_over(alloc, tables, path, ending.path)?;
-    let held = held_upto(alloc, tables, path, ending.code)?;
-    let found = any_more(alloc, held, Some(over))?;
-    Ok(or_false(found))
+    let over = branch_over(alloc, tables, path, ending.path);
+    any_with(alloc, held_upto(alloc, tables, path, ending.code), over)
 }
 
 // A branch that holds a selected pause ends with at most the code.

@@ -1,12 +1,5 @@
-use Rattle.std.proofs.Common.{◌<◌, [], ◌∷◌, ◌++◌, length, map, sym, ap, ◌∙◌, subst, arith}
-use Rattle.std.specs.Prelude.{All, IsTrue}
-use Rattle.std.proofs.lemmas.List.{map-append}
-use Rattle.std.proofs.lemmas.List.Elements.{All-push}
-use Rattle.grc_graph.specs.GraphShapes.{node_fits}
-use Rattle.grc_graph.specs.Neighbouring.{instances_in, names_in}
-use Rattle.grc_graph.specs.Nodes.{spot_node}
-use Rattle.grc_graph.specs.PlainGraphs.{node_form}
-use Rattle.grc_build.specs.Emitting.{spot_in}
+use Rattle.grc_build.proofs.Words.{◌<◌, [], ◌∷◌, ◌++◌, length, map, sym, ap, ◌∙◌, subst, arith, All, IsTrue, map-append, All-push, node_fits, instances_in}
+use Rattle.grc_build.proofs.Words.{names_in, spot_node, node_form, spot_in}
 use Rattle.grc_build.proofs.TableSpots.{spots_in, one_more, all_spots}
 use Rattle.grc_build.proofs.nodes.nodes.Goals as goal
 

@@ -1,9 +1,4 @@
-use Rattle.std.proofs.Common.{◌≡◌, length, map}
-use Rattle.std.specs.Prelude.{All, IsTrue}
-use Rattle.grc_graph.specs.GraphShapes.{node_fits}
-use Rattle.grc_graph.specs.Neighbouring.{instances_in, names_in}
-use Rattle.grc_graph.specs.Nodes.{spot_node}
-use Rattle.grc_graph.specs.PlainGraphs.{node_form}
+use Rattle.grc_build.proofs.Words.{◌≡◌, length, map, All, IsTrue, node_fits, instances_in, names_in, spot_node, node_form}
 use Rattle.grc_build.proofs.TableSpots.{spots_in}
 use Rattle.grc_build.proofs.nodes.nodes.Given as goal
 
