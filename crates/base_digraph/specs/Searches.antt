@@ -45,7 +45,7 @@ rank_in New = 0
 rank_in (OnPath k) = 0
 rank_in (Ranked r) = r
 
--- The nodes on the path are a walk against the edges. Behind the rest of a node, which counts edges from the first on,
+-- The nodes on the path are a walk against the edges. After the rest of a node, which counts edges from the first on,
 -- each edge into it comes from a ranked node, and a ranked node has such edges alone, from lower ranks.
 pub record IsSearch (count : ℕ) (edges : List (ℕ × ℕ)) (states : List State) (rest path order : List ℕ) : Type 0 where
   pub state_each : length states ≡ count

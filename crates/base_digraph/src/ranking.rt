@@ -29,7 +29,7 @@ pub enum RanksOrCycle {
 /// from 0 to `count` - 1, and an edge is the pair of the nodes that it leads from and to. The time is
 /// linear in the nodes and edges.
 ///
-/// The error is want of memory.
+/// The error is out of memory.
 pub fn ranks_or_cycle(
     alloc: Global,
     count: u32,

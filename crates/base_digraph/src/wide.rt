@@ -31,7 +31,7 @@ pub enum WideRanksOrCycle {
 /// from 0 to `count` - 1, and an edge is the pair of the nodes that it leads from and to. The time is
 /// linear in the nodes and edges.
 ///
-/// The error is want of memory.
+/// The error is out of memory.
 pub fn wide_ranks_or_cycle(
     alloc: Global,
     count: usize,

@@ -14,7 +14,7 @@ pub enum Opening<B> {
     Leaf,
 }
 
-/// An operator between parts. It binds closer than the one behind it here.
+/// An operator between parts. It binds closer than the one after it here.
 #[derive(Clone, Copy)]
 pub enum Joint {
     And,
@@ -63,18 +63,18 @@ pub trait ExprLanguage {
     fn is_joint(joint: Joint, token: &Self::Token) -> bool
         ensures { result ≡ is_some (tiers.mark joint (token_of token.now)) };
 
-    /// The tree of a token that is a part of its own. Want of memory is the only error.
+    /// The tree of a token that is a part of its own. Running out of memory is the only error.
     fn leaf(alloc: Global, token: &Self::Token) -> Result<Self::Tree, ReadError>
         requires { opening_in (tiers.opening (token_of token.now)) ≡ Some openings.Leaf }
         ensures { MatchResult result
             (λ tree. leaf_at tiers (token_of token.now) ≡ Some (tree_of tree)) (λ e. e ≡ errors.NoMemory) };
 
-    /// The negation of a part. Want of memory is the only error.
+    /// The negation of a part. Running out of memory is the only error.
     fn negation(alloc: Global, part: Self::Tree) -> Result<Self::Tree, ReadError>
         ensures { MatchResult result
             (λ tree. tree_of tree ≡ tiers.negation (tree_of part)) (λ e. e ≡ errors.NoMemory) };
 
-    /// An expression in brackets. Want of memory is the only error.
+    /// An expression in brackets. Running out of memory is the only error.
     fn bracketed(
         alloc: Global,
         bracket: Self::Bracket,

@@ -11,7 +11,7 @@ use crate::language::{ExprLanguage, Joint, Opening};
 use base_reader::{ReadError, first, inside, refused};
 use std::alloc::Global;
 
-/// An expression: parts with or between them. Its errors are the first fault of the tokens, and want of memory.
+/// An expression: parts with or between them. Its errors are the first fault of the tokens, and out of memory.
 pub fn read_expr<'t, L: ExprLanguage>(
     alloc: Global,
     tokens: &'t [L::Token],
@@ -61,7 +61,7 @@ fn read_below<'t, L: ExprLanguage>(
     }
 }
 
-/// A part without and and or, but for those in brackets. Its errors are the first fault of the tokens, and want of
+/// A part without and and or, except for those in brackets. Its errors are the first fault of the tokens, and want of
 /// memory.
 #[cycle(tiers)]
 pub fn read_part<'t, L: ExprLanguage>(
@@ -91,7 +91,7 @@ pub fn read_part<'t, L: ExprLanguage>(
     }
 }
 
-// What begins a part with the next token, that token, and the tokens behind it.
+// What begins a part with the next token, that token, and the tokens after it.
 fn past_opening<'t, L: ExprLanguage>(
     tokens: &'t [L::Token],
 ) -> Option<(Opening<L::Bracket>, &'t L::Token, &'t [L::Token])>
@@ -107,7 +107,7 @@ fn past_opening<'t, L: ExprLanguage>(
     }
 }
 
-// The tokens behind the operator, where it stands next.
+// The tokens after the operator, where it stands next.
 fn past_joint<'t, L: ExprLanguage>(joint: Joint, tokens: &'t [L::Token]) -> Option<&'t [L::Token]>
     ensures { MatchOption result
         (picked (L.tiers.mark joint) (map L.token_of tokens.now) ≡ None)
@@ -119,7 +119,7 @@ fn past_joint<'t, L: ExprLanguage>(joint: Joint, tokens: &'t [L::Token]) -> Opti
     }
 }
 
-// The tokens behind what closes the bracket, which must stand next.
+// The tokens after what closes the bracket, which must stand next.
 fn after_close<'t, L: ExprLanguage>(
     bracket: L::Bracket,
     tokens: &'t [L::Token],

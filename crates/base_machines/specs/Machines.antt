@@ -3,14 +3,14 @@ use Rattle.std.specs.Prelude.{◌≡◌, Bool, List, [], ◌∷◌, map}
 use Rattle.base_types.specs.Items.{Item, Event, Reset}
 
 -- A machine. X is all that is so in an instant. Which instants there may be in a state, with these values of the
--- inputs, is a relation; the state behind an instant is a function of what was so in it.
+-- inputs, is a relation; the state after an instant is a function of what was so in it.
 pub record Machine (X : Type 0) : Type 1 where
   pub State : Type 0
   pub start : State
   pub instant : State → List Bool → X → Type 0
   pub next : State → List Bool → X → State
 
--- a run from a state on: one instant for each event, from the state behind the one before; a reset leads to the start
+-- a run from a state on: one instant for each event, from the state after the one before; a reset leads to the start
 abbrev pub IsRunFrom : {X : Type 0} → (M : Machine X) → M.State → List Item → List X → Type 0
 IsRunFrom M s [] [] = Unit {0}
 IsRunFrom M s [] (x ∷ xs) = ⊥
@@ -29,7 +29,7 @@ pub record Shows {X V : Type 0} (M : Machine X) (see : X → V) (s : M.State) (i
   pub each_run : (xs : List X) → IsRunFrom M s items xs → seen ≡ map see xs
 
 -- Two machines agree, by a matching of their states and by what counts as the same in an instant: their starts match,
--- and on an event that fits any two instants from matching states are the same, and the states behind them match.
+-- and on an event that fits any two instants from matching states are the same, and the states after them match.
 pub record Agrees {X Y : Type 0} (A : Machine X) (B : Machine Y) (Fits : List Bool → Type 0) (Same : X → Y → Type 0)
     (Match : A.State → B.State → Type 0) : Type 0 where
   pub starts : Match A.start B.start

@@ -20,7 +20,7 @@ optional_or test p q = when test (λ x. mapped Some (p x)) (mapped (λ _. None) 
 abbrev pub may : {T : Type 0} → (T → Option (Unit {0})) → Rule T (Unit {0})
 may test = when test give (give tt)
 
--- a separator and the part behind it, where one begins there, or a last separator, or nothing
+-- a separator and the part after it, where one begins there, or a last separator, or nothing
 abbrev pub trailing : {T X A : Type 0} → (T → Option (Unit {0})) → (T → Option X) → Rule T A → Rule T (Option A)
 trailing separator start p = when separator (λ _. maybe start p) (give None)
 
@@ -29,7 +29,7 @@ abbrev pub adds : Bool → ℕ → ℕ
 adds true room = suc room
 adds false room = room
 
--- the room that is left behind a token that takes some, if there is any
+-- the room that is left after a token that takes some, if there is any
 abbrev pub fits : Bool → ℕ → Option ℕ
 fits true zero = None
 fits true (suc room) = Some room
@@ -40,7 +40,7 @@ abbrev pub entered : {T A : Type 0} → Option ℕ → Rule T A → List T → R
 entered None p tokens rest = too_deep tokens
 entered (Some room) p tokens rest = p rest
 
--- A choice by the next token: the test gives it a value, and the rule for the value goes on behind it. Where the
+-- A choice by the next token: the test gives it a value, and the rule for the value goes on after it. Where the
 -- value takes room and there is none, the token is the place of the fault.
 abbrev pub choose : {T X A : Type 0} → (T → Option X) → (X → Bool) → ℕ → (X → Rule T A) → Rule T A
 choose test deep room p tokens =

@@ -17,6 +17,6 @@ Gives view (Err errors.NoMemory) answer = Unit {0}
 abbrev pub Finds : {T X Y : Type 0} → (X → Y) → Result (X × Bor (List T)) ReadError → Read T Y → Type 0
 Finds view result read = Gives (λ found. (view found.0, found.1.now)) result read
 
--- code that looks whether a test takes the next token: the tokens behind it, or nothing
+-- code that looks whether a test takes the next token: the tokens after it, or nothing
 abbrev pub Passes : {T : Type 0} → (T → Option (Unit {0})) → List T → Option (Bor (List T)) → Type 0
 Passes test tokens result = picked test tokens ≡ option_map (λ rest. (tt, rest.now)) result

@@ -20,7 +20,7 @@ pub record Then {T : Type 0} (L M : List T → Type 0) (tokens : List T) : Type 
   pub first : L front
   pub second : M back
 
--- a token to which the test gives some value, and behind it what the language for that value has
+-- a token to which the test gives some value, and after it what the language for that value has
 pub record Led {T X : Type 0} (test : T → Option X) (L : X → List T → Type 0) (tokens : List T) : Type 0 where
   pub token : T
   pub value : X

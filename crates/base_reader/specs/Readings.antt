@@ -5,7 +5,7 @@ use Rattle.std.specs.Option.{option_map, option_map_or}
 use Rattle.base_reader.specs.declared.faults.Fault.{Fault}
 pub use Rattle.base_reader.specs.Languages.{next_of}
 
--- what reading answers: the value and the tokens behind it, or the first fault
+-- what reading answers: the value and the tokens after it, or the first fault
 abbrev pub Read : Type 0 → Type 0 → Type 0
 Read T A = Result (A × List T) Fault
 
@@ -28,7 +28,7 @@ too_deep tokens = Err (fault_at true tokens)
 abbrev pub give : {T A : Type 0} → A → Rule T A
 give value tokens = Ok (value, tokens)
 
--- go on with the value and the tokens behind it
+-- go on with the value and the tokens after it
 abbrev pub follow : {T A B : Type 0} → Read T A → (A → Rule T B) → Read T B
 follow (Ok found) go = go found.0 found.1
 follow (Err fault) go = Err fault
@@ -49,7 +49,7 @@ lead p q tokens = follow (p tokens) (λ _. q)
 abbrev pub trail : {T A B : Type 0} → Rule T A → Rule T B → Rule T A
 trail p q tokens = follow (p tokens) (λ value. mapped (λ _. value) q)
 
--- the value that the test gives the next token, and the tokens behind it
+-- the value that the test gives the next token, and the tokens after it
 abbrev pub picked : {T X : Type 0} → (T → Option X) → List T → Option (X × List T)
 picked test [] = None
 picked test (token ∷ rest) = option_map (λ value. (value, rest)) (test token)
@@ -79,7 +79,7 @@ optional test p = when test (λ value. mapped Some (p value)) (give None)
 abbrev pub maybe : {T X A : Type 0} → (T → Option X) → Rule T A → Rule T (Option A)
 maybe test p = ahead test (mapped Some p) (give None)
 
--- what is done behind a step that gave this value, or none
+-- what is done after a step that gave this value, or none
 abbrev pub turn : {T A : Type 0} → Rule T (List A) → Option A → Rule T (List A)
 turn more None = give []
 turn more (Some value) = mapped (λ others. value ∷ others) more

@@ -22,7 +22,7 @@ abbrev pub is_deep : Opening → Bool
 is_deep openings.Group = true
 is_deep _ = false
 
--- what stands behind the token that begins an item, where the list in a group is read by the rule given
+-- what comes after the token that begins an item, where the list in a group is read by the rule given
 abbrev pub behind : Opening → Rule Token Plain → Rule Token Plain
 behind openings.Nothing list = give Nothing
 behind openings.Pause list = give Pause

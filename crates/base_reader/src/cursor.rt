@@ -6,7 +6,7 @@ ghost use Rattle.base_reader.specs.Readings.{fault_at, ended};
 
 use crate::faults::Fault;
 
-/// The next token and those behind it, or `None` at the end of the list.
+/// The next token and those after it, or `None` at the end of the list.
 pub fn first<T>(tokens: &[T]) -> Option<(&T, &[T])>
     ensures { MatchOption result (tokens.now ≡ []) (λ found. tokens.now ≡ found.0.now ∷ found.1.now) }
 {

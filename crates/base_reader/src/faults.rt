@@ -9,7 +9,7 @@ use std::alloc::{AllocError, AllocFailed};
 /// whether it is only the nesting that goes too far there.
 #[derive(Clone, Copy, Debug, PartialEq)]
 pub struct Fault {
-    /// With more room the token at the place could stand there.
+    /// With more room the token at the place could are there.
     pub deep: bool,
     /// How many tokens are left from the place on. It is 0 at the end of the list.
     pub left: usize,
@@ -20,7 +20,7 @@ pub struct Fault {
 pub enum ReadError {
     /// The tokens are no member of the language.
     Fault(Fault),
-    /// Want of memory, which no clause ties to a cause.
+    /// Running out of memory, which no clause ties to a cause.
     NoMemory,
 }
 

@@ -39,7 +39,7 @@ enum Statement {
     Sequence(Vec<Statement>),
 }
 
-// What begins an item with the next token, and the tokens behind it.
+// What begins an item with the next token, and the tokens after it.
 fn past_opening(tokens: &[Token]) -> Option<(Opening, &[Token])>
     ensures { MatchOption result
         (picked opening tokens.now ≡ None)
@@ -53,7 +53,7 @@ fn past_opening(tokens: &[Token]) -> Option<(Opening, &[Token])>
     }
 }
 
-// The tokens behind a semicolon, where one stands next.
+// The tokens after a semicolon, where one stands next.
 fn past_semicolon(tokens: &[Token]) -> Option<&[Token]>
     ensures { MatchOption result
         (picked semicolon tokens.now ≡ None)

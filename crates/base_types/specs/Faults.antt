@@ -1,7 +1,7 @@
 -- To believe: counts of faults, as the outside keeps them.
 use Rattle.std.specs.Prelude.{ℕ, ◌+◌, ◌-◌, ◌^◌, ◌≤◌, min}
 
--- one more, but for a count that stands at the greatest u64, which stays there
+-- one more, except for a count that stands at the greatest u64, which stays there
 abbrev pub one_more : ℕ → ℕ
 one_more n = min (n + 1) (2 ^ 64 - 1)
 

@@ -5,8 +5,8 @@ use Rattle.base_types.specs.Faults.{Rose}
 use Rattle.base_types.specs.declared.files.reading.FileFault.{FileFault}
 use Rattle.base_types.specs.declared.files.reading.FileFault.TheVariants.{Failed, TooLong, NoMemory}
 
--- An answer of bytes is within the limit. Where the content is told, it is what the file holds, and the
--- answer "too long" comes only where more than the limit stands there.
+-- An answer of bytes is within the limit. Where the content is reported, it is what the file holds, and the
+-- answer "too long" comes only where more than the limit is there.
 abbrev pub Reads : Option (List ℕ → List ℕ) → List ℕ → ℕ → Result (Vec ℕ Global) FileFault → Type 0
 Reads None name limit (Ok bytes) = length bytes.items ≤ limit
 Reads None name limit (Err fault) = Unit {0}

@@ -1,4 +1,4 @@
--- To believe: a sink before and behind a call, as one value.
+-- To believe: a sink before and after a call, as one value.
 use Rattle.std.specs.Prelude.{◌≡◌, ℕ, List, Option}
 
 -- what a sink tells, and its count of faults

@@ -12,7 +12,7 @@ pub record Kept : Type 0 where
   pub room : ℕ
   pub beyond : ℕ
 
--- the bytes are told as long as no more than the room came
+-- the bytes are reported as long as no more than the room came
 abbrev pub told_of : Kept → Option (List ℕ)
 told_of k = if k.beyond == 0 then Some k.bytes else None
 

@@ -3,7 +3,7 @@ use Rattle.std.specs.Prelude.{⊤, Result, Ok, Err}
 use Rattle.base_types.specs.declared.stop.Stop.{Stop}
 use Rattle.base_types.specs.declared.stop.Stop.TheVariants.{Fault, NoMemory}
 
--- the fault of a call is such; want of memory has no cause
+-- the fault of a call is such; out of memory has no cause
 abbrev pub FaultIs : {F : Type 0} → (F → Type 0) → Stop F → Type 0
 FaultIs P (Fault fault) = P fault
 FaultIs P NoMemory = ⊤

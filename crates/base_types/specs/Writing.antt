@@ -4,7 +4,7 @@ use Rattle.std.specs.Io.KnownBytes as known
 use Rattle.base_types.specs.Faults.{Rose}
 use Rattle.base_types.specs.declared.sinks.writing.SinkFault.{SinkFault}
 
--- the text was appended, where the bytes are told before and after; what was not told stays untold
+-- the text was appended, where the bytes are reported before and after; what was not told stays untold
 abbrev pub Gains : Option (List ℕ) → Option (List ℕ) → List ℕ → Type 0
 Gains None None text = Unit {0}
 Gains None (Some after) text = ⊥

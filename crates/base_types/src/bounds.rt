@@ -28,7 +28,7 @@ impl Limits {
     /// Statements that the expansion of `run` meets.
     pub const STATEMENTS: u64 = 65_536;
 
-    /// Statements that one statement stands in, during the expansion of `run`.
+    /// Statements that one statement is in, during the expansion of `run`.
     pub const DEPTH: u64 = 2_048;
 
     /// Signals of a program, interface and local.

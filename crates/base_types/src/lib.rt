@@ -2,9 +2,9 @@
 //!
 //! Places in a source (`Span`), typed indices, names as bytes (`Text`), sets of completion codes
 //! (`CodeSet`), what a program says of its signals (`SignalInfo`, `InputRelation`), the stated limits
-//! (`Limits`), want of memory (`NoMemory`) and other early ends (`Stop`), draws from a start number
+//! (`Limits`), out of memory (`NoMemory`) and other early ends (`Stop`), draws from a start number
 //! (`Draw`), and what is read and written: `Files` and `Sink`, over the disk and standard output, and
-//! in memory, and bytes behind a text (`put`). Completion codes are those of Berry, "The Constructive
+//! in memory, and bytes after a text (`put`). Completion codes are those of Berry, "The Constructive
 //! Semantics of Pure Esterel": 0 is termination, 1 a pause, and k of at least 2 leaves the trap that is
 //! k - 2 traps further out.
 #![tactic(auto)]

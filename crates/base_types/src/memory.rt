@@ -1,8 +1,8 @@
-// Want of memory, the one answer that no clause ties to a cause.
+// Running out of memory, the one answer that no clause ties to a cause.
 
 use std::alloc::{AllocError, AllocFailed};
 
-/// Want of memory. It may come at any moment of a call that allocates, and is merged with no
+/// Running out of memory. It may come at any moment of a call that allocates, and is merged with no
 /// other answer.
 #[derive(Clone, Copy, Debug)]
 pub struct NoMemory;

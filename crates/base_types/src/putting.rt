@@ -1,11 +1,11 @@
-// Bytes and numbers behind a text.
+// Bytes and numbers after a text.
 
 ghost use Rattle.std.specs.Prelude.{◌≡◌, ◌++◌, decimal, OnOk};
 
 use crate::memory::NoMemory;
 use itoa::Buffer;
 
-/// Puts some bytes behind a text. Want of memory is the only error, here and below.
+/// Puts some bytes after a text. Running out of memory is the only error, here and below.
 pub fn put(text: &mut Vec<u8>, bytes: &[u8]) -> Result<(), NoMemory>
     ensures { OnOk result (text.new.items ≡ text.old.items ++ bytes.now) }
 {
@@ -13,7 +13,7 @@ pub fn put(text: &mut Vec<u8>, bytes: &[u8]) -> Result<(), NoMemory>
     Ok(())
 }
 
-/// Puts some bytes behind a text, and a decimal number behind them.
+/// Puts some bytes after a text, and a decimal number after them.
 pub fn put_number(text: &mut Vec<u8>, mark: &[u8], number: usize) -> Result<(), NoMemory>
     ensures { OnOk result (text.new.items ≡ text.old.items ++ (mark.now ++ decimal number)) }
 {

@@ -1,4 +1,4 @@
-// Why a call ends early: by a fault of its own, or for want of memory.
+// Why a call ends early: by a fault of its own, or because memory ran out.
 
 ghost use Rattle.std.specs.Prelude.{◌≡◌};
 ghost use Rattle.base_types.specs.declared.stop.Stop.TheVariants.{NoMemory as lacks_memory};
@@ -6,13 +6,13 @@ ghost use Rattle.base_types.specs.declared.stop.Stop.TheVariants.{NoMemory as la
 use crate::memory::NoMemory;
 use std::alloc::{AllocError, AllocFailed};
 
-/// Why a call was not done, where its own faults are those of a type: `NoMemory` is want of memory, which no clause
+/// Why a call was not done, where its own faults are those of a type: `NoMemory` is out of memory, which no clause
 /// ties to a cause.
 #[derive(Drop)]
 pub enum Stop<F> {
     /// The call has this fault.
     Fault(F),
-    /// Want of memory.
+    /// Running out of memory.
     NoMemory,
 }
 

@@ -21,7 +21,7 @@ impl Model for Text {
 }
 
 impl Text {
-    /// A text with these bytes. Its only error is want of memory.
+    /// A text with these bytes. Its only error is out of memory.
     pub fn from_bytes(alloc: Global, bytes: &[u8]) -> Result<Text, NoMemory>
         ensures { IfOk result (λ t. t ≡ bytes.now) }
     {

@@ -24,7 +24,7 @@ pub record SameLatches (circuit : Circuit) (latches kept : List Bool) : Type 0 w
 
 -- A netlist is that of a circuit. It has the circuit's name and inputs, and its outputs have the words of the circuit's
 -- outputs, each in their order; no gate carries a wire. From the same values of the latches on, in their order, the
--- circuit follows it: both have an instant on each event, in any two the same is shown, and behind them the latches
+-- circuit follows it: both have an instant on each event, in any two the same is shown, and after them the latches
 -- have the same values again, as at the start.
 pub record IsNetOf (circuit : Circuit) (net : Netlist) : Type 0 where
   pub name : net.name ≡ circuit.name

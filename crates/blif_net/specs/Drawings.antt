@@ -4,7 +4,7 @@ use Rattle.base_types.specs.declared.indices.NetId.{NetId}
 use Rattle.net_ir.specs.declared.netlist.Gate.{Gate}
 use Rattle.net_ir.specs.Gates.{ReadsLower, carried, gate_values, value_in}
 
--- gates behind so many inputs and latches: they read lower nets, and none carries a wire
+-- gates after so many inputs and latches: they read lower nets, and none carries a wire
 pub record IsDrawing (first : ℕ) (gates : List Gate) : Type 0 where
   pub few : first + length gates ≤ 2 ^ 32
   pub reads_lower : ReadsLower first gates

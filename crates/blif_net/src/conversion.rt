@@ -24,7 +24,7 @@ use net_ir::Net;
 use std::alloc::Global;
 
 /// The netlist of a circuit that some text describes, which shows over all items what the circuit shows. The fault is
-/// the circuit's first one, in the order of `CircuitFault`; the only other error is want of memory.
+/// the circuit's first one, in the order of `CircuitFault`; the only other error is out of memory.
 pub fn net_of_circuit(alloc: Global, blif: &Blif) -> Result<Net, Stop<CircuitFault>>
     requires { IsDescribed (plain_circuit blif.now) }
     ensures net { IfOk result (λ net. IsNetOf (plain_circuit blif.now) (netlist_of net)) }

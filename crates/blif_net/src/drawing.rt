@@ -26,7 +26,7 @@ pub(crate) struct Drawing {
     pub nets: Vec<NetId>,
 }
 
-/// The tables drawn in this order, in which each one stands behind those that it reads.
+/// The tables drawn in this order, in which each one comes after those that it reads.
 pub(crate) fn drawn_tables(
     alloc: Global,
     blif: &Blif,

@@ -11,7 +11,7 @@ pub enum CircuitFault {
     Model(Text),
     /// The first input whose name is none.
     Input(Text),
-    /// The first output that is neither such a name, of no input, nor the name of an input with `.out` behind it.
+    /// The first output that is neither such a name, of no input, nor the name of an input with `.out` after it.
     Output(Text),
     /// The first output that stands a second time.
     Again(Text),

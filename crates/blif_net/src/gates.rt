@@ -1,4 +1,4 @@
-// Gates one behind another, none of which carries a wire.
+// Gates one after another, none of which carries a wire.
 
 ghost use Rattle.std.specs.Prelude.{◌≡◌, ◌+◌, ◌<◌, ◌≤◌, ◌^◌, true, false, not, ◌&&◌, ◌||◌, Option, Some, length};
 ghost use Rattle.std.specs.Prelude.{IfOk, OnOk};

@@ -86,7 +86,7 @@ fn check_outputs(
     Ok(())
 }
 
-// Whether a word is that of an output: a name that no input has, or an input's name with a mark behind it.
+// Whether a word is that of an output: a name that no input has, or an input's name with a mark after it.
 fn has_name(inputs: &[Text], slots: &IndexSet<&[u8]>, word: &[u8]) -> bool
     requires slots { (others : List (List ℕ)) × (map (λ k. k.now) slots.now.keys ≡ inputs.now ++ others) }
     requires inputs { All (λ name. IsTrue (is_name name)) inputs.now }

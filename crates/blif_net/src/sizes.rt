@@ -21,7 +21,7 @@ pub(crate) fn has_few_nets(blif: &Blif) -> bool
     }
 }
 
-// What is left behind the inputs, the latches, and the net that is never true.
+// What is left after the inputs, the latches, and the net that is never true.
 fn room_behind_names(blif: &Blif) -> Option<u64>
     ensures { Leaves (2 ^ 32) (length blif.now.inputs.items + length blif.now.latches.items + 1) result }
 {
@@ -32,7 +32,7 @@ fn room_behind_names(blif: &Blif) -> Option<u64>
         .checked_sub(1)
 }
 
-// What is left of this room behind the nets of tables.
+// What is left of this room after the nets of tables.
 fn room_behind_tables(room: u64, tables: &[Table]) -> Option<u64>
     ensures { Leaves room (sum_by (λ t. table_nets t.rows) (map plain_table tables.now)) result }
 {
@@ -43,14 +43,14 @@ fn room_behind_tables(room: u64, tables: &[Table]) -> Option<u64>
     Some(left)
 }
 
-// What is left of this room behind the nets of a table with these rows.
+// What is left of this room after the nets of a table with these rows.
 fn room_behind_table(room: u64, rows: &[Row]) -> Option<u64>
     ensures { Leaves room (table_nets (map plain_row rows.now)) result }
 {
     room_behind_rows(room, rows)?.checked_sub(1)
 }
 
-// What is left of this room behind the nets of rows.
+// What is left of this room after the nets of rows.
 fn room_behind_rows(room: u64, rows: &[Row]) -> Option<u64>
     ensures { Leaves room (sum_by row_nets (map plain_row rows.now)) result }
 {
@@ -61,7 +61,7 @@ fn room_behind_rows(room: u64, rows: &[Row]) -> Option<u64>
     Some(left)
 }
 
-// What is left of this room behind the nets of a row of so many cells.
+// What is left of this room after the nets of a row of so many cells.
 fn room_behind_cells(room: u64, cells: u64) -> Option<u64>
     ensures { Leaves room (2 * cells + 2) result }
 {

@@ -1,4 +1,4 @@
--- Inner: what the statements behind some place describe, with the rows that stand in front of all others.
+-- Inner: what the statements after some place describe, with the rows that are in front of all others.
 use Rattle.std.specs.Prelude.{ℕ, List, [], ◌∷◌, ◌++◌, map, reverse}
 use Rattle.blif_read.specs.declared.draft.Draft.{Draft}
 use Rattle.blif_text.specs.Statements.{Statement, Model, Inputs, Outputs, Latch, Names, Row, End}
@@ -29,7 +29,7 @@ in_front (Names inputs output) p =
 in_front (Row cells) p = record p { rows = cells ∷ p.rows }
 in_front End p = record p { rows = [] }
 
--- statements in front of what the statements behind them describe
+-- statements in front of what the statements after them describe
 abbrev pub behind : List Statement → Parts → Parts
 behind [] p = p
 behind (s ∷ ss) p = in_front s (behind ss p)

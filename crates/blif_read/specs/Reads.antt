@@ -12,7 +12,7 @@ use Rattle.blif_text.specs.Plain.{plain_circuit}
 abbrev pub ReadsAs : List ℕ → Blif → Type 0
 ReadsAs text blif = (length text ≤ TEXT_BYTES) × (reading text ≡ Ok (plain_circuit blif))
 
--- the text is too long, or this is its first fault; want of memory has no cause in the text
+-- the text is too long, or this is its first fault; out of memory has no cause in the text
 abbrev pub ReadsFault : List ℕ → BlifError → Type 0
 ReadsFault text TooLong = TEXT_BYTES < length text
 ReadsFault text (answers.Line number) = (length text ≤ TEXT_BYTES) × (reading text ≡ Err (Line number))

@@ -29,7 +29,7 @@ pub record IsNextLine (old new : Rest) (line : Line) : Type 0 where
   pub took : Took old new
   pub lines : lines_left old.number old.bytes.now ≡ plain_line line ∷ lines_left new.number new.bytes.now
 
--- a line that begins with these bytes, and goes on in the line behind them
+-- a line that begins with these bytes, and goes on in the line after them
 abbrev pub continued : ℕ → List ℕ → List lines.Line → List lines.Line
 continued n front [] = record { number = n; bytes = front } ∷ []
 continued n front (next ∷ lines) = record { number = n; bytes = front ++ next.bytes } ∷ lines

@@ -12,8 +12,8 @@ use blif_text::{Blif, BlifLatch, Row, Table};
 use std::alloc::Global;
 use std::mem;
 
-// What the statements behind some place describe, each list from its last element to its first. A table's
-// rows stand behind its names, so the rows of the table in front are there before the table is.
+// What the statements after some place describe, each list from its last element to its first. A table's
+// rows come after its names, so the rows of the table in front are there before the table is.
 #[derive(Drop)]
 struct Draft {
     name: Text,

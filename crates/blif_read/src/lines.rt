@@ -85,7 +85,7 @@ fn joined_line<'a>(alloc: Global, first: &[u8], rest: &mut Rest<'a>) -> Result<V
     }
 }
 
-// Whether a `\` joins a line to the next one, where `behind` is the text behind it.
+// Whether a `\` joins a line to the next one, where `behind` is the text after it.
 fn is_continued(line: &[u8], behind: &[u8]) -> bool
     ensures { result ≡ (ends_with 92 line.now && not (is_empty behind.now)) }
 {
@@ -108,7 +108,7 @@ fn take_line<'a>(rest: &mut Rest<'a>) -> &'a [u8]
     uncommented(line)
 }
 
-// The first line of a text that is not empty, and the text behind it.
+// The first line of a text that is not empty, and the text after it.
 fn first_line(text: &[u8]) -> (&[u8], &[u8])
     requires { 0 < length text.now }
     ensures lines { text_lines text.now ≡ result.0.now ∷ text_lines result.1.now }

@@ -67,7 +67,7 @@ fn read_statements(alloc: Global, text: &[u8]) -> Result<Vec<Statement>, BlifErr
     }
 }
 
-// Adds what a line says to the statements before it. Says whether the line may stand there.
+// Adds what a line says to the statements before it. Says whether the line may be there.
 fn take_line(
     alloc: Global,
     line: &Line<'_>,
@@ -97,7 +97,7 @@ fn take_line(
     Ok(put(statements, said)?)
 }
 
-// Adds what a line says, where it says something that may stand there.
+// Adds what a line says, where it says something that may be there.
 fn put(statements: &mut Vec<Statement>, said: Option<Statement>) -> Result<bool, NoMemory>
     ensures taken { IfOk result
         (λ taken. taken
@@ -118,7 +118,7 @@ fn put(statements: &mut Vec<Statement>, said: Option<Statement>) -> Result<bool,
     Ok(true)
 }
 
-// Whether a statement may stand right behind another, or first.
+// Whether a statement may stand right after another, or first.
 fn may_follow(above: Option<&Statement>, next: &Statement) -> bool
     ensures { result ≡ may_follow (option_map plain_statement (option_copied above.entry)) (plain_statement next.now) }
 {

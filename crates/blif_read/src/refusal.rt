@@ -14,7 +14,7 @@ pub enum BlifError {
     #[error("the text is too long")]
     TooLong,
     /// The first line that is no line of the profile in its place, counted from 1. A missing `.end` is
-    /// refused at the number behind that of the last line.
+    /// refused at the number after that of the last line.
     #[error("line {0} is not in the profile")]
     Line(u32),
     /// The first name in the text that is driven a second time.
@@ -23,7 +23,7 @@ pub enum BlifError {
     /// The first name in the text that is used and not driven.
     #[error("a name has no driver")]
     NoDriver(Text),
-    /// Want of memory.
+    /// Running out of memory.
     #[error("no memory")]
     NoMemory,
 }

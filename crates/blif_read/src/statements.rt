@@ -51,7 +51,7 @@ pub fn line_statement(alloc: Global, words: &[&[u8]]) -> Result<Option<Statement
     }
 }
 
-// The words behind `.model`: at most one name.
+// The words after `.model`: at most one name.
 fn model(alloc: Global, words: &[&[u8]]) -> Result<Option<Statement>, NoMemory>
     ensures { IfOk result (λ s. option_map plain_statement s ≡ model_of (map (λ w. w.now) words.now)) }
 {
@@ -62,7 +62,7 @@ fn model(alloc: Global, words: &[&[u8]]) -> Result<Option<Statement>, NoMemory>
     })
 }
 
-// The words behind `.latch`: two names and the initial value.
+// The words after `.latch`: two names and the initial value.
 fn latch(alloc: Global, words: &[&[u8]]) -> Result<Option<Statement>, NoMemory>
     ensures { IfOk result (λ s. option_map plain_statement s ≡ latch_of (map (λ w. w.now) words.now)) }
 {
@@ -91,7 +91,7 @@ fn bit(word: &[u8]) -> Option<bool>
     }
 }
 
-// The words behind `.names`: at most eight names, and the output.
+// The words after `.names`: at most eight names, and the output.
 fn names(alloc: Global, words: &[&[u8]]) -> Result<Option<Statement>, NoMemory>
     ensures { IfOk result (λ s. option_map plain_statement s ≡ names_of (map (λ w. w.now) words.now)) }
 {

@@ -21,7 +21,7 @@ pub fn words<'a>(alloc: Global, line: &'a [u8]) -> Result<Vec<&'a [u8]>, NoMemor
     Ok(found)
 }
 
-// The first word, and what stands behind it.
+// The first word, and what comes after it.
 fn first_word(line: &[u8]) -> Option<(&[u8], &[u8])>
     ensures words { MatchOption result (words line.now ≡ []) (λ w. words line.now ≡ w.0.now ∷ words w.1.now) }
     ensures shorter { MatchOption result (words line.now ≡ []) (λ w. length w.1.now < length line.now) }

@@ -26,7 +26,7 @@ IsLoop circuit names = equations.IsEquationLoop (equations_of circuit) names
 abbrev pub HasNoLoop : Circuit → Type 0
 HasNoLoop circuit = equations.HasNoEquationLoop (equations_of circuit)
 
--- the names are a combinational cycle; want of memory has no cause in the circuit
+-- the names are a combinational cycle; out of memory has no cause in the circuit
 abbrev pub LoopFault : Circuit → RunError → Type 0
 LoopFault circuit (Loop names) = IsLoop circuit names.items
 LoopFault circuit NoMemory = ⊤

@@ -9,7 +9,7 @@ pub record Runner : Type 0 where
   pub latches : List Bool
   pub outputs : List Bool
 
--- before the first event and behind a reset each latch has its initial value, and every output is false
+-- before the first event and after a reset each latch has its initial value, and every output is false
 pub record IsFresh (r : Runner) : Type 0 where
   pub latches_initial : r.latches ≡ circuit_latches r.circuit
   pub outputs_false : r.outputs ≡ replicate (length r.circuit.outputs) false

@@ -25,7 +25,7 @@ pub record IsCircuitOf (net : Netlist) (circuit : Circuit) : Type 0 where
   pub reads : reading text ≡ Ok circuit
   pub acyclic : HasNoLoop circuit
 
--- an error of the reader, but for the limit on the length, as a fault of the language
+-- an error of the reader, except for the limit on the length, as a fault of the language
 abbrev pub IsStopOf : BlifError → Stop BlifTextFault → Type 0
 IsStopOf answers.TooLong stop = ⊥
 IsStopOf (answers.Line number) stop = stop ≡ Fault (Line number)

@@ -20,7 +20,7 @@ use net_ir::{Net, look_at_wires};
 use run_over_traces::{Interface, Language};
 use std::alloc::Global;
 
-/// The first fault of a BLIF text that is to be run.
+/// The first fault of a BLIF text that must be run.
 #[derive(Debug, Drop)]
 pub enum BlifTextFault {
     /// The first line, counted from 1, that is no line of the profile in its place.
@@ -33,7 +33,7 @@ pub enum BlifTextFault {
     Loop(Vec<Text>),
 }
 
-/// The language of BLIF texts, whose meaning stands in `blif_text`, after Berkeley's BLIF.
+/// The language of BLIF texts, whose meaning is in `blif_text`, after Berkeley's BLIF.
 pub struct BlifTexts {}
 
 impl Language for BlifTexts {

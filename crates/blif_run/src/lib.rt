@@ -2,8 +2,8 @@
 //!
 //! A circuit of tables and latches has a run over events and resets wherever no table needs its own output
 //! in the same instant. `CircuitRun::new` looks for such a combinational cycle, and else makes a plan of
-//! `run_steps` of the tables, each one behind those that it reads; `react` makes one reaction. What an instant
-//! and a run of a circuit are stands in `blif_text`, after Berkeley's BLIF. `BlifRunner` is the same runner as a
+//! `run_steps` of the tables, each one after those that it reads; `react` makes one reaction. What an instant
+//! and a run of a circuit are is in `blif_text`, after Berkeley's BLIF. `BlifRunner` is the same runner as a
 //! machine that a trace drives, and `BlifTexts` is BLIF as a language of texts that are run over traces.
 #![tactic(auto)]
 

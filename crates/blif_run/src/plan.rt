@@ -16,7 +16,7 @@ use std::alloc::Global;
 
 #[derive(Drop)]
 pub struct CircuitPlan {
-    // The tables, each one behind those that it reads.
+    // The tables, each one after those that it reads.
     pub tables: Plan,
     // For each latch the slot whose value it gets.
     pub sources: Vec<usize>,
@@ -70,7 +70,7 @@ fn ordered_plan(
     })
 }
 
-/// The slots of the names of a circuit. Its only error is want of memory.
+/// The slots of the names of a circuit. Its only error is out of memory.
 pub fn resolved_names<'a>(alloc: Global, blif: &'a Blif) -> Result<Resolved<'a>, NoMemory>
     requires { IsDescribed (plain_circuit blif.now) }
     ensures { IfOk result
@@ -87,7 +87,7 @@ pub fn resolved_names<'a>(alloc: Global, blif: &'a Blif) -> Result<Resolved<'a>,
     })
 }
 
-/// The tables in an order in which each one stands behind those that it reads, or a combinational cycle.
+/// The tables in an order in which each one comes after those that it reads, or a combinational cycle.
 pub fn table_order(
     alloc: Global,
     blif: &Blif,

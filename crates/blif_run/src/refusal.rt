@@ -14,7 +14,7 @@ pub enum RunError {
     /// first is an input of the table that drives the last.
     #[error("tables form a loop")]
     Loop(Vec<Text>),
-    /// Want of memory.
+    /// Running out of memory.
     #[error("no memory")]
     NoMemory,
 }

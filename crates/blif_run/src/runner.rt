@@ -39,7 +39,7 @@ impl Model for CircuitRun {
 impl CircuitRun {
     /// A runner of a circuit before its first event. The circuit is one that some text describes.
     ///
-    /// The errors are a combinational cycle, where there is one, and want of memory.
+    /// The errors are a combinational cycle, where there is one, and out of memory.
     pub fn new(alloc: Global, blif: Blif) -> Result<CircuitRun, RunError>
         requires { IsDescribed (plain_circuit blif) }
         ensures circuit { IfOk result (λ r. r.circuit ≡ plain_circuit blif) }
@@ -60,7 +60,7 @@ impl CircuitRun {
     }
 
     /// The values of the outputs in the last reaction, in their order; all false before the first one and
-    /// behind a reset. It takes no memory.
+    /// after a reset. It takes no memory.
     pub fn outputs(&self) -> &[bool]
         ensures { result.now ≡ self.now.outputs }
     {

@@ -40,7 +40,7 @@ impl Model for BlifRunner {
 impl BlifRunner {
     /// A runner of a circuit before its first event. The circuit is one that some text describes.
     ///
-    /// The errors are a combinational cycle, where there is one, and want of memory.
+    /// The errors are a combinational cycle, where there is one, and out of memory.
     pub fn new(alloc: Global, blif: Blif) -> Result<BlifRunner, RunError>
         requires { IsDescribed (plain_circuit blif) }
         ensures circuit { IfOk result (λ r. r.circuit ≡ plain_circuit blif) }
@@ -54,8 +54,8 @@ impl BlifRunner {
         }
     }
 
-    /// The interface of the text itself: its inputs, and its outputs but for a last `_paused`; no relations.
-    /// Its only error is want of memory.
+    /// The interface of the text itself: its inputs, and its outputs except for a last `_paused`; no relations.
+    /// Its only error is out of memory.
     pub fn interface(&self, alloc: Global) -> Result<Interface, NoMemory>
         ensures given { IfOk result (λ i. i.given.items ≡ self.now.circuit.inputs) }
         ensures outgoing { IfOk result (λ i. i.outgoing.items ≡ listed_names self.now.circuit.outputs) }

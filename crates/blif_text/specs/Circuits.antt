@@ -44,13 +44,13 @@ abbrev pub latches_in : Statement → List CircuitLatch
 latches_in (Latch source target init) = record { source = source; target = target; init = init } ∷ []
 latches_in others = []
 
--- the rows that stand in front of all other statements
+-- the rows that are in front of all other statements
 abbrev pub leading_rows : List Statement → List (List Cell)
 leading_rows [] = []
 leading_rows (Row cells ∷ statements) = cells ∷ leading_rows statements
 leading_rows (other ∷ statements) = []
 
--- a table has the rows that stand right behind its names
+-- a table has the rows that stand right after its names
 abbrev pub tables_of : List Statement → List Table
 tables_of [] = []
 tables_of (Names inputs output ∷ statements) =

@@ -1,5 +1,5 @@
 -- To believe: the names of a program's outputs in the BLIF text that is written of it. An output whose name is an
--- input's too is written `NAME.out`; `_paused` is the output behind all others.
+-- input's too is written `NAME.out`; `_paused` is the output after all others.
 use Rattle.std.specs.Prelude.{ℕ, if◌then◌else◌, List, ◌++◌, codes}
 use Rattle.net_ir.specs.NameLists.{is_among}
 

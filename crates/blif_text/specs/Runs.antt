@@ -32,12 +32,12 @@ pub record IsInstant (circuit : Circuit) (latches inputs : List Bool) (v : List 
   pub latches_kept : map (λ l. v l.target) circuit.latches ≡ latches
   pub tables_met : AllByRecursion (λ t. v t.output ≡ table_value t v) circuit.tables
 
--- the values of the latches before the first event, and behind a reset
+-- the values of the latches before the first event, and after a reset
 abbrev pub circuit_latches : Circuit → List Bool
 circuit_latches circuit = map (λ l. l.init) circuit.latches
 
 -- The machine of a circuit: its states are the values of the latches, in an instant a valuation meets every table's
--- equation, and behind it each latch has the value that its source had.
+-- equation, and after it each latch has the value that its source had.
 abbrev pub circuit_machine : Circuit → Machine (List ℕ → Bool)
 circuit_machine circuit = record {
   State = List Bool;

@@ -1,4 +1,4 @@
--- To believe: the statements of the BLIF profile: what each kind of line says, and which may stand after which.
+-- To believe: the statements of the BLIF profile: what each kind of line says, and which may come after which.
 -- The form is Berkeley's BLIF, cut down to one model of latches with an initial value and tables of
 -- at most eight inputs.
 use Rattle.std.specs.Prelude.{◌==◌, ℕ, ◌+◌, Bool, true, false, not, if◌then◌else◌, nat_le, List, [], ◌∷◌, length}
@@ -108,14 +108,14 @@ abbrev pub is_end : Statement → Bool
 is_end End = true
 is_end others = false
 
--- a row stands in a table of its width: behind the table's names, or behind another of its rows
+-- a row is in a table of its width: after the table's names, or after another of its rows
 abbrev pub row_may_follow : Statement → List Cell → Bool
 row_may_follow (Names inputs output) cells = length cells == length inputs
 row_may_follow (Row above) cells = length cells == length above
 row_may_follow others cells = false
 
--- Whether a statement may stand right behind another, or first: the model's name comes first, and
--- nothing comes behind `.end`.
+-- Whether a statement may stand right after another, or first: the model's name comes first, and
+-- nothing comes after `.end`.
 abbrev pub may_follow : Option Statement → Statement → Bool
 may_follow None (Model name) = true
 may_follow None others = false

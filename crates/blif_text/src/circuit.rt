@@ -24,7 +24,7 @@ pub struct Table {
     pub rows: Vec<Row>,
 }
 
-/// A latch. Its name `to` has the value `init` at the first event and at the first one behind a reset,
+/// A latch. Its name `to` has the value `init` at the first event and at the first one after a reset,
 /// and at every other event the value that the name `from` had one event before.
 #[derive(Drop)]
 pub struct BlifLatch {

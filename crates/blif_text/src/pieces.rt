@@ -20,13 +20,13 @@ pub struct BlifWriter {
     pub(crate) given: Vec<bool>,
 }
 
-/// The BLIF text of a net: one line feed behind each line, and one space between words.
+/// The BLIF text of a net: one line feed after each line, and one space between words.
 ///
 /// The net's inputs have their own names, and so do its outputs, but an output whose name is an input's
 /// too is written `NAME.out`; the last output is `_paused`. Input J is also `_iJ`, latch J is `_sJ`, and
 /// gate K is `_wN` where it carries wire N, else `_gK`. The lines are those of Berkeley's BLIF: the model,
 /// the inputs, the outputs, the latches, and then a table for each input, each gate, each output and
-/// `_paused`. The time and the memory that it takes are linear in the length of the text; want of memory
+/// `_paused`. The time and the memory that it takes are linear in the length of the text; out of memory
 /// is its only error.
 pub fn write_blif(alloc: Global, net: &Net) -> Result<Vec<u8>, NoMemory>
     ensures text { IfOk result (λ t. t.items ≡ written (netlist_of net.now)) }

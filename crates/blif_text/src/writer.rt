@@ -1,4 +1,4 @@
-// The BLIF text of a net, line by line. Want of memory is the only error.
+// The BLIF text of a net, line by line. Running out of memory is the only error.
 
 ghost use Rattle.std.specs.Prelude.{◌≡◌, ℕ, ◌+◌, ◌<◌, ◌≤◌, List, [], ◌∷◌, ◌++◌};
 ghost use Rattle.std.specs.Prelude.{map, flat_map, codes, OnOk, if◌then◌else◌};
@@ -110,7 +110,7 @@ pub fn put_gate(text: &mut Vec<u8>, net: &Net, k: usize, gate: Gate) -> Result<(
     put(text, rows(gate.op))
 }
 
-// The names of the nets that a gate reads, each behind a space.
+// The names of the nets that a gate reads, each after a space.
 fn put_operands(text: &mut Vec<u8>, net: &Net, op: Op) -> Result<(), NoMemory>
     requires { operand_end op ≤ net_count (netlist_of net.now) }
     ensures { OnOk result (text.new.items ≡ text.old.items
@@ -131,7 +131,7 @@ fn put_operands(text: &mut Vec<u8>, net: &Net, op: Op) -> Result<(), NoMemory>
     }
 }
 
-// The line feed behind a gate's names, and the rows of its table.
+// The line feed after a gate's names, and the rows of its table.
 fn rows(op: Op) -> &'static [u8]
     ensures { result.now ≡ 10 ∷ text_of (map Row (op_rows op)) }
 {

@@ -26,7 +26,7 @@ pub record IsTextIn {P : Type 0} (reads : List ℕ → P → Type 0) (bytes : Li
   pub within : length bytes ≤ TEXT_BYTES
   pub read : reads bytes program
 
--- the first fault of a text is one of its language, which is told so
+-- the first fault of a text is one of its language, which is reported so
 abbrev pub IsFaultIn : {F : Type 0} → (List ℕ → F → Type 0) → (F → TextFault → Type 0) → List ℕ → TextFault → Type 0
 IsFaultIn {F} faulty told bytes fault = (own : F) × faulty bytes own × told own fault
 
@@ -44,7 +44,7 @@ TextHasFault C bytes fault = IsFaultIn programs.IsTextFault (λ own told. told �
 TextHasFault Guard bytes fault = IsFaultIn guarded_texts.IsTextFault (λ own told. told ≡ texts.Guard own) bytes fault
 TextHasFault Verilog bytes fault = IsFaultIn module_texts.IsTextFault (λ own told. told ≡ texts.Verilog own) bytes fault
 
--- a text is run over a trace, by its own meaning alone; behind the lines of a guarded text stands that of its count
+-- a text is run over a trace, by its own meaning alone; after the lines of a guarded text stands that of its count
 abbrev pub RunsBy : Via → (bytes trace : List ℕ) → SinkChange → Result (Unit {0}) RunFault → Type 0
 RunsBy Blif bytes trace s result =
     RunsIn ReadsCircuit (λ c. c.inputs) (λ c. listed_names c.outputs) circuit_shows bytes trace s result

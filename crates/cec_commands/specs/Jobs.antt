@@ -40,7 +40,7 @@ pub data Request : Type 0 where
 abbrev pub word_at : List (List ℕ) → ℕ → List ℕ
 word_at words at = slice_index_or words at []
 
--- the value of an option, which may stand in a word behind its name
+-- the value of an option, which may be in a word after its name
 abbrev pub value_in : List (List ℕ) → Value → List ℕ
 value_in words v = drop v.start (word_at words v.word)
 
@@ -55,7 +55,7 @@ form_by vias.C encode = forms.C
 form_by vias.Guard encode = forms.Guarded
 form_by vias.Verilog encode = forms.Verilog
 
--- the form of a C text, by whether it is to be guarded
+-- the form of a C text, by whether it must be guarded
 abbrev pub c_form : Bool → TextForm
 c_form guard = if guard then forms.Guarded else forms.C
 

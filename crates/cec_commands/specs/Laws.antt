@@ -14,7 +14,7 @@ use Rattle.cec_compile.specs.Refusals.{IsRefused}
 use Rattle.cec_compile.specs.Sources.{IsSource}
 use Rattle.cec_commands.specs.TriRuns.{event_count}
 
--- A source that compiles has no cause of a refusal; want of memory needs none.
+-- A source that compiles has no cause of a refusal; out of memory needs none.
 abbrev pub CompilingSourcesAreNotRefused : Type 0
 CompilingSourcesAreNotRefused =
     (main : Option (List ℕ)) (bytes : List ℕ) (refusal : Refusal) →

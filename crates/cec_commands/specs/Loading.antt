@@ -60,7 +60,7 @@ pub record CountsMore {S : Type 0} (shows : S → List Item → List ShownAnswer
 abbrev pub CountsNet : Netlist → List Item → Counts → Type 0
 CountsNet net items c = CountsOf (map shown_answer (net_run net items)) c
 
--- the state behind some drawn events
+-- the state after some drawn events
 abbrev pub drawn_state : ℕ → ℕ → ℕ
 drawn_state zero x = x
 drawn_state (suc n) x = drawn_state n (state_after 8 x)

@@ -42,6 +42,6 @@ pub record IsSummary (bytes : List ℕ) (state instants : ℕ) (text : List ℕ)
   pub constructive : run_of program (drawn_items instants state) ≡ Some answers
   pub numbers : text ≡ summary_text instants answers
 
--- the state of the draws behind those of a generated source
+-- the state of the draws after those of a generated source
 abbrev pub state_behind : (start branches : ℕ) → ℕ
 state_behind start branches = state_after (3 * branches) (first_state start)

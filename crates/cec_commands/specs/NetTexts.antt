@@ -24,7 +24,7 @@ IsWritten C text net = programs.IsWritten text net
 IsWritten Guarded text net = guarded.Means text net
 IsWritten Verilog text net = modules.IsWritten text net
 
--- how a run over a trace ends of the text of a form that is written of a net: what the net shows is written, and behind
+-- how a run over a trace ends of the text of a form that is written of a net: what the net shows is written, and after
 -- it the line of the count, if the text is guarded
 abbrev pub RunsText : TextForm → List ℕ → List (List ℕ) → Netlist → Reading → SinkChange
     → Result (Unit {0}) RunFault → Type 0

@@ -77,7 +77,7 @@ abbrev pub AgreesOnFile : Content → List ℕ → (Outcome → List ℕ → Typ
 AgreesOnFile content name On (FileFault First) = ⊤
 AgreesOnFile content name On others = Holds content name (On others)
 
--- the same where a trace is read behind it, which may be too long
+-- the same where a trace is read after it, which may be too long
 abbrev pub AgreesOnTwo : Content → (name trace : List ℕ) → (Outcome → List ℕ → Type 0) → Outcome → Type 0
 AgreesOnTwo content name trace On (FileFault First) = ⊤
 AgreesOnTwo content name trace On (Limit limits.Trace) = Holds content name (On (Limit limits.Trace))
@@ -141,7 +141,7 @@ OutcomeLeavesText IsText s outcome = texts.LeavesText IsText s (written_of outco
 abbrev pub OutcomeLeavesPieces : (List ℕ → Type 0) → SinkChange → Outcome → Type 0
 OutcomeLeavesPieces IsText s outcome = texts.LeavesPieces IsText s (written_of outcome)
 
--- netlists are written piece by piece, what is told of a graph as a whole
+-- netlists are written piece by piece, what is reported of a graph as a whole
 abbrev pub LeavesAnswer : Task → (List ℕ → Type 0) → SinkChange → Outcome → Type 0
 LeavesAnswer (Text form) IsText s outcome = OutcomeLeavesPieces IsText s outcome
 LeavesAnswer Grc IsText s outcome = OutcomeLeavesText IsText s outcome

@@ -38,7 +38,7 @@ abbrev pub IsNotConstructive : Result (Unit {0}) ReactionFault → Type 0
 IsNotConstructive (Err (NotConstructive number)) = ⊤
 IsNotConstructive others = ⊥
 
--- the outcome of a run, where these wires were unknown in its last instant; for want of memory they may not be told
+-- the outcome of a run, where these wires were unknown in its last instant; because memory ran out they may not be told
 abbrev pub IsReactionsOutcome : Graph → List Bool → Result (Unit {0}) ReactionFault → Outcome → Type 0
 IsReactionsOutcome g unknown (Ok done) outcome = outcome ≡ outcomes.Done
 IsReactionsOutcome g unknown (Err (Run fault)) outcome = outcome ≡ run_outcome (Err fault)

@@ -54,7 +54,7 @@ pub record Reaches (old : Runner) (items : List Item) (answers : List Answer) (n
   pub run : IsRunFrom (machine_of old) (state_in old) items instants
   pub state : state_in new ≡ state_behind (machine_of old) (state_in old) items instants
 
--- a reaction, and what is said of the program behind it
+-- a reaction, and what is said of the program after it
 pub record Reacted (old : Runner) (inputs : List Bool) (paused : Bool) (new : Runner) : Type 0 where
   pub reacts : TriReacts old inputs paused new
   pub steps : Steps old inputs paused new
@@ -84,7 +84,7 @@ pub record OneItem (names : List (List ℕ)) (r later : Reading) (old new : Runn
   pub behind : r.at < later.at
   pub within : later.at ≤ length later.text
 
--- what came of the next item, with the number of the instant behind it
+-- what came of the next item, with the number of the instant after it
 abbrev pub IsReactionStep : (names : List (List ℕ)) (r later : Reading) (old new : Runner) → SinkChange
     → Result (Option ℕ) ReactionFault → Type 0
 IsReactionStep names r later old new s (Ok (Some next)) = OneItem names r later old new s × (next ≡ later.instant)
@@ -94,7 +94,7 @@ IsReactionStep names r later old new s (Err (NotConstructive number)) =
     (event : List Bool) × (behind : ℕ) × (next_group r ≡ groups.Instant event behind) × MeetsAll r.relations event
     × (number ≡ r.instant) × Stuck old event new × IsUntouched s
 
--- A runner stops at an event of a trace, behind items that led it to where it stays.
+-- A runner stops at an event of a trace, after items that led it to where it stays.
 pub record StopsRunner (names : List (List ℕ)) (trace : Reading) (old new : Runner) (s : SinkChange) (number : ℕ) :
     Type 0 where
   pub items : List Item

@@ -35,7 +35,7 @@ pub record ShowsRun (p : Program) (items : List Item) (text : List ℕ) : Type 0
   pub constructive : run_of p items ≡ Some answers
   pub lines : text ≡ machines.answer_lines (outgoing_names p) (map line_answer answers)
 
--- The same by a guarded text that is made of the bytes, whose calls are counted: where the whole trace was read, behind
+-- The same by a guarded text that is made of the bytes, whose calls are counted: where the whole trace was read, after
 -- the lines stands that of how many assignments all calls of the program ran that the text describes.
 pub record CountsSource (main : Option (List ℕ)) (bytes : List ℕ) (p : Program) (trace : Reading) (s : SinkChange)
     (result : Result (Unit {0}) RunFault) : Type 0 where
@@ -62,7 +62,7 @@ pub record RunsSource (via : TextForm) (main : Option (List ℕ)) (bytes trace :
   pub ran : RunsVia via main bytes program (beginning trace (given_names program) program.relations) s result
 
 -- What a run over a trace leaves in `out`, by how it ended, where `Ran` says what is left by each end: the text of all
--- items of the trace; after its first fault, that of the items before; after a failed write or for want of memory a
+-- items of the trace; after its first fault, that of the items before; after a failed write or because memory ran out a
 -- prefix.
 -- Where nothing was run, `out` is as it was.
 abbrev pub LeavesRun : (Result (Unit {0}) RunFault → Type 0) → SinkChange → Outcome → Type 0

@@ -1,4 +1,4 @@
-// What is told of a source's graph.
+// What is reported of a source's graph.
 
 ghost use Rattle.std.specs.Prelude.{◌≡◌, ◌≤◌, length, IfOk, IfErr, option_map};
 ghost use Rattle.est_kernel.specs.Plain.{program_of};

@@ -60,7 +60,7 @@ pub(crate) fn put_trace_fault<E: Sink>(err: &mut E, fault: &TraceFault) -> Resul
     }
 }
 
-// A line with a number behind its first word.
+// A line with a number after its first word.
 fn put_numbered<E: Sink>(
     err: &mut E,
     word: &'static [u8],

@@ -115,7 +115,7 @@ pub(crate) fn form_by(via: Via, encode: bool) -> TextForm
     }
 }
 
-// The form of a C text, by whether it is to be guarded.
+// The form of a C text, by whether it must be guarded.
 fn c_form(guard: bool) -> TextForm
     ensures { result ≡ c_form guard }
 {
@@ -147,7 +147,7 @@ fn main_in(words: &[String], main: Option<Value>) -> Option<&[u8]>
     }
 }
 
-// The value of an option, which may stand in a word behind its name.
+// The value of an option, which may be in a word after its name.
 fn value_in(words: &[String], value: Value) -> &[u8]
     ensures { result.now ≡ value_in (map string_bytes words.now) value }
 {

@@ -4,7 +4,7 @@
 
 ghost use Rattle.cec_commands.specs.Laws.{AcceptedRequestsAreDone, CompilingSourcesAreNotRefused, StoppingRunsAreTold};
 
-/// A source that compiles has no cause of a refusal: the refusals are complete, but for want of memory.
+/// A source that compiles has no cause of a refusal: the refusals are complete, except because memory ran out.
 pub fn compiling_sources_are_not_refused()
     ensures { CompilingSourcesAreNotRefused }
 {}

@@ -25,13 +25,13 @@ pub enum Outcome {
     Cyclic(Cycle),
     /// The trace's first fault. The lines of the instants before it were written.
     Trace(TraceFault),
-    /// The first fault of the text that is to be run.
+    /// The first fault of the text that must be run.
     BadText(TextFault),
     /// The quantity passes its limit.
     Limit(Limit),
     /// The output was not taken: its count of faults rose.
     WriteFault,
-    /// Want of memory.
+    /// Running out of memory.
     NoMemory,
     /// The program is not constructive in this instant of the trace, and these wires stay unknown there. The lines of
     /// the instants before it were written.

@@ -26,7 +26,7 @@ pub(crate) enum ReactionFault {
 }
 
 /// Runs a graph over the items of a trace, up to its end, its first fault, or the first instant in which some wire
-/// stays unknown, and writes one line after each reaction, right behind it. A line is one piece.
+/// stays unknown, and writes one line after each reaction, right after it. A line is one piece.
 pub(crate) fn run_reactions<O: Sink>(
     alloc: Global,
     runner: &mut TriRunner<'_>,
@@ -56,7 +56,7 @@ pub(crate) fn run_reactions<O: Sink>(
 }
 
 // Runs a graph over the next item of a trace, in the instant with this number or before it. It answers the number of
-// the instant behind the item, where there was one.
+// the instant after the item, where there was one.
 fn react_to_item<O: Sink>(
     alloc: Global,
     runner: &mut TriRunner<'_>,

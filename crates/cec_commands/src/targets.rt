@@ -83,7 +83,7 @@ pub(crate) trait Target {
         ensures refuses { IfErr result (IsRefused source.now (option_map (λ m. m.now) main.entry)) };
 
     /// Reads the text of a form that was written of a net, and runs it over a trace, with these names in its lines.
-    /// Its errors are the first fault of the trace, a write that failed, and want of memory.
+    /// Its errors are the first fault of the trace, a write that failed, and out of memory.
     fn run_made<O: Sink>(
         alloc: Global,
         form: TextForm,
@@ -104,7 +104,7 @@ pub(crate) trait Target {
             (beginning trace.items interface.given.items (map relation_of interface.relations.items))
             (change O.told O.faults out.old out.new) result };
 
-    /// The machine of a text of a form, at its start. Its errors are the first fault of the text, and want of memory.
+    /// The machine of a text of a form, at its start. Its errors are the first fault of the text, and out of memory.
     fn read(alloc: Global, form: TextForm, text: &[u8]) -> Result<Self::Machine, Stop<TextFault>>
         requires form { serves form }
         requires fits { length text.now ≤ Limits.TEXT_BYTES }
@@ -204,7 +204,7 @@ where
     }
 }
 
-/// The C subset with gates in blocks that a call skips. Behind the lines of a run stands that of its count.
+/// The C subset with gates in blocks that a call skips. After the lines of a run stands that of its count.
 pub(crate) struct GuardedTarget {}
 
 impl Target for GuardedTarget {

@@ -1,4 +1,4 @@
-// The first fault of a text that is to be run, whatever its language.
+// The first fault of a text that must be run, whatever its language.
 
 ghost use Rattle.std.specs.Prelude.{◌≡◌};
 ghost use Rattle.cec_commands.specs.declared.text_faults.TextFault.TheVariants.{Blif as of_blif, C as of_c};
@@ -10,7 +10,7 @@ use csub_guard_run::GuardedTextFault as GuardedFault;
 use csub_run::CTextFault as ProgramFault;
 use vlog_run::VerilogTextFault as ModuleFault;
 
-/// The first fault of a text that is to be run, by its language.
+/// The first fault of a text that must be run, by its language.
 #[derive(Debug, Drop)]
 pub enum TextFault {
     /// Of a BLIF text.

@@ -30,7 +30,7 @@ pub record StandsForBuilt (text : List ℕ) (main : Option (List ℕ)) (g : Grap
   pub source : StandsFor text main program
   pub built : IsBuilt g program
 
--- why a program has no graph: as why it does not compile, but for a cycle
+-- why a program has no graph: as why it does not compile, except for a cycle
 abbrev pub HasNoGraph : Program → Refusal → Type 0
 HasNoGraph p (Cyclic c) = ⊥
 HasNoGraph p others = DoesNotCompile p others

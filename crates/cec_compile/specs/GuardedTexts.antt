@@ -43,8 +43,8 @@ pub record StandsForGuarded (bytes : List ℕ) (main : Option (List ℕ)) (writt
   pub keeps : GuardedTextKeeps written program
 
 -- The text is that of a compiled program's netlist, from the same bytes, whose wires are not shared, and whose gates
--- lie in the regions of the program's graph: the gates of a head that stand one behind another are a block. A call runs
--- the assignments of the text of that netlist in the C subset, but for the gates that it skips.
+-- lie in the regions of the program's graph: the gates of a head that stand one after another are a block. A call runs
+-- the assignments of the text of that netlist in the C subset, except for the gates that it skips.
 pub record IsGuardedOf (bytes : List ℕ) (main : Option (List ℕ)) (written : List ℕ) : Type 0 where
   pub made : Compiled
   pub compiled : StandsForNet bytes main made

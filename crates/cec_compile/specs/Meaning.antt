@@ -44,7 +44,7 @@ pub record Keeps {X : Type 0} (M : Machine X) (see : X → Seen) (p : Program) :
 
 -- ---- BLIF texts
 
--- The words of the outgoing signals in a circuit. One that is given too is written with `.out` behind its name.
+-- The words of the outgoing signals in a circuit. One that is given too is written with `.out` after its name.
 abbrev pub outgoing_words : Program → List (List ℕ)
 outgoing_words p = map (output_word (given_names p)) (outgoing_names p)
 

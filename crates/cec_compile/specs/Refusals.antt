@@ -1,5 +1,5 @@
 -- To believe: why a source has no text. The refusals come in the order of the passes, so each says that none before it
--- comes. Want of memory has no cause in the source.
+-- comes. Running out of memory has no cause in the source.
 use Rattle.std.specs.Prelude.{◌<◌, ◌≤◌, ℕ, List, length, map, Option, ⊤}
 use Rattle.base_types.specs.declared.bounds.TheConstants.Limits.{SOURCE_BYTES, INSTANCES, WIRES}
 use Rattle.est_kernel.specs.Plain.{Program}

@@ -1,6 +1,6 @@
 -- To believe: whether the wires of a program's graph are shared, and what the wires of its compiled graph stand for.
 --
--- Wires that cannot be true in one instant but for one of them, as those of two starts of a statement under as many
+-- Wires that cannot be true in one instant except for one of them, as those of two starts of a statement under as many
 -- loops, are one shared wire (`one_wire` in grc_share). The graph that is compiled is that of the shared wires, where
 -- the edges between them have no cycle, and else the program's own, each wire of which stands for itself.
 use Rattle.std.specs.Prelude.{ℕ, Bool, true, false, List, [], ◌∷◌, map, is_some}

@@ -61,7 +61,7 @@ pub struct Compiled {
 }
 
 /// The BLIF text of a source, which has at most 1 MiB: the compiler, from bytes to bytes. `main` is the name of the
-/// main module; without it that is the first one. The picker chooses in which order gates stand in the text; whether
+/// main module; without it that is the first one. The picker chooses in which order gates are in the text; whether
 /// the source is refused, and what the text means, do not depend on it.
 ///
 /// The compiler-correctness theorem holds of the text (`TextKeeps`): it has a reading by the BLIF profile, and over
@@ -69,7 +69,7 @@ pub struct Compiled {
 /// run, any two runs agree, and the outputs and `_paused` are those of the reactions.
 ///
 /// A source is refused for its first fault or the first limit that it passes, and as cyclic exactly where there is none
-/// and its dependency relation has a cycle; one is shown. Want of memory is an error of its own.
+/// and its dependency relation has a cycle; one is shown. Running out of memory is an error of its own.
 pub fn blif_of<P: Picker>(
     alloc: Global,
     text: &[u8],
@@ -88,7 +88,7 @@ pub fn blif_of<P: Picker>(
     }
 }
 
-/// The BLIF text of a source, likewise, whose latches hold the state in a code: pauses of which one alone can be
+/// The BLIF text of a source, the same, whose latches hold the state in a code: pauses of which one alone can be
 /// selected share latches. There are just as many as the selection tree needs (`encoded_count`), and never more than in
 /// the text of `blif_of`. What is promised of that text holds of this one, but for its number of latches, and for its
 /// tables: beside those of the compiled program's netlist it may have 64 for each pair of a node of the selection tree
@@ -112,7 +112,7 @@ pub fn encoded_blif_of<P: Picker>(
     }
 }
 
-/// The C text of a source, likewise: the text is in the C subset, with one variable for each given and each outgoing
+/// The C text of a source, the same: the text is in the C subset, with one variable for each given and each outgoing
 /// signal, and over every list of events that meet the source's relations each reaction of the source is constructive,
 /// and the machine's outputs and the value that it returns are those of the reactions (`CTextKeeps`). It refuses what
 /// `blif_of` refuses.
@@ -133,7 +133,7 @@ pub fn c_of<P: Picker>(
     }
 }
 
-/// The Verilog text of a source, likewise: the text describes a module `m_NAME` with the clock `clk`, an input for each
+/// The Verilog text of a source, the same: the text describes a module `m_NAME` with the clock `clk`, an input for each
 /// given signal, an output for each outgoing signal, and `paused`; and over every list of events that meet the source's
 /// relations each reaction of the source is constructive, the module has a run, any two runs agree, and the outputs and
 /// `paused` are those of the reactions (`VerilogTextKeeps`). It refuses what `blif_of` refuses.

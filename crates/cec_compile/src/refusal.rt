@@ -28,7 +28,7 @@ pub enum Limit {
     Signals,
     /// The nodes of the kernel body.
     Kernel,
-    /// The height of the kernel body, or the statements that one statement stands in during the expansion.
+    /// The height of the kernel body, or the statements that one statement is in during the expansion.
     Height,
     /// The traps one in another.
     Traps,
@@ -47,7 +47,7 @@ pub enum Refusal {
     Cyclic(Cycle),
     /// The quantity passes its limit.
     Limit(Limit),
-    /// Want of memory.
+    /// Running out of memory.
     NoMemory,
 }
 

@@ -58,7 +58,7 @@ pub(crate) fn text_of<T: NetText + Drop, P: Picker>(
     let mut text = Collected::new(alloc);
     match write_source_text::<T, P, Collected>(alloc, form, source, main, picker, &mut text) {
         Ok(Written::Done) => Ok(text.into_bytes()),
-        // What is collected is refused for want of memory alone.
+        // What is collected is refused because memory ran out alone.
         Ok(Written::WriteFault | Written::NoMemory) => Err(Refusal::NoMemory),
         Err(refusal) => Err(refusal),
     }

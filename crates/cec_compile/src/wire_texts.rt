@@ -24,7 +24,7 @@ pub fn joined_texts(alloc: Global, wires: &[WireName], between: &[u8]) -> Result
     }
 }
 
-// The texts of more wires, each behind this text.
+// The texts of more wires, each after this text.
 fn put_others(
     alloc: Global,
     text: &mut Vec<u8>,

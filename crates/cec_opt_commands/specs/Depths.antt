@@ -1,4 +1,4 @@
--- To believe: how many gates stand one behind another in a netlist.
+-- To believe: how many gates stand one after another in a netlist.
 use Rattle.std.specs.Prelude.{ℕ, ◌+◌, max, List, [], ◌∷◌, ◌++◌, replicate, slice_index_or}
 use Rattle.net_ir.specs.Netlists.{Netlist, first_gate}
 use Rattle.net_ir.specs.declared.netlist.Gate.{Gate}

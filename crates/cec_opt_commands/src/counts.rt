@@ -1,4 +1,4 @@
-// What is told of a text's circuit, and of its optimized one.
+// What is reported of a text's circuit, and of its optimized one.
 
 ghost use Rattle.std.specs.Prelude.{◌≡◌, ◌≤◌, length, IfOk};
 ghost use Rattle.base_types.specs.Stops.{IfFault};

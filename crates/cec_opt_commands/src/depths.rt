@@ -9,7 +9,7 @@ use base_types::NoMemory;
 use net_ir::{Net, Op};
 use std::alloc::Global;
 
-/// The most gates of a netlist that stand one behind another.
+/// The most gates of a netlist that stand one after another.
 pub(crate) fn depth_of(alloc: Global, net: &Net) -> Result<u64, NoMemory>
     ensures { IfOk result (λ depth. depth ≡ depth_of (netlist_of net.now)) }
 {
@@ -17,7 +17,7 @@ pub(crate) fn depth_of(alloc: Global, net: &Net) -> Result<u64, NoMemory>
     Ok(greatest(&depths))
 }
 
-// For each net, how many gates stand one behind another up to it.
+// For each net, how many gates stand one after another up to it.
 fn net_depths(alloc: Global, net: &Net) -> Result<Vec<u64>, NoMemory>
     ensures { IfOk result (λ depths. depths.items ≡ net_depths (netlist_of net.now)) }
 {

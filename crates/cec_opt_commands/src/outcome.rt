@@ -22,7 +22,7 @@ pub enum OptOutcome {
     TooLong,
     /// The output was not taken: its count of faults rose.
     WriteFault,
-    /// Want of memory.
+    /// Running out of memory.
     NoMemory,
 }
 

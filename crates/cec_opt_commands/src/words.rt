@@ -32,7 +32,7 @@ pub(crate) enum Form {
 pub(crate) enum Task {
     /// Its optimized circuit is written, in this form.
     Write(Form),
-    /// The sizes of its circuit and of the optimized one are told.
+    /// The sizes of its circuit and of the optimized one are reported.
     Check,
 }
 

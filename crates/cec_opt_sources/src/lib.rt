@@ -1,4 +1,4 @@
-//! Small texts of sources: the compiler, and behind it the optimizer of netlists.
+//! Small texts of sources: the compiler, and after it the optimizer of netlists.
 //!
 //! A source is compiled by `cec_compile`, its netlist is optimized by `net_opt`, and its BLIF text, its C text or its
 //! structural Verilog is written. The compiler-correctness theorem holds of the text, as of those of `cec_compile`; the

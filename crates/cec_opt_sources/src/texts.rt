@@ -41,7 +41,7 @@ pub fn small_blif_of<P: Picker>(
     Ok(written)
 }
 
-/// The C text of the small netlist of a source, likewise (`CTextKeeps`).
+/// The C text of the small netlist of a source, the same (`CTextKeeps`).
 pub fn small_c_of<P: Picker>(
     alloc: Global,
     text: &[u8],
@@ -60,7 +60,7 @@ pub fn small_c_of<P: Picker>(
     Ok(written)
 }
 
-/// The structural Verilog of the small netlist of a source, likewise (`VerilogTextKeeps`).
+/// The structural Verilog of the small netlist of a source, the same (`VerilogTextKeeps`).
 pub fn small_verilog_of<P: Picker>(
     alloc: Global,
     text: &[u8],

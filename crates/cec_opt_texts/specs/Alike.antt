@@ -25,7 +25,7 @@ pub record ShowAlike {X : Type 0} (circuit : Circuit) (M : Machine X) (see : X �
       × Shows (circuit_machine circuit) (λ v. map v circuit.outputs) (circuit_machine circuit).start items seen
       × Shows M see M.start items seen
 
--- the outputs of the circuit have these names, and behind them stands `_paused`
+-- the outputs of the circuit have these names, and after them stands `_paused`
 abbrev pub HasOutputs : Circuit → List (List ℕ) → Type 0
 HasOutputs circuit names = circuit.outputs ≡ map (output_word circuit.inputs) names ++ paused_word ∷ []
 

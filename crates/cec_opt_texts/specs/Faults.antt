@@ -1,4 +1,4 @@
--- To believe: the first fault of a BLIF text that is to be optimized.
+-- To believe: the first fault of a BLIF text that must be optimized.
 use Rattle.std.specs.Prelude.{◌≡◌, ℕ, List, Ok, Err}
 use Rattle.base_types.specs.declared.stop.Stop.{Stop}
 use Rattle.base_types.specs.declared.stop.Stop.TheVariants.{Fault}
@@ -24,7 +24,7 @@ abbrev pub IsNetFault : Circuit → OptFault → Type 0
 IsNetFault circuit (faults.Circuit fault) = IsCircuitFault circuit fault
 IsNetFault circuit others = ⊥
 
--- an error of the reader, but for the limit on the length
+-- an error of the reader, except for the limit on the length
 abbrev pub IsReadFault : BlifError → Stop OptFault → Type 0
 IsReadFault answers.TooLong stop = ⊥
 IsReadFault (answers.Line number) stop = stop ≡ Fault (faults.Line number)

@@ -3,7 +3,7 @@
 use base_types::Text;
 use blif_net::CircuitFault;
 
-/// The first fault of a BLIF text that is to be optimized.
+/// The first fault of a BLIF text that must be optimized.
 #[derive(Debug, Drop)]
 pub enum OptFault {
     /// The first line, counted from 1, that is no line of the profile in its place.

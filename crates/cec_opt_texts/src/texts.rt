@@ -25,7 +25,7 @@ use std::alloc::Global;
 use vlog_text::write_verilog;
 
 /// The BLIF text of the optimized netlist of a BLIF text. Over all items it shows what the text shows that was read, on
-/// the same inputs and outputs. The fault is the text's first one, and want of memory is the only other error.
+/// the same inputs and outputs. The fault is the text's first one, and out of memory is the only other error.
 ///
 /// Example: of two latches with the same source and the same first value, the text has one.
 pub fn optimized_blif(alloc: Global, text: &[u8]) -> Result<Vec<u8>, Stop<OptFault>>
@@ -38,7 +38,7 @@ pub fn optimized_blif(alloc: Global, text: &[u8]) -> Result<Vec<u8>, Stop<OptFau
     Ok(written)
 }
 
-/// The C text of the optimized netlist of a BLIF text, likewise.
+/// The C text of the optimized netlist of a BLIF text, the same.
 pub fn optimized_c(alloc: Global, text: &[u8]) -> Result<Vec<u8>, Stop<OptFault>>
     requires { length text.now ≤ Limits.TEXT_BYTES }
     ensures keeps { IfOk result (λ written. CKeeps text.now written.items) }
@@ -49,7 +49,7 @@ pub fn optimized_c(alloc: Global, text: &[u8]) -> Result<Vec<u8>, Stop<OptFault>
     Ok(written)
 }
 
-/// The structural Verilog of the optimized netlist of a BLIF text, likewise.
+/// The structural Verilog of the optimized netlist of a BLIF text, the same.
 pub fn optimized_verilog(alloc: Global, text: &[u8]) -> Result<Vec<u8>, Stop<OptFault>>
     requires { length text.now ≤ Limits.TEXT_BYTES }
     ensures keeps { IfOk result (λ written. VerilogKeeps text.now written.items) }

@@ -4,7 +4,7 @@ use base_types::{Sink, SinkFault};
 use std::alloc::Global;
 use std::marker::Model;
 
-/// A sink that keeps all that is written to it. A write fails for want of memory alone, and appends nothing then.
+/// A sink that keeps all that is written to it. A write fails because memory ran out alone, and appends nothing then.
 #[derive(Drop)]
 pub struct Collected {
     bytes: Vec<u8>,

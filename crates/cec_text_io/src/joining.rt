@@ -6,7 +6,7 @@ ghost use Rattle.std.specs.List.{flat_map};
 use base_types::NoMemory;
 use std::alloc::Global;
 
-/// The pieces, one after another. Want of memory is the only error.
+/// The pieces, one after another. Running out of memory is the only error.
 pub fn joined(alloc: Global, pieces: &[&[u8]]) -> Result<Vec<u8>, NoMemory>
     ensures { IfOk result (λ text. text.items ≡ flat_map (λ piece. piece.now) pieces.now) }
 {

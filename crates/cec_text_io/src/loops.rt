@@ -6,7 +6,7 @@ ghost use Rattle.cec_text_io.specs.ErrorLines.{joined_names};
 
 use base_types::{Sink, SinkFault, Text, write_pieces};
 
-/// The line of a combinational cycle with these names, behind the name of the program. Writing it takes no memory; a
+/// The line of a combinational cycle with these names, after the name of the program. Writing it takes no memory; a
 /// prefix of the line was appended where the sink failed.
 pub fn put_loop<E: Sink>(err: &mut E, program: &[u8], names: &[Text]) -> Result<(), SinkFault>
     ensures { Wrote (E.told err.old) (E.told err.new) (E.faults err.old) (E.faults err.new)
@@ -35,7 +35,7 @@ fn put_joined<E: Sink>(err: &mut E, names: &[Text]) -> Result<(), SinkFault>
     put_others(err, others)
 }
 
-// More names, each behind ` -> `.
+// More names, each after ` -> `.
 fn put_others<E: Sink>(err: &mut E, names: &[Text]) -> Result<(), SinkFault>
     ensures { Wrote (E.told err.old) (E.told err.new) (E.faults err.old) (E.faults err.new)
         (flat_map (λ name. codes " -> " ++ name) names.now) result }
@@ -48,7 +48,7 @@ fn put_others<E: Sink>(err: &mut E, names: &[Text]) -> Result<(), SinkFault>
     Ok(())
 }
 
-// A name behind ` -> `.
+// A name after ` -> `.
 fn put_other<E: Sink>(err: &mut E, name: &Text) -> Result<(), SinkFault>
     ensures { Wrote (E.told err.old) (E.told err.new) (E.faults err.old) (E.faults err.new)
         (codes " -> " ++ name.now) result }

@@ -18,7 +18,7 @@ pub enum Written {
     Done,
     /// The sink did not take a piece: its count of faults rose.
     WriteFault,
-    /// Want of memory, between two pieces or before the first one.
+    /// Running out of memory, between two pieces or before the first one.
     NoMemory,
 }
 
@@ -44,7 +44,7 @@ pub fn write_in_pieces<P: Places + Drop, O: Sink>(
     }
 }
 
-/// Writes the text of a netlist in a language, likewise.
+/// Writes the text of a netlist in a language, the same.
 pub fn write_net_in_pieces<T: NetText + Drop, O: Sink>(
     alloc: Global,
     net: &Net,

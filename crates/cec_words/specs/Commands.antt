@@ -95,7 +95,7 @@ part_of settings.Run place value = option_map parts.Run (number_within 0 LOAD_IN
 part_of settings.Encode place value = None
 part_of settings.Guard place value = None
 
--- what a word does that spells an option: but for the one that takes no value, its name alone waits for one
+-- what a word does that spells an option: except for the one that takes no value, its name alone waits for one
 abbrev pub spelled_step : ℕ → List ℕ → Spelling → Option WordStep
 spelled_step at word (Bare settings.Encode) = Some (Ends parts.Encode)
 spelled_step at word (Bare settings.Guard) = Some (Ends parts.Guard)

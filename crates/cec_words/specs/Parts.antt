@@ -1,4 +1,4 @@
--- To believe: the parts that the words behind a command make.
+-- To believe: the parts that the words after a command make.
 use Rattle.std.specs.Prelude.{ℕ}
 use Rattle.cec_words.specs.declared.asked.Via.{Via as Form}
 use Rattle.cec_words.specs.declared.asked.Pick.{Pick as Choice}

@@ -1,4 +1,4 @@
--- To believe: what a list of words asks for. The first word is a command, and the words behind it are read from the
+-- To believe: what a list of words asks for. The first word is a command, and the words after it are read from the
 -- left; or it is `--help` alone.
 use Rattle.std.specs.Prelude.{ℕ, ◌+◌, Bool, true, false, ◌&&◌, nat_le, List, [], ◌∷◌, length, codes}
 use Rattle.std.specs.Prelude.{if◌then◌else◌, Option, Some, None, unwrap_or, option_map, option_and_then}
@@ -44,7 +44,7 @@ nothing = record {
   guards = [];
 }
 
--- one part before those of the words behind it
+-- one part before those of the words after it
 abbrev pub with_part : Part → Gathered → Gathered
 with_part (parts.File at) g = record g { files = at ∷ g.files }
 with_part (parts.Via v) g = record g { vias = v ∷ g.vias }
@@ -56,7 +56,7 @@ with_part (parts.Run n) g = record g { runs = n ∷ g.runs }
 with_part parts.Encode g = record g { encodes = true ∷ g.encodes }
 with_part parts.Guard g = record g { guards = true ∷ g.guards }
 
--- what a step gives, by what the words behind it give, with the option that waits
+-- what a step gives, by what the words after it give, with the option that waits
 abbrev pub after_step : (Option Setting → Option Gathered) → Option WordStep → Option Gathered
 after_step rest None = None
 after_step rest (Some (Waits setting)) = rest (Some setting)
@@ -133,7 +133,7 @@ asked commands.Gen g =
 abbrev pub asked_once : Command → Gathered → Option Asked
 asked_once command g = if each_once g then asked command g else None
 
--- what the words behind a command ask for
+-- what the words after a command ask for
 abbrev pub asked_behind : List (List ℕ) → Command → Option Asked
 asked_behind words command = option_and_then (asked_once command) (gathered command None 1 words)
 

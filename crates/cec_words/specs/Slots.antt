@@ -32,7 +32,7 @@ abbrev pub both_files : Files → Option (ℕ × ℕ)
 both_files (kept.Two a b) = Some (a, b)
 both_files others = None
 
--- what is kept, and what comes behind it
+-- what is kept, and what comes after it
 abbrev pub extended : Given → Gathered → Gathered
 extended g rest = record {
   files = files_list g.files ++ rest.files;

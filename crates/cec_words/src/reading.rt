@@ -27,7 +27,7 @@ pub fn read_words(words: &[String]) -> Option<Asked>
     given(command, behind)?.asked(command)
 }
 
-// The files and options of the words behind a command, where they may have a meaning.
+// The files and options of the words after a command, where they may have a meaning.
 fn given(command: Command, words: &[String]) -> Option<Given>
     ensures { option_and_then (asked_once (plain_command command))
         (gathered (plain_command command) None 1 (map string_bytes words.now))

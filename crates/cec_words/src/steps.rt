@@ -54,7 +54,7 @@ pub enum Way {
     Tri,
 }
 
-// A part of the words behind the command: a file, or an option with its value, if it has one.
+// A part of the words after the command: a file, or an option with its value, if it has one.
 #[derive(Clone, Copy)]
 pub enum Part {
     File(usize),

@@ -33,16 +33,16 @@ abbrev pub run_pieces : List Piece → Counted → Counted
 run_pieces [] c = c
 run_pieces (piece ∷ pieces) c = run_pieces pieces (run_assigns (chosen piece c.memory) c)
 
--- a call with these inputs: the memory behind it, and the number of assignments that it ran
+-- a call with these inputs: the memory after it, and the number of assignments that it ran
 abbrev pub call : Program → List Bool → Memory → Counted
 call p inputs memory = run_pieces p.body (record { memory = with_inputs (inputs_of p) inputs memory; count = 0 })
 
--- the machine of a program: its states are memories, and what is so in an instant is what is behind the call
+-- the machine of a program: its states are memories, and what is so in an instant is what is after the call
 abbrev pub guarded_machine : Program → Machine Counted
 guarded_machine p =
     computed (first_memory p.states) (λ memory inputs. call p inputs memory) (λ memory inputs behind. behind.memory)
 
--- what is behind each call from the start on; a reset puts the memory back and is no call
+-- what is after each call from the start on; a reset puts the memory back and is no call
 abbrev pub calls : Program → List Item → List Counted
 calls p items =
     run_from (first_memory p.states) (λ m inputs. call p inputs m) (λ m inputs behind. behind.memory)

@@ -34,7 +34,7 @@ used_name (Put name place) = name
 used_name (Taken name place) = name
 used_name (Tested name) = name
 
--- the names in an assignment: as they stand in the text, and as they are used
+-- the names in an assignment: as they are in the text, and as they are used
 abbrev pub written_uses : Place → Assign → List Use
 written_uses place a = Put a.target place ∷ map (λ n. Taken n place) (names_in a.value)
 

@@ -2,7 +2,7 @@
 use Rattle.std.specs.Prelude.{ℕ, List}
 use Rattle.csub_text.specs.Trees.{StateVariable, Assign, Expr}
 
--- what stands in the body of a guarded program: an assignment, or a block, whose first assignments are run where the
+-- what is in the body of a guarded program: an assignment, or a block, whose first assignments are run where the
 -- local of its test is 1, and whose second ones are run where it is 0
 pub data Piece : Type 0 where
   One : (assign : Assign) → Piece

@@ -9,7 +9,7 @@ use base_types::NoMemory;
 use csub_text::variable_names;
 use std::alloc::Global;
 
-/// The names that a guarded program declares, in the order of the text. Its only error is want of memory.
+/// The names that a guarded program declares, in the order of the text. Its only error is out of memory.
 pub fn declared_names<'a>(
     alloc: Global,
     program: &'a GuardedProgram,

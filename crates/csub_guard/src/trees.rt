@@ -4,7 +4,7 @@ use base_types::Text;
 use csub_text::{Assign, State};
 use net_expressions::Expr;
 
-/// What stands in a body: an assignment, or a block, whose first assignments are run where the local of its test is 1,
+/// What is in a body: an assignment, or a block, whose first assignments are run where the local of its test is 1,
 /// and whose second ones are run where it is 0. The second list is empty without `else`.
 #[derive(Drop)]
 pub enum Piece {

@@ -1,5 +1,5 @@
 -- To believe: the guarded program that stands for a netlist whose gates belong so to heads, and its text. The gates
--- of a head that stand one behind another are a block, whose first half computes them, and whose second half gives 0
+-- of a head that stand one after another are a block, whose first half computes them, and whose second half gives 0
 -- to those that something beside gates of the head uses.
 use Rattle.std.specs.Prelude.{ℕ, ◌+◌, ◌-◌, ◌<◌, Bool, true, false, ◌==◌, if◌then◌else◌, List, [], ◌∷◌, ◌++◌, map}
 use Rattle.std.specs.Prelude.{take, drop, filter, flat_map, codes, Option, Some, None, ⊤}
@@ -20,7 +20,7 @@ pub record Member : Type 0 where
   pub gate : Gate
   pub shown : Bool
 
--- a gate that belongs to no head, or gates of a head that stand one behind another
+-- a gate that belongs to no head, or gates of a head that stand one after another
 pub data Group : Type 0 where
   Single : (place : ℕ) (gate : Gate) → Group
   Run : (head : ℕ) (members : List Member) → Group

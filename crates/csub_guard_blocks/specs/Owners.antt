@@ -1,7 +1,7 @@
 -- To believe: which gates of a netlist belong to which head, and which of them its own gates alone use.
 --
--- A head is told by the place of the gate that says whether it runs; `region` says of a gate that carries a wire of
--- some head's region which head that is. A gate belongs to a head where it stands behind the head's gate, and lies in
+-- A head is reported by the place of the gate that says whether it runs; `region` says of a gate that carries a wire of
+-- some head's region which head that is. A gate belongs to a head where it comes after the head's gate, and lies in
 -- the head's region, or carries no wire, is used, and is used by gates of the head alone. A net is used where a gate
 -- reads it, a latch takes it over, an output shows it, or `paused` does.
 use Rattle.std.specs.Prelude.{ℕ, ◌+◌, ◌||◌, ◌==◌, nat_lt, if◌then◌else◌, List, [], ◌∷◌, Option, Some, None}
@@ -66,7 +66,7 @@ owner_by h Unused = Inner h
 owner_by h (Within i) = if h == i then Inner h else Outer h
 owner_by h Mixed = Outer h
 
--- the gate at place k, where it would belong so to this head: it stands behind the head's gate
+-- the gate at place k, where it would belong so to this head: it comes after the head's gate
 abbrev pub behind : ℕ → ℕ → Owner → Owner
 behind k h owner = if nat_lt h k then owner else Free
 
@@ -83,7 +83,7 @@ abbrev pub owner_of : (ℕ → Option ℕ) → ℕ → Option WireId → Usage �
 owner_of region k None u = by_use k u
 owner_of region k (Some w) u = in_region k (region k) u
 
--- how the gates from place k on belong, each by those behind it
+-- how the gates from place k on belong, each by those after it
 abbrev pub owners_from : Netlist → (ℕ → Option ℕ) → ℕ → List Gate → List Owner
 owners_from net region k [] = []
 owners_from net region k (g ∷ gates) =

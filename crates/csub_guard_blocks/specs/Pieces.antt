@@ -1,4 +1,4 @@
--- Inner: the text in which the gates of a head stand in blocks, from a place on. The places are the numbers of the
+-- Inner: the text in which the gates of a head are in blocks, from a place on. The places are the numbers of the
 -- parts of the text of the C subset.
 use Rattle.std.specs.Prelude.{◌≡◌, ℕ, ◌+◌, ◌-◌, true, false, List, ◌++◌, length, drop, Option, Some, None}
 use Rattle.net_ir.specs.Netlists.{Netlist}
@@ -16,7 +16,7 @@ text_from net owners place =
     joined (drop place (parts_before net)) ++ (groups_from net owners (place - length (parts_before net))
     ++ joined (drop (place - (length (parts_before net) + length net.gates)) (from_next_assigns net)))
 
--- a part was put behind a text, and the answer is the number of the next one, or there is none
+-- a part was put after a text, and the answer is the number of the next one, or there is none
 abbrev pub PutsPlain : List (List ℕ) → ℕ → List ℕ → List ℕ → Option ℕ → Type 0
 PutsPlain parts k old new (Some next) = (next ≡ k + 1) × PutsPart parts k old new true
 PutsPlain parts k old new None = PutsPart parts k old new false

@@ -1,4 +1,4 @@
-// The text of a net in which the gates of a head stand in blocks.
+// The text of a net in which the gates of a head are in blocks.
 
 ghost use Rattle.std.specs.Prelude.{◌≡◌, ◌≢◌, ℕ, false, ◌+◌, ◌^◌, ◌<◌, ◌≤◌, Some, ◌++◌, length, map};
 ghost use Rattle.std.specs.Prelude.{filter};
@@ -25,8 +25,8 @@ use net_ir::{Gate, Net};
 use net_writer::put_part;
 use std::alloc::Global;
 
-// Puts what stands at a place behind a text: a part of the text of the C subset, or in place of those of gates one that
-// belongs to no head, or the block of those that do from there on. The answer is the place behind; none at the end.
+// Puts what stands at a place after a text: a part of the text of the C subset, or in place of those of gates one that
+// belongs to no head, or the block of those that do from there on. The answer is the place after; none at the end.
 pub fn put_place(
     text: &mut Vec<u8>,
     net: &Net,
@@ -50,7 +50,7 @@ pub fn put_place(
     Ok(Some(begin + next as u128))
 }
 
-// Puts a part of the text of the C subset behind a text. The answer is the number of the next one; none at the end.
+// Puts a part of the text of the C subset after a text. The answer is the number of the next one; none at the end.
 #[tactic(auto, unfolding(csub_text::specs::Parts::net_parts))]
 fn put_plain(text: &mut Vec<u8>, net: &Net, place: u128) -> Result<Option<u128>, NoMemory>
     ensures { IfOk result (PutsPlain (net_parts (netlist_of net.now)) place text.old.items text.new.items) }
@@ -63,8 +63,8 @@ fn put_plain(text: &mut Vec<u8>, net: &Net, place: u128) -> Result<Option<u128>,
     }
 }
 
-// Puts a gate that belongs to no head behind a text, or the block of those that do from this place on. The answer is
-// the place behind.
+// Puts a gate that belongs to no head after a text, or the block of those that do from this place on. The answer is
+// the place after.
 fn put_group(text: &mut Vec<u8>, net: &Net, owners: &[Owner], k: usize) -> Result<usize, NoMemory>
     requires count { length owners.now ≡ length net.now.gates.items }
     requires heads { All (λ o. HasHead (length net.now.gates.items) (owner_in o)) owners.now }
@@ -115,7 +115,7 @@ fn is_outer(owner: Owner) -> bool
     matches!(owner, Owner::Outer(_))
 }
 
-// The place behind the gates of this head that stand one behind another from this place on.
+// The place after the gates of this head that stand one after another from this place on.
 fn run_end(owners: &[Owner], begin: usize, head: usize) -> usize
     requires here { begin < length owners.now }
     requires first { head_of (owner_in (slice_index_or owners.now begin codes.Free)) ≡ Some head }

@@ -1,4 +1,4 @@
-//! Which gates of a netlist belong to which head, and the text in which the gates of a head stand in blocks.
+//! Which gates of a netlist belong to which head, and the text in which the gates of a head are in blocks.
 #![tactic(auto)]
 
 mod blocks;

@@ -65,7 +65,7 @@ fn owner_of(k: usize, gate: Gate, region: Option<usize>, usage: Usage) -> Owner
     }
 }
 
-// A gate at a place belongs to a head only where it stands behind the head's gate.
+// A gate at a place belongs to a head only where it comes after the head's gate.
 fn behind(k: usize, head: usize, owner: Owner) -> Owner
     ensures { owner_in result ≡ behind k head (owner_in owner) }
 {

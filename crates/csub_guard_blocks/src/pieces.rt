@@ -1,4 +1,4 @@
-// The text of a net in which the gates of a head stand in blocks, whole and piece by piece.
+// The text of a net in which the gates of a head are in blocks, whole and piece by piece.
 
 ghost use Rattle.std.specs.Prelude.{◌≡◌, length, map, All, IfOk};
 ghost use Rattle.net_ir.specs.Runs.{netlist_of};
@@ -41,7 +41,7 @@ impl<'a> Places for Blocks<'a> {
 pub type BlockPieces<'a> = Pieces<Blocks<'a>>;
 
 /// All pieces of the text of a net whose gates belong so: that of the C subset, in which the gates of a head that stand
-/// one behind another are a block. It takes no memory.
+/// one after another are a block. It takes no memory.
 pub fn block_pieces<'a>(alloc: Global, net: &'a Net, owners: Vec<Owner>) -> BlockPieces<'a>
     requires count { length owners.items ≡ length net.now.gates.items }
     requires heads { All (λ o. HasHead (length net.now.gates.items) (owner_in o)) owners.items }
@@ -51,7 +51,7 @@ pub fn block_pieces<'a>(alloc: Global, net: &'a Net, owners: Vec<Owner>) -> Bloc
 }
 
 /// The text of a net whose gates belong so, all pieces of it. The time and the memory that it takes are linear in the
-/// length of the text; want of memory is its only error.
+/// length of the text; out of memory is its only error.
 pub fn write_blocks(alloc: Global, net: &Net, owners: Vec<Owner>) -> Result<Vec<u8>, NoMemory>
     requires count { length owners.items ≡ length net.now.gates.items }
     requires heads { All (λ o. HasHead (length net.now.gates.items) (owner_in o)) owners.items }

@@ -53,7 +53,7 @@ else_rule b room = on (is Else) (λ _. half_rule b room)
 abbrev pub else_step : {A B P : Type 0} → Builder A B P → ℕ → Rule Kind (Option (List B))
 else_step b room = maybe (is Else) (else_rule b room)
 
--- a block behind "if": the name that it tests, and its halves
+-- a block after "if": the name that it tests, and its halves
 abbrev pub block_behind : {A B P : Type 0} → Builder A B P → ℕ → Rule Kind (List ℕ × (List B × Option (List B)))
 block_behind b room =
     on (is LeftParenthesis) (λ _. both (the name) (on (is RightParenthesis) (λ _.

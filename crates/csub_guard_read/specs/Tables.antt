@@ -65,7 +65,7 @@ unset_in local puts (Put name place) = false
 unset_in local puts (Taken name place) = local name && not (is_set_by (puts name) place)
 unset_in local puts (Tested name) = not (is_outside_by (puts name))
 
--- the table behind a use
+-- the table after a use
 abbrev pub noted : (List ℕ → Option Puts) → Use → List ℕ → Option Puts
 noted puts (Put name place) n = if is_same_name name n then Some (joined (puts name) place) else puts n
 noted puts others n = puts n

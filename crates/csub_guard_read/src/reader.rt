@@ -78,7 +78,7 @@ fn read_all<'a>(
     }
 }
 
-// The program that the tokens spell, with nothing behind it.
+// The program that the tokens spell, with nothing after it.
 fn read_whole<'a>(
     alloc: Global,
     tokens: &'a [Token<'a>],

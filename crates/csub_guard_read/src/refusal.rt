@@ -3,7 +3,7 @@
 use base_types::Text;
 use thiserror::Error;
 
-/// Why `read_guarded` gives no program. Of several faults the first of this list is told.
+/// Why `read_guarded` gives no program. Of several faults the first of this list is reported.
 #[derive(Debug, Drop, Error)]
 pub enum GuardedFault {
     /// The text is longer than 256 MiB.

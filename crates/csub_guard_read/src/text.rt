@@ -19,7 +19,7 @@ use csub_text::Assign;
 use net_expressions::{after, copy_of, nothing_read, past, past_name, refused_here};
 use std::alloc::Global;
 
-// The program of a text, and the tokens behind it.
+// The program of a text, and the tokens after it.
 pub fn read_text<'a>(
     alloc: Global,
     tokens: &'a [Token<'a>],
@@ -102,7 +102,7 @@ fn read_piece<'a>(
     Ok((Piece::One(assign), rest))
 }
 
-// A block, behind its `if`.
+// A block, after its `if`.
 fn read_block<'a>(
     alloc: Global,
     tokens: &'a [Token<'a>],

@@ -29,7 +29,7 @@ pub enum Use<'a> {
     Tested(&'a [u8]),
 }
 
-// Whether the name that is assigned stands before those that are read, as in the text, or behind them.
+// Whether the name that is assigned stands before those that are read, as in the text, or after them.
 #[derive(Clone, Copy)]
 pub enum Order {
     Written,

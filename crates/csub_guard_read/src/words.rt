@@ -10,7 +10,7 @@ use csub_read::{Kind, Token};
 use net_expressions::lex;
 use std::alloc::Global;
 
-// The tokens of a text. Its only error is want of memory.
+// The tokens of a text. Its only error is out of memory.
 pub fn text_tokens<'a>(alloc: Global, text: &'a [u8]) -> Result<Vec<Token<'a>>, NoMemory>
     requires { length text.now ≤ Limits.TEXT_BYTES }
     ensures { IfOk result (λ v. map (token_by plain.kind_of) v.items ≡ tokens text.now) }

@@ -1,5 +1,5 @@
 -- To believe: how a run of a guarded text over a trace ends. Where the whole trace was read, the number of assignments
--- that all calls ran stands in a line behind the others.
+-- that all calls ran is in a line after the others.
 use Rattle.std.specs.Prelude.{ℕ, ◌++◌, ◌⊎◌, List, [], None, Result, Ok, Err}
 use Rattle.base_types.specs.Items.{Item}
 use Rattle.base_types.specs.SinkChanges.{SinkChange}
@@ -17,7 +17,7 @@ use Rattle.run_over_traces.specs.Running.{RunsTrace}
 use Rattle.run_over_traces.specs.declared.running.RunFault.{RunFault}
 use Rattle.run_over_traces.specs.declared.running.RunFault.TheVariants.{Trace, Write, NoMemory}
 
--- The whole trace was read: the sink gained the text that its items bring about, and their last line behind it, or,
+-- The whole trace was read: the sink gained the text that its items bring about, and their last line after it, or,
 -- where a write failed there, a prefix of that.
 pub record ReadsWholeTrace (Writes : List Item → List ℕ → Type 0) (last : List Item → List ℕ) (trace : Reading)
     (Gained : List ℕ → Type 0) : Type 0 where
@@ -27,7 +27,7 @@ pub record ReadsWholeTrace (Writes : List Item → List ℕ → Type 0) (last : 
   pub writes : Writes items text
   pub gained : Gained (text ++ last items)
 
--- How a run ends that is `RunsTrace` but for the last line, which comes only where the whole trace was read.
+-- How a run ends that is `RunsTrace` except for the last line, which comes only where the whole trace was read.
 abbrev pub RunsCounted : (List Item → List ℕ → Type 0) → (List Item → List ℕ) → Reading → SinkChange
     → Result (Unit {0}) RunFault → Type 0
 RunsCounted Writes last trace s (Ok done) =

@@ -1,5 +1,5 @@
 -- Inner: the plan of a program. A body is cut into blocks, each with the assignments before it, and the assignments
--- behind the last one.
+-- after the last one.
 use Rattle.std.specs.Prelude.{◌≡◌, ◌<◌, ◌≤◌, ℕ, Bool, false, List, [], ◌∷◌, ◌++◌, length, map, flat_map}
 use Rattle.std.specs.List.{AllByRecursion}
 use Rattle.csub_guard.specs.Machine.{inputs_of, outputs_of}
@@ -41,7 +41,7 @@ pub record IsStretch (names : List (List ℕ)) (assigns : List Assign) (s : Stre
   pub counts : s.count ≡ length assigns
   pub low : AreLow names assigns
 
--- assignments, and a block behind them
+-- assignments, and a block after them
 pub record Segment : Type 0 where
   pub before : List Assign
   pub test : List ℕ
@@ -71,7 +71,7 @@ pub record IsBody (names : List (List ℕ)) (pieces : List Piece) (b : Body) : T
   pub blocks : AreBlocks names segments b.blocks.items
   pub last : IsStretch names behind b.last
 
--- the plan of the body, and a term of the value that is returned behind it
+-- the plan of the body, and a term of the value that is returned after it
 pub record IsEnd (p : Program) (body : Body) (answer : Term) : Type 0 where
   pub makes : IsBody (declared p) p.body body
   pub named_low : body.last.plan.named < body.last.plan.slots

@@ -1,5 +1,5 @@
 -- To believe: what a guarded program shows over items, as lines tell it, and the line of its count. The names of the
--- inputs and outputs are those behind their signs, and the value returned gives the word.
+-- inputs and outputs are those after their signs, and the value returned gives the word.
 use Rattle.std.specs.Prelude.{ℕ, List, ◌++◌, codes, decimal, map}
 use Rattle.base_types.specs.Items.{Item}
 use Rattle.base_machines.specs.Machines.{Shows}
@@ -16,7 +16,7 @@ bare_inputs p = map bare_name (inputs_of p)
 abbrev pub bare_outputs : Program → List (List ℕ)
 bare_outputs p = map bare_name (outputs_of p)
 
--- what is shown of a call, behind which this is so
+-- what is shown of a call, after which this is so
 abbrev pub call_answer : Program → Counted → ShownAnswer
 call_answer p behind = answer_seen (seen p behind)
 

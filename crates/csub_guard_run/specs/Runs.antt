@@ -16,7 +16,7 @@ pub record BodyFits (n : ℕ) (b : Body) : Type 0 where
   pub blocks : All (BlockFits n) b.blocks.items
   pub last : b.last.plan.slots ≤ n
 
--- the half of a block that is run where the values are these behind the assignments before it
+-- the half of a block that is run where the values are these after the assignments before it
 abbrev pub half_of : Block → List Bool → Stretch
 half_of b values = if value_at values b.test then b.first else b.second
 

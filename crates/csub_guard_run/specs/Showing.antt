@@ -27,7 +27,7 @@ abbrev pub counter_shows : Counter → List Item → List ShownAnswer → Type 0
 counter_shows m items answers =
     Shows (guarded_machine (counted_program m)) (call_answer (counted_program m)) (memory_of m.calls) items answers
 
--- what is behind each call from this memory on
+-- what is after each call from this memory on
 abbrev pub calls_from : Program → Memory → List Item → List Counted
 calls_from p memory items =
     run_from (first_memory p.states) (λ m inputs. call p inputs m) (λ m inputs behind. behind.memory) memory items
@@ -48,6 +48,6 @@ Summed total [] last = last ≡ total
 Summed total (behind ∷ calls) last =
     (sum : Option ℕ) × IsSum total behind.count sum × Summed sum calls last × (behind.count < 2 ^ 128)
 
--- behind the items the number is greater by the counts of their calls
+-- after the items the number is greater by the counts of their calls
 abbrev pub adds_up : Counter → List Item → Counter → Type 0
 adds_up m items last = Summed m.total (calls_from (counted_program m) (memory_of m.calls) items) last.total

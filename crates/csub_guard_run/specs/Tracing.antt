@@ -31,7 +31,7 @@ pub record IsProgramOf (text : List ℕ) (net : Netlist) (program : Program) : T
   pub means : Means text net
   pub is : program ≡ means.program
 
--- a fault of the reader, but for the limit on the length, as one of the language
+-- a fault of the reader, except for the limit on the length, as one of the language
 abbrev pub IsFaultOf : GuardedFault → GuardedTextFault → Type 0
 IsFaultOf faults.TooLong fault = ⊥
 IsFaultOf (faults.Syntax at) fault = fault ≡ Syntax at

@@ -1,6 +1,6 @@
 -- Inner: a body on one track, and what its runs make of the values of all slots. The gates of all parts stand one
--- behind another, and a block is places among them: those of its second half begin at one, those of its first half at
--- another, and a third is behind them. Where the first half is run, it is made with what is behind the block.
+-- after another, and a block is places among them: those of its second half begin at one, those of its first half at
+-- another, and a third is after them. Where the first half is run, it is made with what is after the block.
 use Rattle.std.specs.Prelude.{◌≡◌, ℕ, ◌+◌, ◌≤◌, Bool, List, [], ◌∷◌, ◌++◌, All, length, flat_map, slice_range}
 use Rattle.std.specs.Prelude.{if◌then◌else◌}
 use Rattle.run_steps.specs.Plans.{Lookup, made}
@@ -60,7 +60,7 @@ module _ (gates : List Lookup) where
       if value_at (before_jump at j values) j.test then before_jump at j values
       else made (slice_range gates j.second j.first) (before_jump at j values)
 
-  -- the place up to which all was made behind a block, or behind which its first half is to be made
+  -- the place up to which all was made after a block, or after which its first half must be made
   abbrev pub jump_place : ℕ → Jump → List Bool → ℕ
   jump_place at j values = if value_at (before_jump at j values) j.test then j.first else j.next
 
@@ -83,7 +83,7 @@ track_made t values = jumps_made t.gates.lookups 0 t.jumps.items values
 abbrev pub track_count : Track → List Bool → ℕ
 track_count t values = jumps_count t.gates.lookups 0 t.jumps.items values + t.behind
 
--- the places of a block, behind this one and among so many gates
+-- the places of a block, after this one and among so many gates
 pub record IsInOrder (n at : ℕ) (j : Jump) : Type 0 where
   pub second : at ≤ j.second
   pub first : j.second ≤ j.first

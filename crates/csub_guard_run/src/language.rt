@@ -36,7 +36,7 @@ pub enum GuardedTextFault {
     Unset(Text),
 }
 
-/// The language of guarded texts, whose meaning stands in `csub_guard`.
+/// The language of guarded texts, whose meaning is in `csub_guard`.
 pub struct GuardedTexts {}
 
 impl Language for GuardedTexts {
@@ -82,7 +82,7 @@ impl Language for GuardedTexts {
     }
 }
 
-/// The machine of a text before its first item. Its errors are the first fault of the text, and want of memory.
+/// The machine of a text before its first item. Its errors are the first fault of the text, and out of memory.
 pub fn read_machine(alloc: Global, text: &[u8]) -> Result<GuardedRunner, Stop<GuardedTextFault>>
     requires { length text.now ≤ Limits.TEXT_BYTES }
     ensures reads { IfOk result (λ m. ReadsAs text.now (counted_program m)) }
@@ -114,7 +114,7 @@ fn text_fault(fault: GuardedFault) -> GuardedTextFault
     }
 }
 
-/// The machine of the text that was written of a net, before its first item. Its only error is want of memory.
+/// The machine of the text that was written of a net, before its first item. Its only error is out of memory.
 pub fn written_machine(alloc: Global, net: &Net, text: &[u8]) -> Result<GuardedRunner, NoMemory>
     requires written { Means text.now (netlist_of net.now) }
     requires fits { length text.now ≤ Limits.TEXT_BYTES }

@@ -3,7 +3,7 @@
 //! `GuardedRun` runs a program over calls and resets as csub_guard defines its machine, and counts the assignments
 //! of each call: the assignments between blocks, and those of each half of a block, are a plan of `run_steps`, and a
 //! call runs one half of each block. It neither hashes nor allocates. `GuardedRunner` is the same machine as one that
-//! a trace drives, `GuardedTexts` the language, and `run_counted` writes the number of assignments of all calls behind
+//! a trace drives, `GuardedTexts` the language, and `run_counted` writes the number of assignments of all calls after
 //! the lines of a trace.
 #![tactic(auto)]
 

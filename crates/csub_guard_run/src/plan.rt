@@ -31,7 +31,7 @@ pub struct Stretch {
     pub count: u64,
 }
 
-/// Assignments, and a block behind them.
+/// Assignments, and a block after them.
 #[derive(Drop)]
 pub struct Block {
     pub before: Stretch,
@@ -40,7 +40,7 @@ pub struct Block {
     pub second: Stretch,
 }
 
-/// Blocks, and the assignments behind the last one.
+/// Blocks, and the assignments after the last one.
 #[derive(Drop)]
 pub struct Body {
     pub blocks: Vec<Block>,
@@ -54,7 +54,7 @@ pub struct CallPlan {
     pub inputs: Vec<usize>,
     pub outputs: Vec<usize>,
     pub track: Track,
-    // The value that is returned, behind the body.
+    // The value that is returned, after the body.
     pub answer: Term,
     // The values of the variables before the first call.
     pub initial: Vec<bool>,
@@ -109,7 +109,7 @@ fn places_of(
     })
 }
 
-// A body, and the term of the value that is returned behind it.
+// A body, and the term of the value that is returned after it.
 #[derive(Drop)]
 struct End {
     body: Body,
@@ -126,7 +126,7 @@ fn end_of(alloc: Global, slots: &IndexSet<&[u8]>, program: &GuardedProgram) -> R
     Ok(End { body, answer })
 }
 
-// The term of an expression behind a stretch.
+// The term of an expression after a stretch.
 fn answer_of(last: &mut Stretch, slots: &IndexSet<&[u8]>, value: &Expr) -> Result<Term, NoMemory>
     ensures term { IfOk result
         (λ t. Compiles (expr_value (map (λ k. k.now) slots.now.keys) value.now) last.old.plan t last.new.plan) }
@@ -206,7 +206,7 @@ fn halves_of(
     })
 }
 
-// A block behind these assignments.
+// A block after these assignments.
 fn block_of(before: Stretch, test: usize, halves: Halves) -> Block
     ensures before { result.before ≡ before }
     ensures test { result.test ≡ test }

@@ -30,8 +30,8 @@ pub fn run_track(track: &Track, values: &mut [bool]) -> u128
     reached.count + u128::from(track.behind)
 }
 
-// Makes the gates up to a block, and those of its second half where the first is skipped. Else the first half is to be
-// made, with what is behind it.
+// Makes the gates up to a block, and those of its second half where the first is skipped. Else the first half must be
+// made, with what is after it.
 fn run_jump(gates: &Gates, jump: &Jump, reached: Reached, values: &mut [bool]) -> Reached
     requires order { IsInOrder (length gates.now.lookups) reached.place jump.now }
     requires fits { gates.now.slots ≤ length values.old }

@@ -48,7 +48,7 @@ impl Model for GuardedRun {
 
 impl GuardedRun {
     /// The machine of a program before its first call. The program keeps the rules on names, as each one does that some
-    /// text describes. Want of memory is the only error.
+    /// text describes. Running out of memory is the only error.
     pub fn new(alloc: Global, program: GuardedProgram) -> Result<GuardedRun, NoMemory>
         requires { KeepsNames (program_of program) }
         ensures program { IfOk result (λ r. r.code ≡ program) }
@@ -79,7 +79,7 @@ impl GuardedRun {
         self.plan.answer.value(&self.values)
     }
 
-    /// The values of the outputs, in declared order; all 0 before the first call and behind a reset. It takes
+    /// The values of the outputs, in declared order; all 0 before the first call and after a reset. It takes
     /// no memory.
     pub fn outputs(&self) -> &[bool]
         ensures { result.now ≡ outputs_shown self.now }
@@ -87,7 +87,7 @@ impl GuardedRun {
         self.outputs.as_slice()
     }
 
-    /// The number of assignments that the last call ran; 0 before the first call and behind a reset. It takes no
+    /// The number of assignments that the last call ran; 0 before the first call and after a reset. It takes no
     /// memory.
     pub fn count(&self) -> u128
         ensures { result ≡ self.now.count }

@@ -24,9 +24,9 @@ use net_ir::Net;
 use run_over_traces::{Interface, RunFault, run_trace};
 use std::alloc::Global;
 
-/// Runs a text that was read over a trace, by its own interface: one line for each instant, right behind its reaction,
+/// Runs a text that was read over a trace, by its own interface: one line for each instant, right after its reaction,
 /// and, where the whole trace was read, the number of assignments that all calls ran.
-/// Its errors are the first fault of the trace, a write that failed, and want of memory.
+/// Its errors are the first fault of the trace, a write that failed, and out of memory.
 pub fn run_counted<O: Sink>(
     alloc: Global,
     machine: GuardedRunner,
@@ -45,7 +45,7 @@ pub fn run_counted<O: Sink>(
 
 /// Reads the text that was written of a net, and runs it over a trace, with these names in its lines. What is written
 /// is what the net shows, and, where the whole trace was read, the number of assignments that all calls ran.
-/// Its errors are the first fault of the trace, a write that failed, and want of memory.
+/// Its errors are the first fault of the trace, a write that failed, and out of memory.
 pub fn run_written_counted<O: Sink>(
     alloc: Global,
     net: &Net,
@@ -70,7 +70,7 @@ pub fn run_written_counted<O: Sink>(
     }
 }
 
-// Runs a new machine over a trace, and writes the line of its count behind the others.
+// Runs a new machine over a trace, and writes the line of its count after the others.
 fn run_over<O: Sink>(
     alloc: Global,
     machine: GuardedRunner,

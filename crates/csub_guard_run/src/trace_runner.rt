@@ -47,7 +47,7 @@ impl Model for GuardedRunner {
 
 impl GuardedRunner {
     /// The machine of a program before its first call. The program keeps the rules on names, as each one does that
-    /// some text describes. Want of memory is the only error.
+    /// some text describes. Running out of memory is the only error.
     pub fn new(alloc: Global, program: GuardedProgram) -> Result<GuardedRunner, NoMemory>
         requires { KeepsNames (program_of program) }
         ensures program { IfOk result (λ m. m.calls.code ≡ program) }
@@ -63,7 +63,7 @@ impl GuardedRunner {
     }
 
     /// The interface of the program itself: its inputs and outputs without their signs; no relations.
-    /// Want of memory is the only error.
+    /// Running out of memory is the only error.
     pub fn interface(&self, alloc: Global) -> Result<Interface, NoMemory>
         ensures given { IfOk result (λ i. i.given.items ≡ bare_inputs (counted_program self.now)) }
         ensures outgoing { IfOk result (λ i. i.outgoing.items ≡ bare_outputs (counted_program self.now)) }

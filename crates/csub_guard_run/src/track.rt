@@ -1,4 +1,4 @@
-// A body on one track: the gates of all its parts one behind another, and its blocks as places among them.
+// A body on one track: the gates of all its parts one after another, and its blocks as places among them.
 
 ghost use Rattle.std.specs.Prelude.{◌≡◌, ◌≤◌, ◌++◌, length, IfOk, OnOk};
 ghost use Rattle.csub_guard_run.specs.Runs.{BlockFits};
@@ -10,7 +10,7 @@ use run_steps::Gates;
 use std::alloc::Global;
 
 /// A block as places among gates: those of its second half begin at `second` and those of its first half at `first`,
-/// and `next` is the place behind them. Those before `second` are before the block.
+/// and `next` is the place after them. Those before `second` are before the block.
 #[derive(Drop)]
 pub struct Jump {
     pub test: usize,
@@ -23,13 +23,13 @@ pub struct Jump {
     pub second_count: u64,
 }
 
-/// The gates of a body, and its blocks. The first half of a block stands in front of what is behind the block, so that
+/// The gates of a body, and its blocks. The first half of a block is in front of what is after the block, so that
 /// both are one part where the block is not skipped.
 #[derive(Drop)]
 pub struct Track {
     pub gates: Gates,
     pub jumps: Vec<Jump>,
-    // The number of assignments behind the last block.
+    // The number of assignments after the last block.
     pub behind: u64,
 }
 

@@ -10,7 +10,7 @@ use base_types::{NoMemory, WireId};
 use net_ir::Net;
 use std::alloc::Global;
 
-/// For each gate the place of the gate that carries the wire of its region's head. Its only error is want of memory.
+/// For each gate the place of the gate that carries the wire of its region's head. Its only error is out of memory.
 pub fn gate_regions(
     alloc: Global,
     net: &Net,

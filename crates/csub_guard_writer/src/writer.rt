@@ -20,7 +20,7 @@ pub type GuardedPieces<'a> = BlockPieces<'a>;
 
 /// The guarded text of a net. `regions` has for each wire, by its number, the wire that says whether the head of its
 /// region runs, if it lies in one. The time and the memory are linear in the length of the text and in the regions;
-/// want of memory is the only error.
+/// out of memory is the only error.
 pub fn write_guarded(
     alloc: Global,
     net: &Net,
@@ -37,7 +37,7 @@ pub fn write_guarded(
 }
 
 /// All pieces of the guarded text of a net, which is that of `write_guarded`. The time and the memory are linear in the
-/// net and in the regions; want of memory is the only error.
+/// net and in the regions; out of memory is the only error.
 pub fn guarded_pieces<'a>(
     alloc: Global,
     net: &'a Net,

@@ -13,7 +13,7 @@ use Rattle.csub_guard_writer.specs.Meaning.{skipped}
 
 -- A text means a net with these regions: it describes a guarded program with the net's inputs, outputs and latches.
 -- Over all items it shows at each call what the net shows at the event, and runs the assignments of the text of the C
--- subset, but for the gates that are skipped.
+-- subset, except for the gates that are skipped.
 pub record GuardedRuns (text : List ℕ) (net : Netlist) (regions : List (Option WireId)) : Type 0 where
   pub program : Program
   pub describes : Describes text program

@@ -1,4 +1,4 @@
--- To believe: what it means that a text is read, and what a fault says of a text. Want of memory says nothing.
+-- To believe: what it means that a text is read, and what a fault says of a text. Running out of memory says nothing.
 use Rattle.std.specs.Prelude.{◌≡◌, ℕ, ◌<◌, ◌≤◌, ⊤, List, length, Some}
 use Rattle.base_types.specs.declared.bounds.TheConstants.Limits.{TEXT_BYTES}
 use Rattle.csub_text.specs.Trees.{Program}

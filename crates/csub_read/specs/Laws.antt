@@ -1,5 +1,5 @@
 -- Contract: a text that describes a program is read as this program and no other. It is refused for its length, or
--- for want of memory, alone.
+-- because memory ran out, alone.
 use Rattle.std.specs.Prelude.{◌≡◌, ℕ, ◌<◌, ⊤, List, length}
 use Rattle.base_types.specs.declared.bounds.TheConstants.Limits.{TEXT_BYTES}
 use Rattle.net_ir.specs.Netlists.{Netlist}

@@ -19,6 +19,6 @@ pub record IsLongest (text : List ℕ) (token : Token) : Type 0 where
   pub longest : (n : ℕ) (kind : Kind) → token.at + n ≤ length text → IsLexeme (take n (drop token.at text)) kind
       → n ≤ size
 
--- But for the last one of a text that has no other tokens, each is the longest.
+-- Except for the last one of a text that has no other tokens, each is the longest.
 abbrev pub TokensAreLongest : Type 0
 TokensAreLongest = (text : List ℕ) → All (λ (t : Token). (t.kind ≡ Bad) ⊎ IsLongest text t) (tokens text)

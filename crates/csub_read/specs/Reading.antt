@@ -30,7 +30,7 @@ expr = reading.expr sign
 
 -- ---- whole texts
 
--- a state, behind "static"
+-- a state, after "static"
 abbrev pub state_behind : Rule Kind StateVariable
 state_behind =
     on (is Int) (λ _. mapped (λ found. record { name = found.0; init = found.1 })
@@ -42,11 +42,11 @@ state_rule = on (is Static) (λ _. state_behind)
 abbrev pub state_step : Rule Kind (Option StateVariable)
 state_step = maybe (is Static) state_rule
 
--- a global, behind "int"
+-- a global, after "int"
 abbrev pub global_behind : Rule Kind (List ℕ)
 global_behind = trail (the global_name) (the (is Semicolon))
 
--- behind "int": a global, or "react", which ends the list
+-- after "int": a global, or "react", which ends the list
 abbrev pub global_tail : Rule Kind (Option (List ℕ))
 global_tail =
     ahead (is React) (mapped (λ _. None) (the (is React))) (mapped Some global_behind)
@@ -54,7 +54,7 @@ global_tail =
 abbrev pub global_step : Rule Kind (Option (List ℕ))
 global_step = on (is Int) (λ _. global_tail)
 
--- a local, behind "int"
+-- a local, after "int"
 abbrev pub local_behind : Rule Kind (List ℕ)
 local_behind = trail (the own_name) (the (is Semicolon))
 
@@ -64,7 +64,7 @@ local_rule = on (is Int) (λ _. local_behind)
 abbrev pub local_step : Rule Kind (Option (List ℕ))
 local_step = maybe (is Int) local_rule
 
--- what an assignment has behind its name
+-- what an assignment has after its name
 abbrev pub assign_behind : {A : Type 0} → Maker A → ℕ → Rule Kind A
 assign_behind m room = on (is Equals) (λ _. trail (expr m room) (the (is Semicolon)))
 
@@ -100,13 +100,13 @@ parts_of found = record {
 abbrev pub body_rule : {A : Type 0} → Maker A → ℕ → Rule Kind (List (List ℕ × A) × A)
 body_rule m room = both (loop (assign_step m room)) (answer_rule m room)
 
--- what stands behind "react", where a rule is given for what stands behind the locals
+-- what comes after "react", where a rule is given for what comes after the locals
 abbrev pub function_rule : {B : Type 0} → Rule Kind B → Rule Kind (List (List ℕ) × B)
 function_rule body =
     on (is LeftParenthesis) (λ _. on (is Void) (λ _. on (is RightParenthesis) (λ _. on (is LeftBrace) (λ _.
     both (loop local_step) body))))
 
--- a whole text, likewise
+-- a whole text, the same
 abbrev pub whole_rule : {B : Type 0} → Rule Kind B
     → Rule Kind (List StateVariable × (List (List ℕ) × (List (List ℕ) × B)))
 whole_rule body = both (loop state_step) (both (loop global_step) (function_rule body))

@@ -10,7 +10,7 @@ pub fn tokens_are_longest()
     ensures { TokensAreLongest }
 {}
 
-/// A text that describes a program describes no other one, and has no fault but its length and want of memory.
+/// A text that describes a program describes no other one, and has no fault but its length and out of memory.
 pub fn described_texts_are_read()
     ensures { DescribedTextsAreRead }
 {}

@@ -62,7 +62,7 @@ fn read_tokens(alloc: Global, text: &[u8]) -> Result<CProgram, CError>
     }
 }
 
-// The program that the tokens spell, with nothing behind it.
+// The program that the tokens spell, with nothing after it.
 fn read_whole(alloc: Global, tokens: &[Token<'_>], room: u32) -> Result<CProgram, ReadError>
     ensures { GivesKinds parts_in result (whole (text_rule makes_expr room) (map kind_in tokens.now)) }
 {

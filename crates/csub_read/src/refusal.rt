@@ -7,7 +7,7 @@ use base_types::Text;
 use std::alloc::{AllocError, AllocFailed};
 use thiserror::Error;
 
-/// Why `read_c` gives no program. Of several faults the first of this list is told.
+/// Why `read_c` gives no program. Of several faults the first of this list is reported.
 #[derive(Debug, Drop, Error)]
 pub enum CError {
     /// The text is longer than 256 MiB.
@@ -25,7 +25,7 @@ pub enum CError {
     /// The first local that is read before it is assigned.
     #[error("a local is read before it is assigned")]
     Unset(Text),
-    /// Want of memory.
+    /// Running out of memory.
     #[error("no memory")]
     NoMemory,
 }

@@ -39,7 +39,7 @@ pub fn read_global_name<'a>(
     Ok((copy_of(alloc, name)?, rest))
 }
 
-// The name of a state or a local that stands next, and the tokens behind it.
+// The name of a state or a local that stands next, and the tokens after it.
 fn past_own_name<'a>(tokens: &'a [Token<'a>]) -> Option<(&'a [u8], &'a [Token<'a>])>
     ensures { MatchOption result
         (picked own_name (map kind_in tokens.now) ≡ None)
@@ -52,7 +52,7 @@ fn past_own_name<'a>(tokens: &'a [Token<'a>]) -> Option<(&'a [u8], &'a [Token<'a
     }
 }
 
-// The name of a global that stands next, and the tokens behind it.
+// The name of a global that stands next, and the tokens after it.
 fn past_global_name<'a>(tokens: &'a [Token<'a>]) -> Option<(&'a [u8], &'a [Token<'a>])>
     ensures { MatchOption result
         (picked global_name (map kind_in tokens.now) ≡ None)

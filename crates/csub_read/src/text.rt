@@ -19,7 +19,7 @@ use net_expressions::{
 };
 use std::alloc::Global;
 
-// The program of a text, and the tokens behind it.
+// The program of a text, and the tokens after it.
 pub fn read_text<'a>(
     alloc: Global,
     tokens: &'a [Token<'a>],
@@ -47,7 +47,7 @@ pub fn read_text<'a>(
 }
 
 /// The declarations of states. The errors of this reader and of those below are the first fault of the tokens, and
-/// want of memory.
+/// out of memory.
 pub fn read_states<'a>(
     alloc: Global,
     tokens: &'a [Token<'a>],
@@ -63,7 +63,7 @@ pub fn read_states<'a>(
     Ok((states, rest))
 }
 
-// A state, behind its `static`.
+// A state, after its `static`.
 fn read_state<'a>(
     alloc: Global,
     tokens: &'a [Token<'a>],
@@ -97,7 +97,7 @@ pub fn read_globals<'a>(
     Err(refused_here(rest))
 }
 
-// A global, behind its `int`.
+// A global, after its `int`.
 fn read_global<'a>(
     alloc: Global,
     tokens: &'a [Token<'a>],
@@ -125,7 +125,7 @@ pub fn read_locals<'a>(
     Ok((locals, rest))
 }
 
-// A local, behind its `int`.
+// A local, after its `int`.
 fn read_local<'a>(
     alloc: Global,
     tokens: &'a [Token<'a>],
@@ -155,7 +155,7 @@ pub fn read_assigns<'a>(
     Ok((body, rest))
 }
 
-/// An assignment, behind its name.
+/// An assignment, after its name.
 pub fn read_assign<'a>(
     alloc: Global,
     name: &[u8],

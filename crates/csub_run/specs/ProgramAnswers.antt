@@ -1,5 +1,5 @@
 -- To believe: what a program of the C subset shows over items, as lines tell it. The names of the inputs and outputs
--- are those behind their signs, and the value returned gives the word.
+-- are those after their signs, and the value returned gives the word.
 use Rattle.std.specs.Prelude.{ℕ, List, drop, map}
 use Rattle.base_types.specs.Items.{Item}
 use Rattle.base_machines.specs.Machines.{Shows}

@@ -22,7 +22,7 @@ program_in r = program_of r.code
 abbrev pub memory_of : Runner → Memory
 memory_of r = memory_in (declared (program_in r)) r.values
 
--- before the first call and behind a reset the memory is the first one
+-- before the first call and after a reset the memory is the first one
 abbrev pub IsFresh : Runner → Type 0
 IsFresh r = (name : List ℕ) → memory_of r name ≡ first_memory (program_in r).states name
 

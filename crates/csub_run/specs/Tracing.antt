@@ -23,7 +23,7 @@ pub record IsProgramOf (net : Netlist) (program : Program) : Type 0 where
   pub means : Means text net
   pub is : program ≡ means.program
 
--- an error of the reader, but for the limit on the length, as a fault of the language
+-- an error of the reader, except for the limit on the length, as a fault of the language
 abbrev pub IsStopOf : CError → Stop CTextFault → Type 0
 IsStopOf answers.TooLong stop = ⊥
 IsStopOf (answers.Syntax at) stop = stop ≡ Fault (Syntax at)

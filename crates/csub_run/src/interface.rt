@@ -11,7 +11,7 @@ use run_over_traces::Interface;
 use std::alloc::Global;
 
 /// The names of the inputs and outputs among the globals of a program, without their signs; no relations. Its only
-/// error is want of memory.
+/// error is out of memory.
 pub fn globals_interface(alloc: Global, globals: &[Text]) -> Result<Interface, NoMemory>
     ensures given { IfOk result (λ i. i.given.items ≡ map bare_name (filter begins_input globals.now)) }
     ensures outgoing { IfOk result (λ i. i.outgoing.items ≡ map bare_name (filter begins_output globals.now)) }
@@ -38,7 +38,7 @@ fn bare_names(alloc: Global, names: &[Text], sign: &[u8]) -> Result<Vec<Text>, N
     Ok(bare)
 }
 
-// The bytes of a name behind the first two.
+// The bytes of a name after the first two.
 fn bare_name(name: &[u8]) -> &[u8]
     ensures { result.now ≡ bare_name name.now }
 {

@@ -30,7 +30,7 @@ pub enum CTextFault {
     Unset(Text),
 }
 
-/// The language of texts of the C subset, whose meaning stands in `csub_text`.
+/// The language of texts of the C subset, whose meaning is in `csub_text`.
 pub struct CTexts {}
 
 impl Language for CTexts {

@@ -21,7 +21,7 @@ pub struct CallPlan {
     pub inputs: Vec<usize>,
     pub outputs: Vec<usize>,
     pub body: Plan,
-    // The value that is returned, behind the body.
+    // The value that is returned, after the body.
     pub answer: Term,
     // The values of the variables before the first call.
     pub initial: Vec<bool>,
@@ -71,7 +71,7 @@ fn places_of(alloc: Global, slots: &IndexSet<&[u8]>, program: &CProgram) -> Resu
     })
 }
 
-// The plan of a body, and the term of the value that is returned behind it.
+// The plan of a body, and the term of the value that is returned after it.
 #[derive(Drop)]
 struct Body {
     plan: Plan,
@@ -90,7 +90,7 @@ fn body_plan(alloc: Global, slots: &IndexSet<&[u8]>, program: &CProgram) -> Resu
     Ok(Body { plan, answer })
 }
 
-/// Adds the steps of assignments. Its only error is want of memory.
+/// Adds the steps of assignments. Its only error is out of memory.
 pub fn push_assigns(
     plan: &mut Plan,
     slots: &IndexSet<&[u8]>,
@@ -110,7 +110,7 @@ pub fn push_assigns(
     Ok(())
 }
 
-/// Adds the step of an assignment. Its only error is want of memory.
+/// Adds the step of an assignment. Its only error is out of memory.
 pub fn push_assign(
     plan: &mut Plan,
     slots: &IndexSet<&[u8]>,
@@ -132,7 +132,7 @@ fn initial_values(alloc: Global, program: &CProgram) -> Result<Vec<bool>, NoMemo
 }
 
 /// The values of these variables before the first call: those of the states as they are declared, and 0. Its only error
-/// is want of memory.
+/// is out of memory.
 pub fn variable_values(
     alloc: Global,
     states: &[State],
@@ -155,7 +155,7 @@ pub fn variable_values(
     Ok(values)
 }
 
-/// The slots of the inputs among the globals. Its only error is want of memory.
+/// The slots of the inputs among the globals. Its only error is out of memory.
 pub fn input_slots(
     alloc: Global,
     slots: &IndexSet<&[u8]>,
@@ -173,7 +173,7 @@ pub fn input_slots(
     Ok(found)
 }
 
-/// The slots of the outputs among the globals. Its only error is want of memory.
+/// The slots of the outputs among the globals. Its only error is out of memory.
 pub fn output_slots(
     alloc: Global,
     slots: &IndexSet<&[u8]>,

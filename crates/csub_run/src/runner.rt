@@ -43,7 +43,7 @@ impl Model for ProgramRun {
 
 impl ProgramRun {
     /// The machine of a program before its first call. The program keeps the rules on names, as each one does
-    /// that some text describes. Want of memory is the only error.
+    /// that some text describes. Running out of memory is the only error.
     pub fn new(alloc: Global, program: CProgram) -> Result<ProgramRun, NoMemory>
         requires { KeepsNames (program_of program) }
         ensures program { IfOk result (λ r. r.code ≡ program) }
@@ -73,7 +73,7 @@ impl ProgramRun {
         self.plan.answer.value(&self.values)
     }
 
-    /// The values of the outputs, in declared order; all 0 before the first call and behind a reset. It takes
+    /// The values of the outputs, in declared order; all 0 before the first call and after a reset. It takes
     /// no memory.
     pub fn outputs(&self) -> &[bool]
         ensures { result.now ≡ outputs_shown self.now }

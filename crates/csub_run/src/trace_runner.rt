@@ -43,7 +43,7 @@ impl Model for CRunner {
 
 impl CRunner {
     /// The machine of a program before its first call. The program keeps the rules on names, as each one does that
-    /// some text describes. Want of memory is the only error.
+    /// some text describes. Running out of memory is the only error.
     pub fn new(alloc: Global, program: CProgram) -> Result<CRunner, NoMemory>
         requires { KeepsNames (program_of program) }
         ensures program { IfOk result (λ m. m.code ≡ program) }
@@ -56,7 +56,7 @@ impl CRunner {
     }
 
     /// The interface of the program itself: its inputs and outputs without their signs; no relations.
-    /// Want of memory is the only error.
+    /// Running out of memory is the only error.
     pub fn interface(&self, alloc: Global) -> Result<Interface, NoMemory>
         ensures given { IfOk result (λ i. i.given.items ≡ bare_inputs (program_in self.now)) }
         ensures outgoing { IfOk result (λ i. i.outgoing.items ≡ bare_outputs (program_in self.now)) }

@@ -112,7 +112,7 @@ SpellsState s =
     Led (is Static) (λ _. Led (is Int) (λ _. Then (Single own_name s.name)
     (Led (is Equals) (λ _. Then (Single bit s.init) (Single (is Semicolon) tt)))))
 
--- "int" NAME ";", and behind the last global "int" "react"
+-- "int" NAME ";", and after the last global "int" "react"
 abbrev pub SpellsGlobal : Option (List ℕ) → List Kind → Type 0
 SpellsGlobal None = Led (is Int) (λ _. Single (is React) tt)
 SpellsGlobal (Some n) = Led (is Int) (λ _. Then (Single global_name n) (Single (is Semicolon) tt))

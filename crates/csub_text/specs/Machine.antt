@@ -24,22 +24,22 @@ abbrev pub with_inputs : List (List ℕ) → List Bool → Memory → Memory
 with_inputs (name ∷ names) (value ∷ values) memory = with_inputs names values (with_value name value memory)
 with_inputs others more memory = memory
 
--- The memory before the first call and behind a reset: a state has its value as written, and an output 0. No input and
+-- The memory before the first call and after a reset: a state has its value as written, and an output 0. No input and
 -- no local is read before it gets a value.
 abbrev pub first_memory : List StateVariable → Memory
 first_memory [] = λ name. false
 first_memory (s ∷ states) = with_value s.name s.init (first_memory states)
 
--- the memory behind a call with these inputs
+-- the memory after a call with these inputs
 abbrev pub call : Program → List Bool → Memory → Memory
 call p inputs memory = run_body p.body (with_inputs (inputs_of p) inputs memory)
 
--- the machine of a program: its states are memories, and what is so in an instant is the memory behind the call
+-- the machine of a program: its states are memories, and what is so in an instant is the memory after the call
 abbrev pub program_machine : Program → Machine Memory
 program_machine p =
     computed (first_memory p.states) (λ memory inputs. call p inputs memory) (λ memory inputs behind. behind)
 
--- the memory behind each call, from this one on; a reset puts it back and is no call
+-- the memory after each call, from this one on; a reset puts it back and is no call
 abbrev pub memories_from : Program → Memory → List Item → List Memory
 memories_from p memory items =
     run_from (first_memory p.states) (λ m inputs. call p inputs m) (λ m inputs behind. behind) memory items

@@ -36,7 +36,7 @@ parts_in net LastLines = last_lines (Name answer_name) ∷ []
 unfoldable pub net_parts : Netlist → List (List ℕ)
 net_parts net = flat_map (parts_in net) SECTIONS
 
--- those behind the assignments of gates, of latches' next values, and of outputs
+-- those after the assignments of gates, of latches' next values, and of outputs
 abbrev pub from_next_assigns : Netlist → List (List ℕ)
 from_next_assigns net =
     flat_map (parts_in net)

@@ -73,12 +73,12 @@ abbrev pub comment_front : Option ℕ → Front Kind
 comment_front None = Wrong
 comment_front (Some n) = Gap (n + 1)
 
--- a comment goes from `/*` up to the first `*/` behind it
+-- a comment goes from `/*` up to the first `*/` after it
 abbrev pub slash_front : List ℕ → Front Kind
 slash_front [] = Wrong
 slash_front (c ∷ cs) = if c == 42 then comment_front (closed_after cs) else Wrong
 
--- what a byte and those behind it begin with
+-- what a byte and those after it begin with
 abbrev pub front : ℕ → List ℕ → Front Kind
 front c cs =
     if is_space c then Gap 0
@@ -87,7 +87,7 @@ front c cs =
     (word_kind (c ∷ take (prefix_len is_name_byte cs) cs))
     else mark_front (mark_kind c)))
 
--- the tokens of a text. A byte that begins no token, and a `/*` without a `*/` behind it, are the last token.
+-- the tokens of a text. A byte that begins no token, and a `/*` without a `*/` after it, are the last token.
 abbrev pub tokens : List ℕ → List Token
 tokens text = tokens_behind Bad front 0 0 text
 

@@ -142,7 +142,7 @@ pub record Means (text : List ℕ) (net : Netlist) : Type 0 where
   -- over all items of the right width the machine answers what the net shows
   pub shows : (items : List Item) → EachEvent (λ inputs. length inputs ≡ length net.inputs) items
       → run program items ≡ map shown_by_call (net_run net items)
-  -- and behind each call every gate's name has the gate's value
+  -- and after each call every gate's name has the gate's value
   pub nets : (items : List Item) → EachEvent (λ inputs. length inputs ≡ length net.inputs) items
       → map (λ memory. map memory (gate_names net)) (memories program items)
       ≡ map (drop (first_gate net)) (net_values_run net items)

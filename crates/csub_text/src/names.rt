@@ -9,14 +9,14 @@ use crate::trees::{CProgram, State};
 use base_types::{NoMemory, Text};
 use std::alloc::Global;
 
-/// The names that a program declares, in the order of the text. Its only error is want of memory.
+/// The names that a program declares, in the order of the text. Its only error is out of memory.
 pub fn declared_names<'a>(alloc: Global, program: &'a CProgram) -> Result<Vec<&'a [u8]>, NoMemory>
     ensures { IfOk result (λ v. map (λ w. w.now) v.items ≡ declared (program_of program.now)) }
 {
     variable_names(alloc, &program.states, &program.globals, &program.locals)
 }
 
-/// The names of these variables, in this order. Its only error is want of memory.
+/// The names of these variables, in this order. Its only error is out of memory.
 pub fn variable_names<'a>(
     alloc: Global,
     states: &'a [State],

@@ -44,7 +44,7 @@ DelayFits visible (Count count span event) = TestFits visible event
 
 -- The statements of a program that has this many inputs, interface signals and signals in all. What is emitted and
 -- tested is visible: an interface signal, or one bound around it. No input is emitted. A `signal` binds signals of the
--- program that are no interface signals. An exit stands in the trap that it leaves.
+-- program that are no interface signals. An exit is in the trap that it leaves.
 module _ (inputs interface all : ℕ) where
   abbrev pub AreLocal : List ℕ → Type 0
   AreLocal [] = ⊤

@@ -1,6 +1,6 @@
 -- To believe: the parts that a program text is made of: spaces, comments, words, numerals and marks.
--- A part is told by the text from its first byte on and by its length, since what a comment is
--- depends on the bytes behind it.
+-- A part is reported by the text from its first byte on and by its length, since what a comment is
+-- depends on the bytes after it.
 use Rattle.std.specs.Prelude.{◌≡◌, ℕ, ◌+◌, ◌<◌, ◌≤◌, ◌≢◌, ◌⊎◌, List, length, take, slice_index}
 use Rattle.est_ast.specs.declared.tokens.Mark.{Mark}
 use Rattle.est_ast.specs.Spelling.{sign}
@@ -39,7 +39,7 @@ pub record BeginsWithSpace (text : List ℕ) (n : ℕ) : Type 0 where
   pub space : IsSpace (slice_index text 0)
 
 -- A line comment goes from a `%` that opens no block comment up to the next line feed, or else up
--- to the end of the text. The line feed is a space behind it.
+-- to the end of the text. The line feed is a space after it.
 pub record BeginsWithLineComment (text : List ℕ) (n : ℕ) : Type 0 where
   pub percent : HasByte text 0 37
   pub no_block : ¬ OpensComment text

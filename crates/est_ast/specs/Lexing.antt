@@ -39,7 +39,7 @@ pub record TextPiece : Type 0 where
   pub width : ℕ
   pub token : Option Kind
 
--- The text is cut into these pieces, one behind the other, and then this rest.
+-- The text is cut into these pieces, one after the other, and then this rest.
 abbrev pub Cuts : List TextPiece → List ℕ → List ℕ → Type 0
 Cuts [] text rest = text ≡ rest
 Cuts (piece ∷ pieces) text rest = IsFrontToken text piece.width piece.token × Cuts pieces (drop piece.width text) rest

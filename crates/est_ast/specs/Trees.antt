@@ -71,7 +71,7 @@ mutual
     NoStmts : Stmts
     MoreStmts : (p : Stmt) (others : Stmts) → Stmts
 
-  -- cases, each with its test and with what stands behind `do`
+  -- cases, each with its test and with what comes after `do`
   pub data Cases : Type 0 where
     NoCases : Cases
     MoreCases : (event : Expr) (body : Part) (others : Cases) → Cases

@@ -4,7 +4,7 @@ ghost use Rattle.std.specs.Prelude.{◌≤◌, length};
 
 use base_types::{InputRelation, SigId, SignalInfo, Span, Text};
 
-/// A program whose modules stand in one body. Signals are, in this order, the inputs, the inputoutputs, the
+/// A program whose modules are in one body. Signals are, in this order, the inputs, the inputoutputs, the
 /// outputs and the local ones, each kind in the order of the text. There are at most `Limits::SIGNALS`.
 #[derive(Drop)]
 pub struct Flat {
@@ -61,7 +61,7 @@ pub struct FlatStmt {
     pub form: FlatForm,
 }
 
-/// What a statement is: the forms of a source statement, but for `run`.
+/// What a statement is: the forms of a source statement, except for `run`.
 #[derive(Drop)]
 #[cycle(flat)]
 pub enum FlatForm {

@@ -76,7 +76,7 @@ pub enum Delay {
     Count(u128, Span, SigExpr),
 }
 
-/// `case`, its test, and what stands behind `do` where that is there.
+/// `case`, its test, and what comes after `do` where that is there.
 #[derive(Drop)]
 #[cycle(tree)]
 pub struct Case {
@@ -117,9 +117,9 @@ pub enum Form {
     Await(Delay, Option<Box<Stmt>>),
     /// `await case .. end`, with one case or more.
     AwaitCase(Vec<Case>),
-    /// `present e`, the part behind `then` and that behind `else`.
+    /// `present e`, the part after `then` and that after `else`.
     Present(SigExpr, Option<Box<Stmt>>, Option<Box<Stmt>>),
-    /// `present case .. end`, with one case or more, and the part behind `else`.
+    /// `present case .. end`, with one case or more, and the part after `else`.
     PresentCase(Vec<Case>, Option<Box<Stmt>>),
     /// `loop p end`.
     Loop(Box<Stmt>),

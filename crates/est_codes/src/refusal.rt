@@ -14,7 +14,7 @@ pub enum CodeFault {
     /// is the one whose place starts first, and of those that start there the one that ends first.
     #[error("the loop at byte {} is instantaneous", .0.start)]
     InstantLoop(Span),
-    /// Want of memory.
+    /// Running out of memory.
     #[error("no memory")]
     NoMemory,
 }

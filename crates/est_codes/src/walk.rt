@@ -19,7 +19,7 @@ use est_kernel::{Codes, Kernel};
 use std::alloc::Global;
 
 /// The static codes of each statement of the body, by its number in preorder.
-/// Its errors are an instantaneous loop, the first one by its place, and want of memory.
+/// Its errors are an instantaneous loop, the first one by its place, and out of memory.
 ///
 /// Example: `present A then pause end` has the codes 0 and 1 when it is started, so a loop around it is refused.
 pub fn codes(alloc: Global, body: &Kernel) -> Result<Codes, CodeFault>
@@ -37,7 +37,7 @@ pub fn codes(alloc: Global, body: &Kernel) -> Result<Codes, CodeFault>
 }
 
 /// The static codes of each statement of the body, by its number in preorder, whether or not the body has an
-/// instantaneous loop. Its only error is want of memory.
+/// instantaneous loop. Its only error is out of memory.
 pub fn code_sets(alloc: Global, body: &Kernel) -> Result<Codes, NoMemory>
     requires { KeepsLimits (term_of body.now) }
     ensures { IfOk result (λ codes. AreCodesOf codes (term_of body.now)) }

@@ -18,7 +18,7 @@ pub data Expansion : Type 0 where
   TooHigh : Expansion
   TooManyTraps : Expansion
 
--- the body's kernel term; its new signals are numbered behind the others
+-- the body's kernel term; its new signals are numbered after the others
 abbrev pub kernel_body : Flat → Term
 kernel_body flat = kernel [] (length flat.signals) flat.body
 

@@ -174,7 +174,7 @@ around_body Missing traps = false ∷ traps
 around_body (Written q) traps = false ∷ false ∷ traps
 
 -- The kernel term of a statement, where these traps stand around it and the next new signal has the number x. The parts
--- of a statement have the new signals in the order in which they are written, behind that of the statement.
+-- of a statement have the new signals in the order in which they are written, after that of the statement.
 abbrev mutual
   pub kernel : Traps → ℕ → Stmt → Term
   kernel traps x (At at form) = kernel_of_form traps x at form

@@ -13,6 +13,6 @@ traps_step (Traps-F.New around) = false ∷ around.now
 abbrev pub traps_of : CodeTraps → Traps
 traps_of = fold-Traps (List Bool) traps_step
 
--- so many more traps can stand in these
+-- so many more traps can be in these
 abbrev pub HasRoom : CodeTraps → ℕ → Type 0
 HasRoom traps more = length (traps_of traps) + more ≤ TRAPS

@@ -24,7 +24,7 @@ use est_kernel::Kernel;
 use std::alloc::Global;
 
 /// The kernel term of a statement in these traps. The new signals of the statement have the numbers from `next`
-/// on, and behind them stands the next.
+/// on, and after them stands the next.
 #[cycle(expansion)]
 #[tactic(auto, using(crate::proofs::KernelNodes::stmt_rows))]
 pub(crate) fn expand(

@@ -1,4 +1,4 @@
-// The kernel terms of statements with parts, a function for each form: statements stand in one another up to the limit
+// The kernel terms of statements with parts, a function for each form: statements are in one another up to the limit
 // on depths, and an expansion keeps on the stack what one form needs and no other's. So none is inlined into the
 // function that chooses among them. Each takes its parts as the form holds them, boxes and lists, so that its contract
 // can name the form.
@@ -21,7 +21,7 @@ use est_ast::{FlatCase, FlatDelay, FlatExpr, FlatStmt};
 use est_kernel::Kernel;
 use std::alloc::Global;
 
-/// `await d`, and what stands behind it.
+/// `await d`, and what comes after it.
 #[cycle(expansion)]
 #[inline(never)]
 #[tactic(auto, using(crate::proofs::KernelNodes::kernel_rows))]
@@ -92,7 +92,7 @@ pub(crate) fn expand_present(
     Ok(choice_by(alloc, test, yes, no)?)
 }
 
-/// `present` of cases, and the part behind `else`.
+/// `present` of cases, and the part after `else`.
 #[cycle(expansion)]
 #[inline(never)]
 #[tactic(auto, using(crate::proofs::KernelNodes::kernel_rows))]
@@ -203,7 +203,7 @@ pub(crate) fn expand_repeat(
     Ok(terms::repeated(alloc, count, body)?)
 }
 
-/// `abort p when d`, and what stands behind it.
+/// `abort p when d`, and what comes after it.
 #[cycle(expansion)]
 #[inline(never)]
 #[tactic(auto, using(crate::proofs::KernelNodes::kernel_rows))]

@@ -65,7 +65,7 @@ fn measure_form(form: &FlatForm) -> Extent
     }
 }
 
-// That of `await d`, and what stands behind it.
+// That of `await d`, and what comes after it.
 #[cycle(measuring)]
 #[tactic(auto, using(crate::proofs::MeasuredNodes::node_extents))]
 fn measure_await(delay: &FlatDelay, rest: &Option<Box<FlatStmt>>) -> Extent

@@ -184,7 +184,7 @@ relations_in (Relations relations) = relations
 abbrev pub around_main : Module → Around
 around_main main = record { scope = main_scope (main_interface main); traps = []; chain = main.name.text ∷ [] }
 
--- Its body stands in no statement. A statement may stand in as many as the limit on depths says, so a chain of them may
+-- Its body is in no statement. A statement may be in as many as the limit on depths says, so a chain of them may
 -- have one more.
 abbrev pub main_flattening : SourceProgram → Module → FlatWalk flat.Stmt
 main_flattening modules main =

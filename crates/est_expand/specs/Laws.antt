@@ -19,7 +19,7 @@ abbrev pub FlatFormsAreNamed : Type 0
 FlatFormsAreNamed = (modules : SourceProgram) (main : Module) → IsNamedModule main
     → IfOk (flattened modules main) IsNamed
 
--- Renaming captures nothing. Let two programs be the same but for the names of what their modules bind, and let the
+-- Renaming captures nothing. Let two programs be the same except for the names of what their modules bind, and let the
 -- body of a main module be written for another one in the same way. Then the flat forms are the same but for the names
 -- of local signals, or both programs have one fault at one place.
 abbrev pub RenamingChangesNamesAlone : Type 0

@@ -1,4 +1,4 @@
--- Contract: programs that are the same but for the names of what their modules bind: formals, local signals and
+-- Contract: programs that are the same except for the names of what their modules bind: formals, local signals and
 -- traps.
 -- Two names are the same where their nearest binders stand beside one another. A name that no binder around it has is
 -- free and stays. The names of modules stay, and each name stands at the same place of the text. This is the equality
@@ -94,7 +94,7 @@ pub data SameRenames (formals signals : Pairs) : List Rename → List Rename →
       → SameName signals r.actual s.actual → SameRenames formals signals rs ss
       → SameRenames formals signals (r ∷ rs) (s ∷ ss)
 
--- a formal is renamed, or else it and the one beside it are the same where the `run` stands
+-- a formal is renamed, or else it and the one next to it are the same where the `run` stands
 abbrev pub is_same_formal : Pairs → List Rename → List ℕ × List ℕ → Bool
 is_same_formal signals renames pair =
     is_among pair.0 (map (λ r. r.formal.text) renames) || are_same signals pair.0 pair.1
@@ -174,7 +174,7 @@ module _ (modules others : SourceProgram) where
       BothMoreCases : {b : Binders} {e f : Expr} {p q : Part} {cs ds : Cases} → SameExpr b.signals e f
           → SamePart b p q → SameCases b cs ds → SameCases b (MoreCases e p cs) (MoreCases f q ds)
 
-  -- Two modules of one name, whose interfaces are alike but for the names of the formals. A name that two formals of
+  -- Two modules of one name, whose interfaces are alike except for the names of the formals. A name that two formals of
   -- one module have, two formals of the other have too.
   pub record SameModule (m n : Module) : Type 0 where
     pub name : m.name.text ≡ n.name.text
@@ -187,7 +187,7 @@ module _ (modules others : SourceProgram) where
     BothMoreModules : {m n : Module} {ms ns : SourceProgram} → SameModule m n → SameModules ms ns
         → SameModules (m ∷ ms) (n ∷ ns)
 
--- two programs that are the same but for the names of what their modules bind
+-- two programs that are the same except for the names of what their modules bind
 abbrev pub SamePrograms : SourceProgram → SourceProgram → Type 0
 SamePrograms modules others = SameModules modules others modules others
 
@@ -202,14 +202,14 @@ abbrev pub without_formal : FlattenFault → FlattenFault
 without_formal (Unbound place formal) = Unbound place []
 without_formal fault = fault
 
--- two values that are so related, or two faults that are one but for the name of a formal
+-- two values that are so related, or two faults that are one except for the name of a formal
 abbrev pub BothAre : {A B : Type 0} → (A → B → Type 0) → Result A FlattenFault → Result B FlattenFault → Type 0
 BothAre R (Ok a) (Ok b) = R a b
 BothAre R (Ok a) (Err g) = ⊥
 BothAre R (Err f) (Ok b) = ⊥
 BothAre R (Err f) (Err g) = without_formal f ≡ without_formal g
 
--- two flat programs that are the same but for the names of their local signals
+-- two flat programs that are the same except for the names of their local signals
 pub record SameButForNames (a b : flat.Flat) : Type 0 where
   pub name : a.name ≡ b.name
   pub inputs : a.inputs ≡ b.inputs

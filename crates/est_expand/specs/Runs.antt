@@ -17,7 +17,7 @@ abbrev pub module_named : SourceProgram → Name → Result Module FlattenFault
 module_named modules name =
     found_or (UnknownModule name.span) (find (λ m. is_same_name name.text m.name.text) modules)
 
--- the modules that the body of the named one stands in, from the main module on, unless it is one of them already
+-- the modules that the body of the named one is in, from the main module on, unless it is one of them already
 abbrev pub chain_with : List (List ℕ) → Name → Result (List (List ℕ)) FlattenFault
 chain_with chain name =
     if is_among name.text chain then Err (Recursive name.span (chain ++ name.text ∷ []))

@@ -35,7 +35,7 @@ interface_of shown = record {
 abbrev pub around_of : CodeAround → Around
 around_of around = record { scope = around.scope; traps = around.traps; chain = around.chain }
 
--- the traps around a place and the statements that may still stand in one another there are within the limit on depths
+-- the traps around a place and the statements that may still are in one another there are within the limit on depths
 abbrev pub TrapsFit : CodeAround → ℕ → Type 0
 TrapsFit around room = length around.traps + room ≤ DEPTH + 1
 

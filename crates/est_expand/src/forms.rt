@@ -73,7 +73,7 @@ fn exit(traps: &Traps, name: &Name) -> Result<u32, ExpandFault>
     }
 }
 
-/// `await d`, and what stands behind it.
+/// `await d`, and what comes after it.
 #[cycle(walk)]
 #[inline(never)]
 pub fn flat_await<'a>(
@@ -142,7 +142,7 @@ pub fn flat_present<'a>(
     Ok(FlatStmt { span, form })
 }
 
-/// `present` of cases, and the part behind `else`.
+/// `present` of cases, and the part after `else`.
 #[cycle(walk)]
 #[inline(never)]
 pub fn flat_present_case<'a>(
@@ -257,7 +257,7 @@ pub fn flat_repeat<'a>(
     Ok(FlatStmt { span, form })
 }
 
-/// `abort p when d`, and what stands behind it.
+/// `abort p when d`, and what comes after it.
 #[cycle(walk)]
 #[inline(never)]
 pub fn flat_abort<'a>(

@@ -10,8 +10,8 @@ pub fn flat_forms_fit()
     ensures named { FlatFormsAreNamed }
 {}
 
-/// Renaming captures nothing: programs that are the same but for the names of formals, local signals and traps have
-/// flat forms that are the same but for the names of local signals, or one fault at one place.
+/// Renaming captures nothing: programs that are the same except for the names of formals, local signals and traps have
+/// flat forms that are the same except for the names of local signals, or one fault at one place.
 pub fn renaming_changes_names_alone()
     ensures { RenamingChangesNamesAlone }
 {}

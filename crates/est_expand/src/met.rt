@@ -89,7 +89,7 @@ impl Met {
     }
 }
 
-// Puts signals behind the others.
+// Puts signals after the others.
 fn push_signals(
     alloc: Global,
     signals: &mut Vec<SignalInfo>,

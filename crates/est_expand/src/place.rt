@@ -21,7 +21,7 @@ pub struct Source<'a> {
     ghost named: { table.now.names ≡ module_names (map module_of modules.now) },
 }
 
-/// A statement that is walked: the program, where so many more may stand in one that stands in it, and its place.
+/// A statement that is walked: the program, where so many more may be in one that is in it, and its place.
 #[derive(Clone, Copy)]
 pub struct Site<'a> {
     pub source: Source<'a>,
@@ -40,7 +40,7 @@ pub struct Around<'a> {
 impl<'a> Source<'a> {
     ghost use Rattle.std.specs.Prelude.{◌+◌, IfSome, IfNone};
 
-    /// The same inside of a statement, where one more may stand in another.
+    /// The same inside of a statement, where one more may be in another.
     pub fn inside(&self) -> Option<Source<'a>>
         ensures some { IfSome result (λ inner. (inner.modules ≡ self.now.modules) × (inner.table ≡ self.now.table)
             × (inner.inputs ≡ self.now.inputs) × (self.now.room ≡ inner.room + 1)) }

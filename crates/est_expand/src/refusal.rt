@@ -13,7 +13,7 @@ pub enum ScopeFault {
     /// A `run` of a module that is not there.
     #[error("the module at byte {} is unknown", .0.start)]
     UnknownModule(Span),
-    /// A `run` that leads back to a module that it stands in. The names are those of the modules from the
+    /// A `run` that leads back to a module that it is in. The names are those of the modules from the
     /// main one to the repeated one.
     #[error("the module at byte {} runs itself", .0.start)]
     Recursive(Span, Vec<Text>),
@@ -27,7 +27,7 @@ pub enum ScopeFault {
     /// its name: the first such one.
     #[error("a signal of the module at byte {} is not given", .0.start)]
     Unbound(Span, Text),
-    /// An `exit` that stands in no trap of its name in its module, or a `handle` of another name than its
+    /// An `exit` that is in no trap of its name in its module, or a `handle` of another name than its
     /// trap's.
     #[error("the trap at byte {} is unknown", .0.start)]
     UnknownTrap(Span),
@@ -43,11 +43,11 @@ pub enum ExpandFault {
     Scope(ScopeFault),
     /// More than 65,536 statements are met.
     TooManyStatements,
-    /// A statement stands in more than 2,048 statements.
+    /// A statement is in more than 2,048 statements.
     TooDeep,
     /// More than 4,096 signals are met.
     TooManySignals,
-    /// Want of memory.
+    /// Running out of memory.
     NoMemory,
 }
 

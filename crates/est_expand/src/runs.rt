@@ -33,7 +33,7 @@ pub fn module_named<'a>(source: &Source<'a>, name: &Name) -> Result<&'a Module, 
     }
 }
 
-/// Enters the module of this name, unless the place stands in it already.
+/// Enters the module of this name, unless the place is in it already.
 #[inline(never)]
 pub fn enter<'a>(alloc: Global, chain: &mut NameSet<'a>, name: &'a Name) -> Result<(), ExpandFault>
     ensures { AnswersAsDefined (λ _. chain.new) result (chain_with chain.old name.now) }
@@ -45,7 +45,7 @@ pub fn enter<'a>(alloc: Global, chain: &mut NameSet<'a>, name: &'a Name) -> Resu
     Ok(())
 }
 
-// The fault of a module that leads back to one that it stands in.
+// The fault of a module that leads back to one that it is in.
 fn recursion(alloc: Global, chain: &NameSet, name: &Name) -> Result<ExpandFault, NoMemory>
     ensures { IfOk result (λ fault. fault_of fault
         ≡ Some (recursion_fault name.now.span (chain.now ++ name.now.text ∷ []))) }

@@ -62,7 +62,7 @@ impl<'a> Scope<'a> {
         self.latest.get(name).copied()
     }
 
-    /// Binds a name. For want of memory the scope stays as it was.
+    /// Binds a name. Because memory ran out the scope stays as it was.
     pub fn bind(&mut self, name: &'a [u8], meaning: Meaning) -> Result<(), NoMemory>
         ensures bound { OnOk result (self.new ≡ (name.now, meaning) ∷ self.old) }
         ensures err { OnErr result (self.new ≡ self.old) }

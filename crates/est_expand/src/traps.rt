@@ -39,7 +39,7 @@ impl<'a> Traps<'a> {
         }
     }
 
-    /// Enters a trap. Its only error is want of memory.
+    /// Enters a trap. Its only error is out of memory.
     #[inline(never)]
     pub fn enter(&mut self, name: &'a [u8]) -> Result<(), NoMemory>
         requires { length self.old < 2 ^ 32 - 1 }

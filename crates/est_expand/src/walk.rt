@@ -1,5 +1,5 @@
-// The walk over statements. They stand in one another up to the limit on depths, so what a level of it keeps on the
-// stack counts: a form has a function of its own (`forms`), and what stands in a statement is boxed as soon as it is
+// The walk over statements. They are in one another up to the limit on depths, so what a level of it keeps on the
+// stack counts: a form has a function of its own (`forms`), and what is in a statement is boxed as soon as it is
 // found.
 
 ghost use Rattle.std.specs.Prelude.{◌≡◌, ◌+◌, map, OnOk};

@@ -19,7 +19,7 @@ use Rattle.est_expand.specs.Scopes.{interface}
 
 -- ---- names
 
--- A name of a module that stands in so many runs, the main module in none. It has their number before it, so it is
+-- A name of a module that is in so many runs, the main module in none. It has their number before it, so it is
 -- apart from each name of a module around it.
 abbrev pub own : ℕ → List ℕ → List ℕ
 own depth name = depth ∷ name

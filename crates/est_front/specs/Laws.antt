@@ -24,7 +24,7 @@ abbrev pub ExpandedTextsHaveNames : Type 0
 ExpandedTextsHaveNames =
     (text : List ℕ) (main : Option (List ℕ)) (p : Program) → Expands text main p → HasNames p
 
--- A text that stands for a program has no cause of a refusal; want of memory needs none.
+-- A text that stands for a program has no cause of a refusal; out of memory needs none.
 abbrev pub StandingTextsAreNotRefused : Type 0
 StandingTextsAreNotRefused =
     (text : List ℕ) (main : Option (List ℕ)) (p : Program) (refusal : SourceRefusal) →

@@ -9,7 +9,7 @@ pub record Position : Type 0 where
 abbrev pub beginning : Position
 beginning = record { line = 1; column = 1 }
 
--- the position behind one more byte
+-- the position after one more byte
 abbrev pub behind : Position → ℕ → Position
 behind p byte =
     if byte == 10 then record { line = p.line + 1; column = 1 } else record { line = p.line; column = p.column + 1 }

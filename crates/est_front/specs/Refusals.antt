@@ -1,7 +1,7 @@
 -- To believe: why a source has no kernel program. Each refusal is the first fault of the passes in their order: the
 -- tokens, the tree, the names, the flat form, the counts, the limits of the kernel program, and its instantaneous
 -- loops.
--- Want of memory has no cause in the source.
+-- Running out of memory has no cause in the source.
 use Rattle.std.specs.Prelude.{◌≡◌, ◌⊎◌, ℕ, ⊤, List, length, slice_index_or, Option, Some, nat_lt, if◌then◌else◌, Err}
 use Rattle.base_types.specs.declared.bounds.TheConstants.Limits.{NESTING}
 use Rattle.base_types.specs.declared.place.Span.{Span}

@@ -131,7 +131,7 @@ fn put_placed<E: Sink>(
     )
 }
 
-// The line of a `run` that leads back to a module that it stands in.
+// The line of a `run` that leads back to a module that it is in.
 fn put_recursive<E: Sink>(
     err: &mut E,
     source: &[u8],

@@ -47,7 +47,7 @@ pub fn kernel_program(
 }
 
 /// The flat program of a source, in which each `run` is replaced by the body of its module.
-/// Its errors are the first fault of the source in these passes, and want of memory.
+/// Its errors are the first fault of the source in these passes, and out of memory.
 pub fn flat_program(alloc: Global, text: &[u8], main: Option<&[u8]>) -> Result<Flat, SourceRefusal>
     requires { length text.now ≤ Limits.SOURCE_BYTES }
     ensures flat { IfOk result (λ flat. Flattens text.now (option_map (λ m. m.now) main.entry) (flat_of flat)) }

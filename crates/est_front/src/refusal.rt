@@ -43,7 +43,7 @@ pub enum Quantity {
     Signals,
     /// The nodes of the kernel body.
     Kernel,
-    /// The height of the kernel body, or the statements that one statement stands in during the expansion.
+    /// The height of the kernel body, or the statements that one statement is in during the expansion.
     Height,
     /// The traps one in another.
     Traps,
@@ -56,7 +56,7 @@ pub enum SourceRefusal {
     Static(Fault),
     /// The quantity passes its limit.
     Limit(Quantity),
-    /// Want of memory.
+    /// Running out of memory.
     NoMemory,
 }
 

@@ -27,7 +27,7 @@ pub enum GenFault {
 
 /// The source of the module GEN with this many branches, drawn from a start number. It has the inputs
 /// `I0` to `I7`, the outputs `O0` to `O7`, and a local signal for each branch.
-/// Its errors are a number of branches that is not 1 to `Limits::BRANCHES`, and want of memory.
+/// Its errors are a number of branches that is not 1 to `Limits::BRANCHES`, and out of memory.
 pub fn generate_source(alloc: Global, start: u64, branches: u32) -> Result<Generated, GenFault>
     ensures source { IfOk result (λ g. g.source.items ≡ source_text start branches) }
     ensures rest { IfOk result (λ g. g.rest ≡ state_after (3 * branches) (first_state start)) }
@@ -160,14 +160,14 @@ fn put_waited(text: &mut Vec<u8>, number: u32, output: u32) -> Result<(), NoMemo
     }
 }
 
-// What stands before the item with this number and behind the one before it.
+// What stands before the item with this number and after the one before it.
 fn put_between(text: &mut Vec<u8>, separator: &[u8], number: u32) -> Result<(), NoMemory>
     ensures { OnOk result (text.new.items ≡ text.old.items ++ (if number == 0 then [] else separator.now)) }
 {
     put(text, if number == 0 { b"" } else { separator })
 }
 
-// Some bytes, and a decimal number behind them.
+// Some bytes, and a decimal number after them.
 fn put_number(text: &mut Vec<u8>, mark: &[u8], number: u32) -> Result<(), NoMemory>
     ensures { OnOk result (text.new.items ≡ text.old.items ++ (mark.now ++ decimal number)) }
 {

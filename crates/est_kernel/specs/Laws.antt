@@ -1,4 +1,4 @@
--- To believe: the laws that tie the tables to one another: what Must and Can, steps, runs and codes are to be.
+-- To believe: the laws that tie the tables to one another: what Must and Can, steps, runs and codes must be.
 use Rattle.std.specs.Prelude.{◌≡◌, ℕ, suc, ◌+◌, ◌<◌, ◌≤◌, ◌↔◌, Bool, ◌==◌, List, [], ◌∷◌, ◌++◌, length, take, slice_get}
 use Rattle.std.specs.Prelude.{All, IsTrue, Option, Some, None, option_and_then, if◌then◌else◌, ⊤}
 use Rattle.base_types.specs.Items.{Item, Event, Reset}
@@ -84,13 +84,13 @@ StepKeepsStaticCodes =
 abbrev pub PreorderHasEachStatement : Type 0
 PreorderHasEachStatement = (p : Term) → length (preorder p) ≡ statement_count p
 
--- The parts of a statement stand at the places behind it: the first at the next place, and each later one
--- behind the statements of the one before it.
+-- The parts of a statement stand at the places after it: the first at the next place, and each later one
+-- after the statements of the one before it.
 abbrev pub StandAt : List Term → List Term → ℕ → Type 0
 StandAt whole [] n = ⊤
 StandAt whole (p ∷ ps) n = (slice_get whole n ≡ Some p) × StandAt whole ps (n + statement_count p)
 
--- Place 0 of preorder has the statement itself, and behind place n stand the parts of what place n has.
+-- Place 0 of preorder has the statement itself, and after place n stand the parts of what place n has.
 pub record PreorderPlaces : Type 0 where
   pub whole : (p : Term) → slice_get (preorder p) 0 ≡ Some p
   pub parts_behind : (p t : Term) (n : ℕ) → slice_get (preorder p) n ≡ Some t → StandAt (preorder p) (parts t) (n + 1)
@@ -101,7 +101,7 @@ pub record KeepsExits (n : ℕ) (p : Term) (x : Step) : Type 0 where
   pub residual : ExitsStandInTraps n x.residual
   pub depth : trap_depth x.residual ≤ trap_depth p
 
--- exits that stand in their traps reach no further out, and what is left keeps them there
+-- exits that are in their traps reach no further out, and what is left keeps them there
 abbrev pub StepKeepsExits : Type 0
 StepKeepsExits =
     (n : ℕ) (p : Term) (E : Environment) (x : Step) → ExitsStandInTraps n p → step p E ≡ Some x → KeepsExits n p x

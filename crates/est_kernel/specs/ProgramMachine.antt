@@ -5,7 +5,7 @@ use Rattle.est_kernel.specs.Reactions.{Reaction, react}
 use Rattle.est_kernel.specs.Terms.{Term}
 use Rattle.base_machines.specs.Machines.{Machine}
 
--- its states are terms, what is so in an instant is the reaction, and behind it is what that leaves
+-- its states are terms, what is so in an instant is the reaction, and after it is what that leaves
 abbrev pub program_machine : Program → Machine Reaction
 program_machine p = record {
   State = Term;

@@ -21,7 +21,7 @@ ended c = record { emitted = λ t. false; code = c; residual = Nothing }
 abbrev pub left_by : ℕ → Term → Term
 left_by c r = if c == 1 then r else Nothing
 
--- a step whose part left the term r' behind, so that the whole leaves f r'
+-- a step whose part left the term r' after, so that the whole leaves f r'
 abbrev pub leaving : (Term → Term) → Step → Step
 leaving f a = record { emitted = a.emitted; code = a.code; residual = left_by a.code (f a.residual) }
 

@@ -24,7 +24,7 @@ IsKernel (Trap p) = IsKernel p
 IsKernel (Local s p) = IsKernel p
 IsKernel (Awake e p) = ⊥
 
--- Each exit has a code of at least 2 and stands in the trap that it leaves: code k leaves the trap that
+-- Each exit has a code of at least 2 and is in the trap that it leaves: code k leaves the trap that
 -- is k - 2 traps further out, and n traps stand around the whole.
 abbrev pub ExitsStandInTraps : ℕ → Term → Type 0
 ExitsStandInTraps n Nothing = ⊤
@@ -40,7 +40,7 @@ ExitsStandInTraps n (Trap p) = ExitsStandInTraps (n + 1) p
 ExitsStandInTraps n (Local s p) = ExitsStandInTraps n p
 ExitsStandInTraps n (Awake e p) = ExitsStandInTraps n p
 
--- a kernel statement keeps the limits on size, height and traps, and its exits stand in their traps
+-- a kernel statement keeps the limits on size, height and traps, and its exits are in their traps
 pub record KeepsLimits (p : Term) : Type 0 where
   pub size : size_of p ≤ KERNEL_NODES
   pub height : height_of p ≤ KERNEL_HEIGHT

@@ -44,7 +44,7 @@ pub fn preorder_has_each_statement()
     ensures { PreorderHasEachStatement }
 {}
 
-/// Each place of preorder has its statement, and behind it stand the statement's parts.
+/// Each place of preorder has its statement, and after it stand the statement's parts.
 pub fn preorder_has_parts_behind()
     ensures { PreorderPlaces }
 {}

@@ -1,6 +1,6 @@
 //! Kernel programs of Pure Esterel and their meaning.
 //!
-//! The trees (`Test`, `Kernel`, `KernelProgram`) stand in src/, and their meaning stands in specs/:
+//! The trees (`Test`, `Kernel`, `KernelProgram`) are in src/, and their meaning is in specs/:
 //! terms, statuses, the potentials Must and Can, the constructive step, a reaction, a run, and the
 //! static completion codes. They are written after Berry, "The Constructive Semantics of Pure
 //! Esterel"; where another wording is found there, the tables of specs/ hold. The laws that tie the

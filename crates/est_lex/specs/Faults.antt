@@ -1,4 +1,4 @@
--- Contract: the faults of a text, as the lexer names them. Want of memory has no cause in the text.
+-- Contract: the faults of a text, as the lexer names them. Running out of memory has no cause in the text.
 use Rattle.std.specs.Prelude.{◌≡◌, ℕ, ⊤, List}
 use Rattle.est_ast.specs.Lexing.{LexesAs, BeginsWithBadByte, BeginsWithOpenComment, BeginsWithBigNumber}
 use Rattle.est_ast.specs.Lexing as lexing

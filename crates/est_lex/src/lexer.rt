@@ -11,7 +11,7 @@ use est_ast::Token;
 use std::alloc::Global;
 
 /// The tokens of a program text, each with its place, or the text's first fault. Reserved words
-/// and marks are told apart from identifiers and numbers; spaces and comments are left out.
+/// and marks are distinguished from identifiers and numbers; spaces and comments are left out.
 ///
 /// It takes time and memory in proportion to the text.
 ///

@@ -18,7 +18,7 @@ pub enum LexError {
     /// The digits from this place on are a number above the greatest of 128 bits.
     #[error("the number at byte {0} is too great")]
     BigNumber(u32),
-    /// Want of memory.
+    /// Running out of memory.
     #[error("no memory")]
     NoMemory,
 }

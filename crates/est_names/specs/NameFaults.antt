@@ -13,7 +13,7 @@ use Rattle.est_names.specs.declared.refusal.NameFault.TheVariants.{DuplicateModu
 use Rattle.est_names.specs.declared.refusal.NameFault.TheVariants.{RelationName}
 use Rattle.est_names.specs.Names.{texts, is_among, place_of}
 
--- a fault at each name that stands in the list, or in the one before it, already
+-- a fault at each name that is in the list, or in the one before it, already
 abbrev pub again : (Span → NameFault) → List (List ℕ) → List Name → List NameFault
 again fault before [] = []
 again fault before (name ∷ names) =
@@ -63,7 +63,7 @@ interface_faults decls = decl_faults (texts (flat_map given_in decls)) [] decls
 
 -- ---- bodies
 
--- the lists of names behind `signal`
+-- the lists of names after `signal`
 abbrev mutual
   pub signal_lists : Stmt → List (List Name)
   signal_lists (At span form) = signal_lists_in form
@@ -110,7 +110,7 @@ abbrev mutual
   signal_lists_cases NoCases = []
   signal_lists_cases (MoreCases event body others) = signal_lists_part body ++ signal_lists_cases others
 
--- no name stands twice behind one `signal`
+-- no name stands twice after one `signal`
 abbrev pub body_faults : Stmt → List NameFault
 body_faults body = flat_map (again DuplicateSignal []) (signal_lists body)
 

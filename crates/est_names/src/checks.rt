@@ -25,7 +25,7 @@ use std::alloc::Global;
 ///
 /// Else the first fault: `DuplicateModule` at the first module name that an earlier module has; `NoMain`
 /// where no module has the given name; then, in the order of the text, `DuplicateSignal` at a name that is
-/// declared a second time in one interface or behind one `signal`, or `RelationName` at a name in a relation
+/// declared a second time in one interface or after one `signal`, or `RelationName` at a name in a relation
 /// that its module does not declare as an input or an inputoutput.
 ///
 /// Names are found by their hashes, so the time and the memory are linear in the program.
@@ -119,7 +119,7 @@ fn check_interface(alloc: Global, decls: &[Decl]) -> Result<(), Stop<NameFault>>
     check_decls(alloc, &given, decls)
 }
 
-// That no name stands twice behind one `signal`.
+// That no name stands twice after one `signal`.
 fn check_body(alloc: Global, body: &Stmt) -> Result<(), Stop<NameFault>>
     ensures faultless { OnOk result (body_faults (stmt_of body.now) ≡ []) }
     ensures fault { IfFault result (IsFirst (body_faults (stmt_of body.now))) }

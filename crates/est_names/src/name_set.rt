@@ -34,7 +34,7 @@ impl<'a> NameSet<'a> {
         }
     }
 
-    /// Puts a name in behind the others, and answers whether it is new.
+    /// Puts a name in after the others, and answers whether it is new.
     pub fn insert(&mut self, name: &'a [u8]) -> Result<bool, NoMemory>
         ensures new { IfOk result (λ new. new ≡ not (is_among name.now self.old)) }
         ensures names { IfOk result (λ new. self.new ≡ (if new then self.old ++ name.now ∷ [] else self.old)) }

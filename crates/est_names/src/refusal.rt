@@ -12,7 +12,7 @@ pub enum NameFault {
     /// No module has the name that is given for the main one.
     #[error("no module has the name of the main one")]
     NoMain,
-    /// A name that is declared a second time in one interface or behind one `signal`.
+    /// A name that is declared a second time in one interface or after one `signal`.
     #[error("the signal at byte {} is declared a second time", .0.start)]
     DuplicateSignal(Span),
     /// A name in a relation that its module declares neither as an input nor as an inputoutput.

@@ -1,4 +1,4 @@
-// The lists of names behind the `signal`s of a body.
+// The lists of names after the `signal`s of a body.
 
 ghost use Rattle.std.specs.Prelude.{◌≡◌, ◌++◌, map, OnOk};
 ghost use Rattle.est_ast.specs.Trees.{stmts, cases};
@@ -9,7 +9,7 @@ ghost use Rattle.est_names.specs.NameFaults.{signal_lists_all, signal_lists_case
 use base_types::NoMemory;
 use est_ast::{Case, Form, Handle, Name, Stmt};
 
-/// Puts those of a statement behind the others, in the order of the text.
+/// Puts those of a statement after the others, in the order of the text.
 #[cycle(signal_lists)]
 #[tactic(auto, using(est_ast::proofs::Exports::rows))]
 pub fn push_lists<'a>(lists: &mut Vec<&'a [Name]>, statement: &'a Stmt) -> Result<(), NoMemory>

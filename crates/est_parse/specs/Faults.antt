@@ -1,4 +1,4 @@
--- To believe: what the faults of the parser say of the tokens. Want of memory says nothing.
+-- To believe: what the faults of the parser say of the tokens. Running out of memory says nothing.
 use Rattle.std.specs.Prelude.{◌≡◌, ℕ, ◌+◌, true, false, ⊤, List, length}
 use Rattle.est_ast.specs.declared.tokens.Token.{Token}
 use Rattle.est_ast.specs.Nesting.{IsProgram}

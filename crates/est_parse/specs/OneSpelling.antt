@@ -109,12 +109,12 @@ abbrev mutual
   form_tokens (Seq parts) = stmts_tokens marks.Semicolon parts
   form_tokens (Par parts) = stmts_tokens marks.DoubleBar parts
 
-  -- a part behind a word
+  -- a part after a word
   pub part_tokens : Reserved → Part → List Kind
   part_tokens w Missing = []
   part_tokens w (Written p) = word w ++ stmt_tokens p
 
-  -- a part behind `do`, with its `end`
+  -- a part after `do`, with its `end`
   pub do_tokens : Part → List Kind
   do_tokens Missing = []
   do_tokens (Written p) = word words.Do ++ (stmt_tokens p ++ word words.End)

@@ -1,4 +1,4 @@
--- Inner: how the nodes of a tree are made of what stands in a text.
+-- Inner: how the nodes of a tree are made of what is in a text.
 use Rattle.std.specs.Prelude.{ℕ, List, [], ◌∷◌, Option, Some, None}
 use Rattle.base_types.specs.declared.place.Span.{Span}
 use Rattle.est_ast.specs.declared.trees.Name.{Name}
@@ -29,7 +29,7 @@ renames_of (Some renames) = renames
 abbrev pub count_of : (ℕ × Span) × Expr → Delay
 count_of found = Count found.0.0 found.0.1 found.1
 
--- what is waited for: cases, or a delay and what stands behind `do`
+-- what is waited for: cases, or a delay and what comes after `do`
 pub data Tail : Type 0 where
   CaseTail : Cases → Tail
   DelayTail : Delay → Part → Tail

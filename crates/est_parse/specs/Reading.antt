@@ -113,7 +113,7 @@ part w whole = mapped part_of (optional_or (word w) (λ _. whole) (give tt))
 abbrev pub do_part : Reserved → Rule Token Stmt → Rule Token Part
 do_part w whole = mapped part_of (optional_or (word words.Do) (λ _. trail whole (ends w)) (give tt))
 
--- what stands behind "case"
+-- what comes after "case"
 abbrev pub case_behind : Rules → Rule Token (Expr × Part)
 case_behind r = both r.expr (part words.Do r.whole)
 
@@ -156,7 +156,7 @@ renames =
     mapped renames_of (optional_or (mark marks.LeftBracket)
     (λ _. on (word words.Signal) (λ _. trail (listed marks.Comma rename) (the (mark marks.RightBracket)))) (give tt))
 
--- what stands behind the token of an item without a statement in it
+-- what comes after the token of an item without a statement in it
 abbrev pub flat_behind : Flat → Rule Token Form
 flat_behind flats.Nothing = give Nothing
 flat_behind flats.Pause = give Pause
@@ -181,7 +181,7 @@ head blocks.Suspend event = give SuspendHead
 head blocks.Trap event = mapped TrapHead (trail (the name) (the (word words.In)))
 head blocks.Signal event = mapped SignalHead (trail (listed marks.Comma (the name)) (the (word words.In)))
 
--- what stands behind the statement
+-- what comes after the statement
 abbrev pub closing : Rules → Head → Stmt → Rule Token Form
 closing r GroupHead p = mapped (λ _. Group p) (the (mark marks.RightBracket))
 closing r LoopHead p = mapped (λ d. loop_of (p, d)) (loop_tail r)
@@ -197,7 +197,7 @@ closing r (SignalHead names) p = mapped (λ _. Signal names p) (ends words.Signa
 abbrev pub blocked : Rules → Rule Token Head → Rule Token Form
 blocked r before tokens = follow (before tokens) (λ h rest. follow (r.whole rest) (closing r h))
 
--- what stands behind the token that begins an item
+-- what comes after the token that begins an item
 abbrev pub item_behind : Opening → Rules → Rule Token Form
 item_behind (openings.Flat flat) r = flat_behind flat
 item_behind openings.Await r = mapped await_of (tail words.Await r)
@@ -250,7 +250,7 @@ statement room = (rules room).whole
 
 -- Modules.
 
--- what stands behind the first name of a relation
+-- what comes after the first name of a relation
 pub data Related : Type 0 where
   Effect : Name → Related
   Others : List Name → Related

@@ -1,5 +1,5 @@
 -- Contract: the trees that the grammar has, whatever their places. A sequence is no part of a sequence, a parallel
--- stands in neither, an `or` stands neither in an `or` nor in an `and`, nor an `and` in an `and`, and what `not` holds
+-- is in neither, an `or` stands neither in an `or` nor in an `and`, nor an `and` in an `and`, and what `not` holds
 -- is none of these: brackets make a part of them. Lists have two parts or more; cases, and the names of `signal`, of a
 -- declaration and of its relations, one or more. An event is a signal, `tick` or a test in `[ ]`.
 use Rattle.std.specs.Prelude.{⊤, ◌<◌, List, [], ◌∷◌, length}
@@ -56,13 +56,13 @@ IsDelay (Plain event) = IsEvent event
 IsDelay (Immediate event) = IsEvent event
 IsDelay (Count count span event) = IsEvent event
 
--- what stands behind `each`
+-- what comes after `each`
 abbrev pub IsCount : Delay → Type 0
 IsCount (Plain event) = IsEvent event
 IsCount (Immediate event) = ⊥
 IsCount (Count count span event) = IsEvent event
 
--- what stands behind the `when` of `suspend`
+-- what comes after the `when` of `suspend`
 abbrev pub IsTest : Delay → Type 0
 IsTest (Plain event) = IsEvent event
 IsTest (Immediate event) = IsEvent event

@@ -1,4 +1,4 @@
--- Contract: a tree without its places. Two trees that are equal without them are the same but for where they stand.
+-- Contract: a tree without its places. Two trees that are equal without them are the same except for where they stand.
 use Rattle.std.specs.Prelude.{map}
 use Rattle.base_types.specs.declared.place.Span.{Span}
 use Rattle.est_ast.specs.declared.trees.Name.{Name}

@@ -6,7 +6,7 @@ ghost use Rattle.est_parse.specs.Laws.{SpellingsAreGrammatical, SpellingsAreRead
 
 /// Each tree that the grammar can have, whatever its places, has one spelling: the kinds of its tokens without optional
 /// words, without an optional `;`, with `end module`, and with `repeat` for both spellings of that statement. To tokens
-/// of these kinds the grammar gives this tree, but for its places; and it gives no tokens to any other tree.
+/// of these kinds the grammar gives this tree, except for its places; and it gives no tokens to any other tree.
 pub fn spellings_are_grammatical()
     ensures spelled { SpellingsAreGrammatical }
     ensures all { TreesAreSpellable }

@@ -28,7 +28,7 @@ pub fn read_exactly(alloc: Global, tokens: &[Token], room: u32) -> Result<Progra
     read_whole(alloc, tokens, room)
 }
 
-// The program that the tokens spell, with nothing behind it.
+// The program that the tokens spell, with nothing after it.
 fn read_whole(alloc: Global, tokens: &[Token], room: u32) -> Result<Program, ReadError>
     ensures { Gives program_of result (whole (program room) tokens.now) }
 {

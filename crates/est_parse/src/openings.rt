@@ -8,7 +8,7 @@ ghost use Rattle.base_reader.specs.declared.faults.ReadError.TheVariants as erro
 use base_reader::{ReadError, first, refused};
 use est_ast::{Kind, Mark, Reserved, Token};
 
-// What begins an item. All but the flat ones have room for a statement or a case, or stand before a
+// What begins an item. All except the flat ones have room for a statement or a case, or stand before a
 // word that has.
 #[derive(Clone, Copy)]
 pub enum Opening {
@@ -61,7 +61,7 @@ pub enum Declaration {
     Relation,
 }
 
-// What begins an item with the next token, and the tokens behind it.
+// What begins an item with the next token, and the tokens after it.
 pub fn past_opening(tokens: &[Token]) -> Option<(Opening, &[Token])>
     ensures { MatchOption result
         (picked opening tokens.now ≡ None)
@@ -117,7 +117,7 @@ pub fn check_event(tokens: &[Token]) -> Result<(), ReadError>
     }
 }
 
-// What begins a declaration with the next token, and the tokens behind it.
+// What begins a declaration with the next token, and the tokens after it.
 pub fn past_declaration(tokens: &[Token]) -> Option<(Declaration, &[Token])>
     ensures { MatchOption result
         (picked declaration tokens.now ≡ None)

@@ -16,7 +16,7 @@ pub enum ParseError {
     /// No program of the nesting that is read passes this place, but a deeper one does.
     #[error("token {0} is nested too deep")]
     TooNested(u32),
-    /// Want of memory.
+    /// Running out of memory.
     #[error("no memory")]
     NoMemory,
 }

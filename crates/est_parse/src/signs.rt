@@ -13,7 +13,7 @@ use base_types::{Span, Text};
 use est_ast::{Kind, Mark, Name, Reserved, Token};
 use std::alloc::Global;
 
-// The tokens behind this reserved word, where it stands next.
+// The tokens after this reserved word, where it stands next.
 pub fn past_word(expected: Reserved, tokens: &[Token]) -> Option<&[Token]>
     ensures { MatchOption result
         (picked (word expected) tokens.now ≡ None)
@@ -25,7 +25,7 @@ pub fn past_word(expected: Reserved, tokens: &[Token]) -> Option<&[Token]>
     }
 }
 
-// The tokens behind this mark, where it stands next.
+// The tokens after this mark, where it stands next.
 pub fn past_mark(expected: Mark, tokens: &[Token]) -> Option<&[Token]>
     ensures { MatchOption result
         (picked (mark expected) tokens.now ≡ None)
@@ -37,7 +37,7 @@ pub fn past_mark(expected: Mark, tokens: &[Token]) -> Option<&[Token]>
     }
 }
 
-// The tokens behind this reserved word, which must stand next.
+// The tokens after this reserved word, which must stand next.
 pub fn after_word(expected: Reserved, tokens: &[Token]) -> Result<&[Token], ReadError>
     ensures { MatchResult result
         (λ rest. picked (word expected) tokens.now ≡ Some (tt, rest.now))
@@ -49,7 +49,7 @@ pub fn after_word(expected: Reserved, tokens: &[Token]) -> Result<&[Token], Read
     }
 }
 
-// The tokens behind this mark, which must stand next.
+// The tokens after this mark, which must stand next.
 pub fn after_mark(expected: Mark, tokens: &[Token]) -> Result<&[Token], ReadError>
     ensures { MatchResult result
         (λ rest. picked (mark expected) tokens.now ≡ Some (tt, rest.now))
@@ -61,7 +61,7 @@ pub fn after_mark(expected: Mark, tokens: &[Token]) -> Result<&[Token], ReadErro
     }
 }
 
-// The tokens behind `end`, and behind the word where it stands there.
+// The tokens after `end`, and after the word where it is there.
 pub fn after_end(word: Reserved, tokens: &[Token]) -> Result<((), &[Token]), ReadError>
     ensures { Finds (λ _. tt) result (ends word tokens.now) }
 {

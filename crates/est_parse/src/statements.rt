@@ -124,7 +124,7 @@ fn read_form(alloc: Global, tokens: &[Token], room: u32) -> Result<(Form, &[Toke
     }
 }
 
-// What stands behind the token of an item without a statement in it.
+// What comes after the token of an item without a statement in it.
 fn read_flat(alloc: Global, flat: Flat, tokens: &[Token]) -> Result<(Form, &[Token]), ReadError>
     ensures { Finds form_of result (flat_behind flat tokens.now) }
 {
@@ -152,7 +152,7 @@ fn read_flat(alloc: Global, flat: Flat, tokens: &[Token]) -> Result<(Form, &[Tok
     }
 }
 
-// What stands behind the token of an item with a statement in it.
+// What comes after the token of an item with a statement in it.
 #[cycle(statements)]
 fn read_block(
     alloc: Global,
@@ -180,7 +180,7 @@ pub fn read_boxed(
     Ok((Box::new(alloc, body)?, rest))
 }
 
-// What stands behind the statement of an item.
+// What comes after the statement of an item.
 #[cycle(statements)]
 fn read_closing(
     alloc: Global,
@@ -255,7 +255,7 @@ fn read_trap_end(
     Ok((handle, rest))
 }
 
-// `when` and a delay, behind the statement of a weak abortion.
+// `when` and a delay, after the statement of a weak abortion.
 fn read_weak_closing(
     alloc: Global,
     body: Box<Stmt>,
@@ -269,7 +269,7 @@ fn read_weak_closing(
     Ok((Form::WeakAbort(body, delay), rest))
 }
 
-// `when` and a test, behind the statement of a suspension.
+// `when` and a test, after the statement of a suspension.
 fn read_suspend_closing(
     alloc: Global,
     body: Box<Stmt>,
@@ -299,7 +299,7 @@ fn read_loop_tail(
     Ok((None, rest))
 }
 
-// What stands behind `present`.
+// What comes after `present`.
 #[cycle(statements)]
 fn read_present(alloc: Global, tokens: &[Token], room: u32) -> Result<(Form, &[Token]), ReadError>
     ensures { Finds form_of result (mapped present_of (choice (rules room)) tokens.now) }
@@ -330,7 +330,7 @@ fn read_branches(
     Ok(((then, other), rest))
 }
 
-// The part behind `else`, where that word stands next, and the end.
+// The part after `else`, where that word stands next, and the end.
 #[cycle(statements)]
 fn read_other(
     alloc: Global,
@@ -344,7 +344,7 @@ fn read_other(
     Ok((other, rest))
 }
 
-// `handle` and what stands behind it, where that word stands next.
+// `handle` and what comes after it, where that word stands next.
 #[cycle(statements)]
 fn read_handle(
     alloc: Global,
@@ -363,7 +363,7 @@ fn read_handle(
 }
 
 // What is waited for in a statement that begins with the word: cases up to `end`, or a delay and
-// maybe a part behind `do`.
+// maybe a part after `do`.
 #[cycle(statements)]
 fn read_tail(
     alloc: Global,
@@ -383,7 +383,7 @@ fn read_tail(
     Ok((Tail::Delay(delay, body), rest))
 }
 
-// A statement behind `do` and the end of what the word begins, where `do` stands next.
+// A statement after `do` and the end of what the word begins, where `do` stands next.
 #[cycle(statements)]
 fn read_do_part(
     alloc: Global,
@@ -422,7 +422,7 @@ fn read_cases(
     Ok((found, rest))
 }
 
-// What stands behind `case`.
+// What comes after `case`.
 #[cycle(statements)]
 fn read_case(alloc: Global, tokens: &[Token], room: u32) -> Result<(Case, &[Token]), ReadError>
     ensures { Finds case_of result (case_behind (rules room) tokens.now) }
@@ -437,7 +437,7 @@ fn read_case(alloc: Global, tokens: &[Token], room: u32) -> Result<(Case, &[Toke
     Ok((Case { event, body }, rest))
 }
 
-// A statement behind the word, where that word stands next.
+// A statement after the word, where that word stands next.
 #[cycle(statements)]
 fn read_part(
     alloc: Global,

@@ -13,7 +13,7 @@ ghost use Rattle.base_reader.specs.Readings.{Read, follow, give};
 use base_reader::ReadError;
 use est_ast::{Case, Delay, Form, Stmt, Token};
 
-// Cases, or a delay and maybe a statement behind `do`.
+// Cases, or a delay and maybe a statement after `do`.
 #[derive(Drop)]
 pub enum Tail {
     Cases(Vec<Case>),

@@ -1,7 +1,7 @@
 //! The three-valued walk of a term, and what it has to do with the term's potentials, step and reaction.
 //!
 //! One walk, by Kleene's three-valued tables, stands for the three kinds of potentials of Berry, "The Constructive
-//! Semantics of Pure Esterel". The walk stands in specs/; the laws that tie it to the tables of `est_kernel` are
+//! Semantics of Pure Esterel". The walk is in specs/; the laws that tie it to the tables of `est_kernel` are
 //! contracts of this crate's functions.
 #![tactic(auto)]
 

@@ -36,7 +36,7 @@ use grc_graph::{
 use std::alloc::Global;
 
 /// The graph of a program: `codes` are the static codes of its body, `tree` is its selection tree, and `live` are its
-/// live instances. Its errors are too many wires and live test nodes, and want of memory.
+/// live instances. Its errors are too many wires and live test nodes, and out of memory.
 pub fn build(
     alloc: Global,
     program: KernelProgram,

@@ -1,4 +1,4 @@
-// The edges at statements with parts, but for those that test signals.
+// The edges at statements with parts, except for those that test signals.
 
 ghost use Rattle.std.specs.Prelude.{◌≡◌, ℕ, ◌+◌, ◌++◌, OnOk};
 ghost use Rattle.base_types.specs.declared.place.Span.{Span};

@@ -19,7 +19,7 @@ use grc_graph::{Edges, Graph, Statement, list_statements};
 use std::alloc::Global;
 
 /// The dependency edges between the wires of a graph, each once, in ascending order. The time is linear in the edges
-/// but for a logarithm; the error is want of memory.
+/// except for a logarithm; the error is out of memory.
 ///
 /// Example: in `present S then emit O end` the wire that starts `emit O` depends on the status of S.
 pub fn edges(alloc: Global, graph: &Graph) -> Result<Edges, NoMemory>

@@ -76,7 +76,7 @@ pub fn push_ends_if(
     )
 }
 
-// The same but for code 0.
+// The same except for code 0.
 pub fn push_later_ends_if(
     lookups: &Lookups,
     holds: bool,

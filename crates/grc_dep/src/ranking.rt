@@ -19,7 +19,7 @@ pub enum Ranked {
 }
 
 /// Ranks of the wires that grow along each edge, or a closed walk, exactly where there is one. The time is linear in
-/// the wires and edges; the error is want of memory.
+/// the wires and edges; the error is out of memory.
 pub fn cycle_or_rank(alloc: Global, edges: &Edges) -> Result<Ranked, NoMemory>
     ensures found { IfOk result (IsAnswer edges.now.count edges.now.pairs.items) }
     // The answer is a closed walk exactly where there is one.

@@ -35,7 +35,7 @@ abbrev pub both_source : List Row → Source → Source → Source
 both_source rs a b =
     if is_constant true a then b else if is_constant true b then a else if is_constant false b then b else new_source rs
 
--- the or of two sources, likewise
+-- the or of two sources, the same
 abbrev pub with_either : List Row → Source → Source → List Row
 with_either rs a b =
     if is_constant false a then rs else if is_constant false b then rs else rs ++ rows.Or a b ∷ []

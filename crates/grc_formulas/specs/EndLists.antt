@@ -20,7 +20,7 @@ is_no_end_of i (wires.End j c) = not (j.0 == i)
 is_no_end_of i (wires.Local j) = true
 is_no_end_of i (wires.Out s) = true
 
--- For each instance the first of its ends from this wire on; one behind the last wire where there is none.
+-- For each instance the first of its ends from this wire on; one after the last wire where there is none.
 pub record EndsFound (g : Graph) (from : ℕ) (ends : List WireId) : Type 0 where
   pub each : length ends ≡ length g.instances.list.items
   pub found : (i : ℕ) (d : WireId) → i < length ends

@@ -49,7 +49,7 @@ pub record WordsFit (g : Graph) (w : Words) : Type 0 where
 abbrev pub value_of : (g : Graph) → Words → Occasion g → Source → Bool
 value_of g w t s = source_value (surroundings g t) (row_values (surroundings g t) [] w.rows.items) s
 
--- The source of a statement. What is asked of a number behind the last statement is read as of the last one, as in the
+-- The source of a statement. What is asked of a number after the last statement is read as of the last one, as in the
 -- definition of `Selected`.
 abbrev pub selected_source : Words → ℕ → Source
 selected_source w n = slice_index_or w.selected.items (min n (length w.selected.items - 1)) (Const false)

@@ -21,7 +21,7 @@ use base_types::{NoMemory, PathId, SigId, WireId};
 use grc_graph::{Graph, Layer, Neighbours, Statement, Wire, list_statements};
 use std::alloc::Global;
 
-/// The table of words of a graph. Its only error is want of memory.
+/// The table of words of a graph. Its only error is out of memory.
 pub fn words(alloc: Global, graph: &Graph) -> Result<Words, NoMemory>
     ensures words { IfOk result (λ words. AreWordsOf graph.now words) }
     ensures size { IfOk result (λ words. length words.rows.items ≤ rows_at_most graph.now) }
@@ -133,7 +133,7 @@ fn output_sources(alloc: Global, graph: &Graph, near: &Neighbours) -> Result<Vec
     Ok(outputs)
 }
 
-// For each instance the first of its wires that are ends; one behind the last wire where it has none.
+// For each instance the first of its wires that are ends; one after the last wire where it has none.
 fn first_ends(alloc: Global, graph: &Graph) -> Result<Vec<WireId>, NoMemory>
     ensures { IfOk result (λ ends. EndsFound graph.now 0 ends.items) }
 {

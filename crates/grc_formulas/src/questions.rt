@@ -7,7 +7,7 @@ use crate::table::{Source, Words};
 use base_types::{InstId, PathId};
 use grc_graph::Wire;
 
-/// What says that a statement holds a selected pause. No statement has a number behind the last one's. It takes
+/// What says that a statement holds a selected pause. No statement has a number after the last one's. It takes
 /// no memory.
 pub fn selected_source(words: &Words, path: PathId) -> Source
     requires { 0 < length words.now.selected.items }

@@ -49,7 +49,7 @@ fn leaf_sources(alloc: Global, graph: &Graph, count: usize) -> Result<Vec<Source
 }
 
 // For each statement, what says that it holds a selected pause: the or of what its parts say. The
-// parts of a statement stand behind it.
+// parts of a statement come after it.
 fn select_parts(
     graph: &Graph,
     statements: &[Statement<'_>],

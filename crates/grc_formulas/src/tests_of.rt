@@ -16,7 +16,7 @@ use base_types::{NoMemory, SigId, WireId};
 use est_kernel::Test;
 use grc_graph::{Binding, Graph, Layer, Neighbours};
 
-/// A test, and the place behind its signals in the list of those that a statement reads.
+/// A test, and the place after its signals in the list of those that a statement reads.
 #[derive(Clone, Copy)]
 pub(crate) struct Tested {
     pub source: Source,

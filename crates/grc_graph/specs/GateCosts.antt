@@ -1,7 +1,7 @@
 -- To believe: how many gates the formulas of a graph need.
 --
--- A word or a constant has a net already. A negation needs one gate besides its part, and a conjunction or a
--- disjunction one besides its parts.
+-- A word or a constant has a net already. A negation needs one gate in addition to its part, and a conjunction or a
+-- disjunction one in addition to its parts.
 use Rattle.std.specs.Prelude.{ℕ, ◌+◌, suc, zero, length}
 use Rattle.grc_graph.specs.declared.formulas.Formula.{Formula}
 use Rattle.grc_graph.specs.declared.formulas.Formula.TheVariants as formulas

@@ -78,7 +78,7 @@ shown g V = record {
   paused = V (End 0 Resumed 1) || V (End 0 (Started 0) 1);
 }
 
--- the machine of a graph: in an instant a valuation solves it, and behind that is the next state
+-- the machine of a graph: in an instant a valuation solves it, and after that is the next state
 abbrev pub graph_machine : PlainGraph → Machine Valuation
 graph_machine g = record { State = State; start = Initial; instant = SolvesGraph g; next = next_state g }
 

@@ -1,4 +1,4 @@
--- Contract: what the live instances and the selection tree of a body are to be.
+-- Contract: what the live instances and the selection tree of a body must be.
 use Rattle.std.specs.Prelude.{◌≡◌, ℕ, Bool, true, false, ◌&&◌, List, map, filter, All, Contains, slice_index_or}
 use Rattle.est_kernel.specs.Terms.{Term, Nothing, Pause, Emit, Exit, Present, Suspend, Seq, Loop, Par, Trap, Local}
 use Rattle.est_kernel.specs.Terms.{Awake}
@@ -12,7 +12,7 @@ use Rattle.grc_graph.specs.Selected.{HasExitCodes}
 use Rattle.grc_graph.specs.SelectionTrees.{body_leaves}
 use Rattle.grc_graph.specs.Selections.{IsSelection}
 
--- each live instance stands once, and they stand in order
+-- each live instance stands once, and they are in order
 abbrev pub InstancesAscend : Type 0
 InstancesAscend = (body : Term) → Ascends (body_instances body)
 

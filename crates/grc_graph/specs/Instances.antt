@@ -54,7 +54,7 @@ LayerBefore (Started q) (Started r) = q < r
 abbrev pub Before : Instance → Instance → Type 0
 Before x y = (x.path < y.path) ⊎ ((x.path ≡ y.path) × LayerBefore x.layer y.layer)
 
--- each instance of a list comes before all that stand behind it: so each stands once, and in order
+-- each instance of a list comes before all that come after it: so each stands once, and in order
 abbrev pub Ascends : List Instance → Type 0
 Ascends [] = ⊤
 Ascends (x ∷ xs) = All (Before x) xs × Ascends xs

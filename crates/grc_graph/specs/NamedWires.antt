@@ -10,7 +10,7 @@ use Rattle.grc_graph.specs.WireNames.{WireName, wire_name}
 abbrev pub wire_names : Graph → List WireName
 wire_names g = map (wire_name (program_of g.program)) (names_of g)
 
--- this name stands in the list, and here for the first time
+-- this name is in the list, and here for the first time
 pub record IsFirst (names : List WireName) (n : ℕ) (name : WireName) : Type 0 where
   pub within : n < length names
   pub same : (d : WireName) → slice_index_or names n d ≡ name

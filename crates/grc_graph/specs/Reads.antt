@@ -23,7 +23,7 @@ ReadsOnly P (Negation a) = ReadsOnly P a
 ReadsOnly P (Conjunction a b) = ReadsOnly P a × ReadsOnly P b
 ReadsOnly P (Disjunction a b) = ReadsOnly P a × ReadsOnly P b
 
--- a wire stands in a list before a place
+-- a wire is in a list before a place
 abbrev pub StandsBefore : List WireId → (w place : ℕ) → Type 0
 StandsBefore order w place = (i : ℕ) × (i < place) × (wire_at order i ≡ w)
 

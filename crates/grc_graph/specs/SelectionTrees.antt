@@ -18,7 +18,7 @@ pub data Form : Type 0 where
   Parallel : (a b : Bool) → Form
   Passing : Form
 
--- a node: its statement, the place behind its subtree in the list of nodes, and its form
+-- a node: its statement, the place after its subtree in the list of nodes, and its form
 pub record TreeNode : Type 0 where
   pub path : ℕ
   pub after : ℕ

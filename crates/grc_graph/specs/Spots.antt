@@ -1,6 +1,6 @@
 -- To believe: the live instances of a body in order, each with what its wires' equations need.
 --
--- Instances stand in the preorder of their statements, and at one statement resumed first, then started by ascending
+-- Instances are in the preorder of their statements, and at one statement resumed first, then started by ascending
 -- roots. The layers of each statement are a function L of its number.
 use Rattle.std.specs.Prelude.{ℕ, ◌+◌, true, false, ◌==◌, if◌then◌else◌, List, ◌++◌, map}
 use Rattle.est_kernel.specs.Terms.{Expression, Tick, Sig, Not, And, Or, Term, Nothing, Pause, Emit, Exit, Present}

@@ -21,7 +21,7 @@ is_leaf forms.Excl = false
 is_leaf (forms.Par a b) = false
 is_leaf forms.Pass = false
 
--- the place behind the subtree of the node at a place
+-- the place after the subtree of the node at a place
 abbrev pub end_of : List SelNode → ℕ → SelNode → ℕ
 end_of nodes i d = (slice_index_or nodes i d).after
 

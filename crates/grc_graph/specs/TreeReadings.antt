@@ -25,7 +25,7 @@ Judges nodes from to bits j =
     → StandsBetween nodes from to b t n k pre post
     → j ≡ judgement bits b t n k
 
--- Where the nodes of the second part begin, of the node at a place: behind those of the first part, where that has
+-- Where the nodes of the second part begin, of the node at a place: after those of the first part, where that has
 -- the next number and so is there.
 abbrev pub second_place : List SelNode → ℕ → SelNode → ℕ
 second_place nodes i d =

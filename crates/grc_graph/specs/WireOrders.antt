@@ -29,7 +29,7 @@ pub record AreRanks (count : ℕ) (pairs : List WireEdge) (ranks : List ℕ) : T
   pub each_wire : length ranks ≡ count
   pub grow : All (λ e. slice_index ranks e.0.0 < slice_index ranks e.1.0) pairs
 
--- how often a wire stands in a list
+-- how often a wire is in a list
 abbrev pub times : List WireId → ℕ → ℕ
 times order w = count_by (λ v. v.0 == w) order
 

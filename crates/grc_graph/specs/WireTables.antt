@@ -15,7 +15,7 @@ use Rattle.grc_graph.specs.Layers as layers
 use Rattle.grc_graph.specs.PlainInstances.{instance_of}
 use Rattle.grc_graph.specs.Wires as names
 
--- what stands in a list has this number
+-- what is in a list has this number
 pub record IsNumberOf {A : Type 0} (xs : List A) (i : ℕ) (x : A) : Type 0 where
   pub within : i < length xs
   pub same : (d : A) → slice_index_or xs i d ≡ x
@@ -97,7 +97,7 @@ pub record AreCountsBefore (insts : List Instance) (firsts : List ℕ) : Type 0 
   pub within : (n : ℕ) → n < length firsts → slice_index firsts n ≤ length insts
   pub splits : (n : ℕ) → n < length firsts → SplitsAtStatement n insts (slice_index firsts n)
 
--- the first instance of each statement, and one more number behind the last statement
+-- the first instance of each statement, and one more number after the last statement
 pub record AreFirsts (insts : List Instance) (firsts : List ℕ) : Type 0 where
   pub counts : AreCountsBefore insts firsts
   pub all : (i : ℕ) (d : Instance) → i < length insts → (slice_index_or insts i d).path.0 + 1 < length firsts

@@ -39,7 +39,7 @@ pub fn instance_codes(codes: &Codes, instance: Instance) -> CodeSet
     }
 }
 
-/// A number behind the last code of a set, up to which a loop over its codes need go. It takes no memory.
+/// A number after the last code of a set, up to which a loop over its codes need go. It takes no memory.
 pub fn codes_end(set: CodeSet) -> u8
     ensures within { result ≤ 64 }
     ensures none { (k : ℕ) → result ≤ k → k < 64 → members set k ≡ false }

@@ -5,7 +5,7 @@
 ghost use Rattle.grc_graph.specs.InstanceLaws.{InstancesAscend, EnclosingAreLive, LeavesAreResumedPauses};
 ghost use Rattle.grc_graph.specs.InstanceLaws.{ResidualHasResumedCodes};
 
-/// Each live instance of a body stands once in its list, and they stand in order.
+/// Each live instance of a body stands once in its list, and they are in order.
 pub fn instances_ascend()
     ensures { InstancesAscend }
 {}

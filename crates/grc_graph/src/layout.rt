@@ -109,7 +109,7 @@ fn wire_runs(
 }
 
 /// For each of so many statements the number of its first instance, of instances that ascend, and at last the number
-/// of instances. The time is linear in the statements but for a logarithm; its only error is want of memory.
+/// of instances. The time is linear in the statements except for a logarithm; its only error is out of memory.
 pub fn first_instances(alloc: Global, live: &[Instance], count: u32) -> Result<Vec<u32>, NoMemory>
     requires ascend { Ascending live.now }
     requires below { AreBelow count live.now }

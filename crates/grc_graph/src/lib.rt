@@ -3,7 +3,7 @@
 //! Each statement of a kernel body may be live in several layers of one instant: resumed, where it holds
 //! control from the instant before, and started, once for each root that can start it. The graph has wires
 //! for each such instance, and one equation a wire; to solve the equations is to walk the program. The graph
-//! follows Potop-Butucaru, Edwards and Berry, "Compiling Esterel", and its instances stand in full layers, so
+//! follows Potop-Butucaru, Edwards and Berry, "Compiling Esterel", and its instances are in full layers, so
 //! that each occurrence of a local signal has a status of its own.
 #![tactic(auto)]
 

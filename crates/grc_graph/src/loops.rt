@@ -3,8 +3,8 @@
 /// How many loop bodies there are around a statement.
 #[derive(Clone, Copy)]
 pub struct LoopBodies {
-    /// Those that it stands in.
+    /// Those that it is in.
     pub above: u32,
-    /// Those that it stands in or is.
+    /// Those that it is in or is.
     pub inside: u32,
 }

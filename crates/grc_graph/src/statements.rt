@@ -60,7 +60,7 @@ pub struct Statement<'a> {
     pub signals: Vec<Binding>,
 }
 
-/// The statements of a program's body by number. Its only error is want of memory.
+/// The statements of a program's body by number. Its only error is out of memory.
 pub fn list_statements(
     alloc: Global,
     program: &KernelProgram,
@@ -107,7 +107,7 @@ fn first_binding(signal: usize, inputs: u32, interface: u32) -> Binding
     }
 }
 
-// Appends the statement with this number and all in it, in preorder; answers the number behind them.
+// Appends the statement with this number and all in it, in preorder; answers the number after them.
 // The table of scopes is as before where it succeeds.
 fn list_part<'a>(
     alloc: Global,

@@ -24,7 +24,7 @@ pub enum SelForm {
 pub struct SelNode {
     /// The node's statement.
     pub path: PathId,
-    /// The place in the list of the first node behind its subtree.
+    /// The place in the list of the first node after its subtree.
     pub after: u32,
     pub form: SelForm,
 }

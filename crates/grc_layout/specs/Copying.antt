@@ -36,7 +36,7 @@ abbrev pub IsTooMany : List Instance → List plain.Instance → CopyFault → T
 IsTooMany old more TooManyInstances = INSTANCES < length old + length more
 IsTooMany old more NoMemory = ⊤
 
--- all but the last of these were appended, and there are not too many
+-- all except the last of these were appended, and there are not too many
 pub record Reaches (old new : List Instance) (all rest : List plain.Instance) : Type 0 where
   pub list : map instance_of new ++ rest ≡ map instance_of old ++ all
   pub few : length old ≤ INSTANCES → length new ≤ INSTANCES

@@ -99,7 +99,7 @@ pub(crate) fn push_root(roots: &mut Vec<u32>, holds: bool, root: u32) -> Result<
 }
 
 /// From where on the roots of a second part stand: where those of the sequence do, if the first part
-/// can terminate at its start; else behind them all.
+/// can terminate at its start; else after them all.
 pub(crate) fn second_base(ends: bool, base: usize, end: usize) -> usize
     ensures { result ≡ (if ends then base else end) }
 {

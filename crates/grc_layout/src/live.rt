@@ -20,7 +20,7 @@ use grc_graph::{Instances, has_some_code, resumed_codes, started_codes};
 use std::alloc::Global;
 
 /// The live instances of the body, in the order of the graph; `codes` are the body's static codes.
-/// Its errors are too many of them, and want of memory.
+/// Its errors are too many of them, and out of memory.
 pub fn copies(alloc: Global, body: &Kernel, codes: &Codes) -> Result<Instances, CopyFault>
     requires limits { KeepsLimits (term_of body.now) }
     requires codes { AreCodesOf codes.now (term_of body.now) }
@@ -42,7 +42,7 @@ pub fn copies(alloc: Global, body: &Kernel, codes: &Codes) -> Result<Instances, 
     Ok(Instances { list: lists.live })
 }
 
-// Appends the instances of the statement and of all in it, and answers the number behind them. The
+// Appends the instances of the statement and of all in it, and answers the number after them. The
 // roots are as before where it succeeds.
 #[cycle(copy_part)]
 fn copy_part(

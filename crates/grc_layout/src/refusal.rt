@@ -12,7 +12,7 @@ pub enum CopyFault {
     /// There are more live instances than `Limits::INSTANCES`.
     #[error("too many instances")]
     TooManyInstances,
-    /// Want of memory.
+    /// Running out of memory.
     #[error("no memory")]
     NoMemory,
 }

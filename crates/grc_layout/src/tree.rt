@@ -18,7 +18,7 @@ use est_kernel::{Codes, Kernel};
 use grc_graph::{SelForm, SelTree, has_some_code, resumed_codes, started_codes};
 use std::alloc::Global;
 
-/// The selection tree of the body; `codes` are the body's static codes. Its only error is want of memory.
+/// The selection tree of the body; `codes` are the body's static codes. Its only error is out of memory.
 pub fn select(alloc: Global, body: &Kernel, codes: &Codes) -> Result<SelTree, NoMemory>
     requires limits { KeepsLimits (term_of body.now) }
     requires codes { AreCodesOf codes.now (term_of body.now) }
@@ -37,7 +37,7 @@ pub fn select(alloc: Global, body: &Kernel, codes: &Codes) -> Result<SelTree, No
     })
 }
 
-// Appends the nodes of the statement and of all in it, and answers the number behind them.
+// Appends the nodes of the statement and of all in it, and answers the number after them.
 #[cycle(selecting)]
 fn select_part(
     body: &Kernel,

@@ -18,7 +18,7 @@ use std::alloc::Global;
 
 /// The listing of a graph with the selection tree of its body: the line `grc 1`, a line for each node of the tree,
 /// and a line for each wire by its number. The time is linear in the body and in the text.
-/// Its only error is want of memory.
+/// Its only error is out of memory.
 pub fn list(alloc: Global, graph: &Graph) -> Result<Vec<u8>, NoMemory>
     requires { IsGraphOf graph.now (program_of graph.now.program) }
     ensures { IfOk result (λ text. text.items ≡ program_listing (program_of graph.now.program)) }

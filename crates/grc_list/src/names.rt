@@ -14,7 +14,7 @@ use grc_graph::{Graph, Layer, LayerName, Path, Wire, WireName};
 use std::alloc::Global;
 
 /// The name of a wire. The time is linear in the body; for many wires take `names_of`.
-/// Its only error is want of memory.
+/// Its only error is out of memory.
 pub fn name_of(alloc: Global, graph: &Graph, wire: WireId) -> Result<WireName, NoMemory>
     requires { wire.0 < length graph.now.wires.items }
     ensures { IfOk result (λ name. wire_name_of name
@@ -26,7 +26,7 @@ pub fn name_of(alloc: Global, graph: &Graph, wire: WireId) -> Result<WireName, N
 }
 
 /// The names of some wires, in the same order. The time is linear in the body and in the names.
-/// Its only error is want of memory.
+/// Its only error is out of memory.
 pub fn names_of(alloc: Global, graph: &Graph, wires: &[WireId]) -> Result<Vec<WireName>, NoMemory>
     requires { All (λ w. w.0 < length graph.now.wires.items) wires.now }
     ensures { IfOk result (λ names. map wire_name_of names.items

@@ -10,7 +10,7 @@ use grc_graph::{LayerName, Path, SelForm, WireName};
 use std::alloc::Global;
 
 /// The text of a wire: `out NAME`, `go PATH LAYER`, `st PATH LAYER NAME` or `end PATH LAYER CODE`.
-/// Its only error is want of memory.
+/// Its only error is out of memory.
 ///
 /// Example: `out O` is the output O, and `go .0 s .` starts the first part of a body that is started as a whole.
 pub fn wire_text(alloc: Global, name: &WireName) -> Result<Vec<u8>, NoMemory>

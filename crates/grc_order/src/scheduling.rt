@@ -12,8 +12,8 @@ use std::alloc::Global;
 
 /// An order of the wires that keeps the edges, as the picker chooses it. The picker is handed the wires that are
 /// not placed and whose predecessors all are, each once, in no stated order. The ranks show that such a wire is
-/// always there; nothing else is made of them. But for the picker, the time is linear in the wires and edges. Its
-/// only error is want of memory.
+/// always there; nothing else is made of them. Except for the picker, the time is linear in the wires and edges. Its
+/// only error is out of memory.
 ///
 /// Example: `First` always takes the first wire that is ready, so two calls give the same order.
 pub fn order<P: Picker>(

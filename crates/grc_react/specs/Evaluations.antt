@@ -16,7 +16,7 @@ use Rattle.grc_formulas.specs.Rows.{Bounds, Surroundings, row_values}
 use Rattle.grc_formulas.specs.WordLaws.{AreWordsOf}
 use Rattle.grc_react.specs.declared.rows.Start.{Start}
 
--- the value at a place; behind the last one it is false
+-- the value at a place; after the last one it is false
 abbrev pub value_at : List Bool → ℕ → Bool
 value_at values k = slice_index_or values k false
 

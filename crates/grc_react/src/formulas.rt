@@ -56,7 +56,7 @@ pub fn evaluate(
     }
 }
 
-// The value at a place; behind the last one it is false.
+// The value at a place; after the last one it is false.
 fn value_at(values: &[bool], place: usize) -> bool
     ensures { result ≡ value_at values.now place }
 {

@@ -41,7 +41,7 @@ pub struct Reaction {
 
 /// One reaction of a graph, along an order along which its equations read: in the first instant where
 /// `boot` holds, else with these leaves of its selection tree selected. `inputs` is the event. The graph's
-/// equations and `next` formulas are any. Its only error is want of memory.
+/// equations and `next` formulas are any. Its only error is out of memory.
 pub fn react(
     alloc: Global,
     graph: &Graph,
@@ -86,7 +86,7 @@ pub fn react(
 }
 
 /// One reaction of a graph over the table of its words, which is the same in every instant. No two of
-/// its wires are the same. Its only error is want of memory.
+/// its wires are the same. Its only error is out of memory.
 pub fn react_over(
     alloc: Global,
     graph: &Graph,

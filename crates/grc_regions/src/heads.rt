@@ -9,7 +9,7 @@ use base_types::NoMemory;
 use est_kernel::Kernel;
 use std::alloc::Global;
 
-/// For each statement of a body, by its number, that of its resumed head. Its only error is want of memory.
+/// For each statement of a body, by its number, that of its resumed head. Its only error is out of memory.
 pub fn resumed_heads(alloc: Global, body: &Kernel) -> Result<Vec<u32>, NoMemory>
     requires { statement_count (term_of body.now) < 2 ^ 32 }
     ensures { IfOk result (λ heads. heads.items ≡ heads_of 0 (term_of body.now) 0) }
@@ -20,7 +20,7 @@ pub fn resumed_heads(alloc: Global, body: &Kernel) -> Result<Vec<u32>, NoMemory>
 }
 
 // Appends the heads of the statement with this number, whose own head this is, and of all in it, in preorder; answers
-// the number behind them.
+// the number after them.
 fn push_heads(body: &Kernel, head: u32, path: u32, heads: &mut Vec<u32>) -> Result<u32, NoMemory>
     requires { path + statement_count (term_of body.now) < 2 ^ 32 }
     ensures after { IfOk result (λ after. after ≡ path + statement_count (term_of body.now)) }

@@ -17,8 +17,8 @@ use grc_graph::{Graph, Instance, Layer, Neighbours, Wire};
 use std::alloc::Global;
 
 /// For each wire, by its number, the wire that says whether the head of its region runs; None where it lies in no
-/// region. The memory is linear in the graph, and so is the time but for a search of one instance a wire. Its only
-/// error is want of memory.
+/// region. The memory is linear in the graph, and so is the time except for a search of one instance a wire. Its only
+/// error is out of memory.
 pub fn regions(alloc: Global, graph: &Graph) -> Result<Vec<Option<WireId>>, NoMemory>
     requires { IsGraphOf graph.now (program_of graph.now.program) }
     ensures are { IfOk result (λ regions. AreRegions graph.now regions.items) }

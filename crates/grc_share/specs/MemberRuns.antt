@@ -13,7 +13,7 @@ pub record AreMemberRuns (count : ℕ) (list : List WireId) (firsts : List ℕ) 
 abbrev pub member_run : List WireId → List ℕ → ℕ → List WireId
 member_run list firsts k = slice_range list (slice_index firsts k) (slice_index firsts (k + 1))
 
--- these are lists, one behind the other
+-- these are lists, one after the other
 pub record AreRunsOf (lists : List (List WireId)) (list : List WireId) (firsts : List ℕ) : Type 0 where
   pub runs : AreMemberRuns (length lists) list firsts
   pub last : slice_index firsts (length lists) ≡ length list

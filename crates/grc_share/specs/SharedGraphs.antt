@@ -76,7 +76,7 @@ abbrev pub formula_for : List Equation → Wire → Formula
 formula_for [] w = Const false
 formula_for (e ∷ es) w = if same_wire e.wire w then e.formula else formula_for es w
 
--- What lets a shared instance run lets its least member run: all but one of its members are started by one shared
+-- What lets a shared instance run lets its least member run: all except one of its members are started by one shared
 -- instance of the statement around. The one whose root is the statement itself, where it is among them and is not the
 -- least, is started by itself.
 abbrev pub has_own : Sharing → ℕ → ℕ → Bool
@@ -157,6 +157,6 @@ shared_nodes p =
     map (λ x. renamed_node (body_sharing p.body) (spot_node x))
     (filter (is_least (body_sharing p.body)) (program_spots p))
 
--- the state behind an instant in which the shared wires have these values
+-- the state after an instant in which the shared wires have these values
 abbrev pub shared_next : Program → State → List Bool → Valuation → State
 shared_next p q event V = next_state (shared_graph p) q event V

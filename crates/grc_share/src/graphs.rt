@@ -63,7 +63,7 @@ pub fn share(alloc: Global, graph: Graph, edges: &Edges) -> Result<SharedOrFull,
     }
 }
 
-// What a shared graph is made of besides its program, or a closed walk.
+// What a shared graph is made of in addition to its program, or a closed walk.
 #[derive(Drop)]
 enum PartsOrWalk {
     Parts(Parts),

@@ -160,7 +160,7 @@ fn resumed_status(tables: &Neighbours, loops: &[LoopBodies], instance: Instance)
     }
 }
 
-// The loop bodies around an instance: those above the root of a start, and those that what is resumed stands in or is.
+// The loop bodies around an instance: those above the root of a start, and those that what is resumed is in or is.
 fn loops_around(loops: &[LoopBodies], instance: Instance) -> u32
     requires path { instance.path.0 < length loops.now }
     requires root { RootIn (length loops.now) (layer_of instance.layer) }

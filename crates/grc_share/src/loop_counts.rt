@@ -12,7 +12,7 @@ use est_kernel::KernelProgram;
 use grc_graph::{Entry, LoopBodies, list_statements};
 use std::alloc::Global;
 
-/// The loop bodies around each statement of a program's body. The error is want of memory.
+/// The loop bodies around each statement of a program's body. The error is out of memory.
 pub(crate) fn loop_bodies(
     alloc: Global,
     program: &KernelProgram,

@@ -6,7 +6,7 @@ ghost use Rattle.grc_share.specs.MemberRuns.{AreRunsOf};
 use base_types::{NoMemory, WireId};
 use std::alloc::Global;
 
-/// Lists of members, one behind the other.
+/// Lists of members, one after the other.
 #[derive(Drop)]
 pub(crate) struct Members {
     pub list: Vec<WireId>,
@@ -14,7 +14,7 @@ pub(crate) struct Members {
     pub firsts: Vec<usize>,
 }
 
-/// These lists, one behind the other.
+/// These lists, one after the other.
 pub(crate) fn joined_lists(alloc: Global, lists: &[Vec<WireId>]) -> Result<Members, NoMemory>
     ensures { IfOk result (λ m. AreRunsOf (map (λ list. list.items) lists.now) m.list.items m.firsts.items) }
 {

@@ -28,7 +28,7 @@ pub struct SharedWires {
 }
 
 /// The shared wires of a graph. The time is linear in the wires but for the search of status wires among the instances
-/// of a Local, which is logarithmic; the error is want of memory.
+/// of a Local, which is logarithmic; the error is out of memory.
 pub fn shared_wires(alloc: Global, graph: &Graph) -> Result<SharedWires, NoMemory>
     requires { IsGraphOf graph.now (program_of graph.now.program) }
     ensures wires { IfOk result (λ s. AreSharedWires (program_of graph.now.program) s.least.items s.numbers.items) }

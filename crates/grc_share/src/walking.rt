@@ -18,8 +18,8 @@ use grc_solutions::edges_join_wires;
 use std::alloc::{AllocError, Global};
 
 /// Ranks of the shared wires of a graph, which each edge between them goes up in, or a closed walk, exactly where there
-/// is one. The edges are those of the graph. The time is linear in the wires and edges but for the search of status
-/// wires; the error is want of memory.
+/// is one. The edges are those of the graph. The time is linear in the wires and edges except for the search of status
+/// wires; the error is out of memory.
 pub fn shared_ranks_or_walk(
     alloc: Global,
     graph: &Graph,

@@ -38,7 +38,7 @@ NamesTellSharedWires =
     → (one_wire (body_sharing p.body) u w ≡ true)
     ↔ (shared_wire (body_sharing p.body) u ≡ shared_wire (body_sharing p.body) w)
 
--- A statement has at most one shared started instance more than there are loop bodies that it stands in or is.
+-- A statement has at most one shared started instance more than there are loop bodies that it is in or is.
 abbrev pub StartsAreFew : Type 0
 StartsAreFew =
     (p : Program) (n : ℕ) → IsKernel p.body → n < statement_count p.body

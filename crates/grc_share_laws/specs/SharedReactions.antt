@@ -50,7 +50,7 @@ SharedSolutionsAreMembers =
     → (V : Valuation) × SolvesGraph (graph_of (program_of g.program)) q event V × (U ≡ shared_values
     (program_of g.program) V)
 
--- What is seen of the shared solution, and the state behind it, are those of the program's.
+-- What is seen of the shared solution, and the state after it, are those of the program's.
 abbrev pub SharedReactionsAreGiven : Type 0
 SharedReactionsAreGiven =
     (g : Graph) (q : State) (event : List Bool) (V : Valuation)
@@ -62,7 +62,7 @@ SharedReactionsAreGiven =
     × (shared_next (program_of g.program) q event (shared_values (program_of g.program) V)
     ≡ next_state (graph_of (program_of g.program)) q event V)
 
--- the machine of the shared graph: in an instant a valuation solves it, and behind that is the state of shared pauses
+-- the machine of the shared graph: in an instant a valuation solves it, and after that is the state of shared pauses
 abbrev pub shared_machine : Program → Machine Valuation
 shared_machine p =
     record { State = State; start = Initial; instant = SolvesGraph (shared_graph p); next = shared_next p }

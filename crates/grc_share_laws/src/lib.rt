@@ -1,7 +1,7 @@
 //! Laws of shared instances: of the instances that are one no two run in one instant. So a shared wire is true exactly
 //! where a member is, and the reactions and runs of the shared graph are those of the program's.
 //!
-//! What starts an instance stands in the equations of `go` alone, and what they let run is found from the outside in:
+//! What starts an instance is in the equations of `go` alone, and what they let run is found from the outside in:
 //! where two layers of a statement run, those of the statement around do, so that they differ in their keys. Where a
 //! sequence or a loop starts a part at a root of its own, it is resumed, and the state holds one part of a sequence
 //! alone. Where an instance runs, then, what it reads of its parts, of the statement around it and of statuses is what

@@ -10,7 +10,7 @@ use Rattle.grc_graph.specs.Wires.{Wire}
 use Rattle.grc_ternary.specs.LeastSolutions.{IsKnown, IsLeast, Statuses, true_wires}
 use Rattle.base_machines.specs.Machines.{Machine, IsRun}
 
--- A graph as a machine of least solutions: in an instant the least solution has no unknown wire, and behind it is the
+-- A graph as a machine of least solutions: in an instant the least solution has no unknown wire, and after it is the
 -- state of the leaves whose next formula is true.
 abbrev pub tri_machine : PlainGraph → Machine Statuses
 tri_machine g = record {
@@ -32,7 +32,7 @@ is_unknown Plus = false
 is_unknown Minus = false
 is_unknown Unknown = true
 
--- The program reacts in each instant of some items, and does not react to the event behind them: in the state that the
+-- The program reacts in each instant of some items, and does not react to the event after them: in the state that the
 -- items lead to, the least solution of its graph leaves these wires unknown, and there are some.
 pub record StopsAt (p : Program) (items : List Item) (event : List Bool) (unknown : List Wire) : Type 0 where
   pub answers : List Answer

@@ -11,11 +11,11 @@ use Rattle.grc_ternary_gates.specs.declared.solver.Solver.{Solver}
 use Rattle.grc_ternary_gates.specs.Linking.{Reads}
 use Rattle.grc_ternary_gates.specs.Systems.{IsSolution, gate_at, gate_status, is_unknown, operand, statuses_of}
 
--- how much is to be done: nodes to be decided, and decided nodes whose readers are to be looked at
+-- how much must be done: nodes to be decided, and decided nodes whose readers must be looked at
 abbrev pub work_of : Solver → ℕ
 work_of s = s.height + count_by is_unknown s.values.items
 
--- a solver has room for so many nodes, and only nodes stand on its list
+-- a solver has room for so many nodes, and only nodes depend on its list
 pub record Fits (nodes : ℕ) (s : Solver) : Type 0 where
   pub values : length s.values.items ≡ nodes
   pub stack : length s.stack.items ≡ nodes
@@ -41,7 +41,7 @@ pub record Underway (all : List Gate) (sources : List Bool) (V : ℕ → Status)
 abbrev pub IsUnderway : List Gate → List Bool → Solver → (ℕ → Bool) → Type 0
 IsUnderway all sources s todo = Underway all sources (statuses_of s.values.items) s.stack.items s.height todo
 
--- all that is to be looked at but one node
+-- all that must be looked at but one node
 abbrev pub without : ℕ → (ℕ → Bool) → ℕ → Bool
 without node todo = λ n. todo n && not (n == node)
 
@@ -49,12 +49,12 @@ abbrev pub is_operand : Option ℕ → ℕ → Bool
 is_operand None node = false
 is_operand (Some a) node = a == node
 
--- all that is to be looked at and the gates up to a number that have a node as this operand
+-- all that must be looked at and the gates up to a number that have a node as this operand
 abbrev pub with_readers_below : List Gate → Side → ℕ → ℕ → (ℕ → Bool) → ℕ → Bool
 with_readers_below all side node end todo =
     λ n. todo n || (is_operand (operand side (gate_at all n)) node && nat_lt n end)
 
--- all that is to be looked at and the gates that have a node as this operand
+-- all that must be looked at and the gates that have a node as this operand
 abbrev pub with_readers : List Gate → Side → ℕ → (ℕ → Bool) → ℕ → Bool
 with_readers all side node todo = with_readers_below all side node (length all) todo
 

@@ -73,7 +73,7 @@ impl System {
         }
     }
 
-    /// The system of these gates. The time is linear in them. Its only error is want of memory.
+    /// The system of these gates. The time is linear in them. Its only error is out of memory.
     pub fn new(alloc: Global, gates: Vec<Gate>, sources: usize) -> Result<System, NoMemory>
         requires fit { All (λ g. IsTrue (gate_fits (length gates.items) sources g)) gates.items }
         ensures gates { IfOk result (λ s. s.gates.items ≡ gates.items) }

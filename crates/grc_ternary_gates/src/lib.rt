@@ -4,7 +4,7 @@
 //! node is true, false or not known, and each system has a least solution, from nothing known upwards:
 //! the simulation of cyclic circuits by Malik ("Analysis of Cyclic Combinational Circuits") and by
 //! Shiple, Berry and Touati ("Constructive Analysis of Cyclic Circuits"). It is found by a list of nodes
-//! whose readers are to be looked at, in time linear in the gates.
+//! whose readers must be looked at, in time linear in the gates.
 #![tactic(auto)]
 
 mod gates;

@@ -19,7 +19,7 @@ pub struct Solver {
 }
 
 impl Solver {
-    /// Room for so many nodes. Its only error is want of memory.
+    /// Room for so many nodes. Its only error is out of memory.
     pub fn new(alloc: Global, nodes: usize) -> Result<Solver, NoMemory>
         ensures { IfOk result (λ s. Fits nodes s) }
     {

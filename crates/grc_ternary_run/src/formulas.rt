@@ -14,7 +14,7 @@ use grc_formulas::Words;
 use grc_graph::{Formula, Graph};
 use grc_ternary_gates::{Gate, push_gate};
 
-/// What the gates of a graph's formulas are made from: besides the graph and its words, for each end of an
+/// What the gates of a graph's formulas are made from: in addition to the graph and its words, for each end of an
 /// instance the node that says that it or an earlier end of the instance is true.
 #[derive(Clone, Copy)]
 pub(crate) struct Making<'a> {

@@ -16,7 +16,7 @@ pub(crate) const BOOT: usize = 2;
 pub(crate) const INPUTS: usize = 3;
 
 /// How many given signals and statements there are. For each given signal a source says whether the event
-/// gives it, and behind these for each statement one says whether it holds a selected pause.
+/// gives it, and after these for each statement one says whether it holds a selected pause.
 #[derive(Clone, Copy)]
 pub(crate) struct Counts {
     pub given: usize,
@@ -44,7 +44,7 @@ impl Counts {
         }
     }
 
-    /// The source for a statement. No statement has a number behind the last one's.
+    /// The source for a statement. No statement has a number after the last one's.
     pub fn selected(self, path: PathId) -> usize
         requires some { 0 < self.statements }
         requires few { 3 + self.given + self.statements < 2 ^ 64 }

@@ -92,7 +92,7 @@ impl Room {
     }
 }
 
-/// Room for the values of an instant. Its only error is want of memory.
+/// Room for the values of an instant. Its only error is out of memory.
 pub(crate) fn make_room(
     alloc: Global,
     graph: &Graph,

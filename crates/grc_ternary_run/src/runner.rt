@@ -43,7 +43,7 @@ impl<'a> Model for TriRunner<'a> {
 }
 
 impl<'a> TriRunner<'a> {
-    /// A runner of the graph of a program before its first event. Its only error is want of memory.
+    /// A runner of the graph of a program before its first event. Its only error is out of memory.
     pub fn new(alloc: Global, graph: &'a Graph) -> Result<TriRunner<'a>, NoMemory>
         requires no_loop { NoInstantLoop (term_of graph.now.program.body) }
         requires graph { IsGraphOf graph.now (program_of graph.now.program) }
@@ -76,7 +76,7 @@ impl<'a> TriRunner<'a> {
     }
 
     /// Which outgoing signals were present in the last instant that was constructive, in order; all false
-    /// before the first one and behind a reset. It takes no memory.
+    /// before the first one and after a reset. It takes no memory.
     pub fn outputs(&self) -> &[bool]
         ensures { result.now ≡ self.now.outputs }
     {
@@ -84,7 +84,7 @@ impl<'a> TriRunner<'a> {
     }
 
     /// For each wire of the graph whether it stayed unknown in the last call of `react`; all false before the
-    /// first one and behind a reset. It takes no memory.
+    /// first one and after a reset. It takes no memory.
     pub fn unknown(&self) -> &[bool]
         ensures { result.now ≡ self.now.unknown }
     {

@@ -29,7 +29,7 @@ pub(crate) struct State {
 }
 
 impl State {
-    /// The state before the first event. Its only error is want of memory.
+    /// The state before the first event. Its only error is out of memory.
     pub fn new(
         alloc: Global,
         graph: &Graph,

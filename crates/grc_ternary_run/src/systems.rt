@@ -18,7 +18,7 @@ use std::alloc::Global;
 /// The system of a graph's equations. Its nodes are first the wires, by their numbers; its sources are the
 /// constants, whether this is the first instant, the given signals, and for each statement whether it
 /// holds a selected pause. There are no more nodes than there are wires, ends and operators in the
-/// equations. Its only error is want of memory.
+/// equations. Its only error is out of memory.
 pub(crate) fn make_system(alloc: Global, graph: &Graph, words: &Words) -> Result<System, NoMemory>
     requires words { AreWordsOf graph.now words.now }
     requires plain { All (λ f. IsKnown ⊥ f) graph.now.equations.items }
@@ -68,7 +68,7 @@ fn make_gates(
     Ok(gates)
 }
 
-// Puts the gates of the table behind those of the wires.
+// Puts the gates of the table after those of the wires.
 fn append(gates: &mut Vec<Gate>, table: &[Gate]) -> Result<(), NoMemory>
     ensures { OnOk result (gates.new.items ≡ gates.old.items ++ table.now) }
 {

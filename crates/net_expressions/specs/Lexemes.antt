@@ -1,4 +1,4 @@
--- To believe: how a text is cut into tokens, where K is what a token is and `front` says what a byte and those behind
+-- To believe: how a text is cut into tokens, where K is what a token is and `front` says what a byte and those after
 -- it begin with; and at which token a text stops being one of a grammar.
 use Rattle.std.specs.Prelude.{◌≡◌, ℕ, ◌+◌, ◌-◌, ◌==◌, zero, suc, Bool, ◌||◌, List, [], ◌∷◌, length, map, drop}
 use Rattle.std.specs.Prelude.{Option, Some, None}
@@ -20,7 +20,7 @@ abbrev pub begins_name : ℕ → Bool
 begins_name c = is_letter c || c == 95
 
 -- what begins a text: a space or a comment, a token, or a byte that begins neither. Of the first two the number of
--- bytes behind the first one is told.
+-- bytes after the first one is reported.
 pub data Front (K : Type 0) : Type 0 where
   Gap : (more : ℕ) → Front K
   Lexeme : (more : ℕ) (kind : K) → Front K

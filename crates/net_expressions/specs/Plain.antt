@@ -39,7 +39,7 @@ abbrev pub front_at : {P : Type 0} → (ℕ → List ℕ → Front P) → List �
 front_at front [] = Wrong
 front_at front (c ∷ cs) = front c cs
 
--- how many bytes a front has behind the first one
+-- how many bytes a front has after the first one
 abbrev pub front_more : {P : Type 0} → Front P → ℕ
 front_more (Gap more) = more
 front_more (Lexeme more kind) = more

@@ -25,7 +25,7 @@ pub struct Token<K> {
 }
 
 /// What begins a text: a space or a comment, a token, or a byte that begins neither. Of the first two the number of
-/// bytes behind the first one is told.
+/// bytes after the first one is reported.
 #[derive(Clone, Copy)]
 pub enum Front<K> {
     Gap(usize),

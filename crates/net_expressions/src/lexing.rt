@@ -11,7 +11,7 @@ use base_reader::Fault;
 use base_types::{Limits, NoMemory, is_letter, is_name_byte};
 use std::alloc::Global;
 
-/// The tokens of a text. What begins no token is the last one. Its only error is want of memory.
+/// The tokens of a text. What begins no token is the last one. Its only error is out of memory.
 ///
 /// It takes time and memory in proportion to the text.
 pub fn lex<'a, K: Lexical<'a>>(alloc: Global, text: &'a [u8]) -> Result<Vec<Token<K>>, NoMemory>

@@ -9,7 +9,7 @@ use crate::trees::Expr;
 use base_types::NoMemory;
 use std::alloc::Global;
 
-/// The names in an expression, from the left. Its only error is want of memory.
+/// The names in an expression, from the left. Its only error is out of memory.
 #[tactic(auto, using(crate::proofs::Rows::names_told))]
 pub fn names_in<'a>(alloc: Global, value: &'a Expr) -> Result<Vec<&'a [u8]>, NoMemory>
     ensures { IfOk result (λ v. map (λ w. w.now) v.items ≡ names_in (expr_of value.now)) }

@@ -13,7 +13,7 @@ use base_expressions::{ExprLanguage, Joint, Opening};
 use base_reader::ReadError;
 use std::alloc::Global;
 
-/// An expression: parts with or between them. Its errors are the first fault of the tokens, and want of memory.
+/// An expression: parts with or between them. Its errors are the first fault of the tokens, and out of memory.
 pub fn read_expr<'t, K: TokenKind>(
     alloc: Global,
     tokens: &'t [Token<K>],

@@ -21,7 +21,7 @@ pub fn nothing_read<'t, X, T>(alloc: Global, tokens: &'t [T]) -> (Vec<X>, &'t [T
     (Vec::new(alloc), tokens)
 }
 
-/// The tokens behind this word or mark, where it stands next.
+/// The tokens after this word or mark, where it stands next.
 pub fn past<'t, K: TokenKind>(expected: K, tokens: &'t [Token<K>]) -> Option<&'t [Token<K>]>
     ensures { MatchOption result
         (picked (numbered_as K.number (K.number (K.plain expected))) (map (kind_by K.plain) tokens.now) ≡ None)
@@ -34,7 +34,7 @@ pub fn past<'t, K: TokenKind>(expected: K, tokens: &'t [Token<K>]) -> Option<&'t
     }
 }
 
-/// The tokens behind this word or mark, which must stand next.
+/// The tokens after this word or mark, which must stand next.
 pub fn after<'t, K: TokenKind>(
     expected: K,
     tokens: &'t [Token<K>],
@@ -59,7 +59,7 @@ pub fn refused_here<K: TokenKind>(tokens: &[Token<K>]) -> ReadError
     ReadError::Fault(refused(tokens))
 }
 
-/// The name that stands next, and the tokens behind it.
+/// The name that stands next, and the tokens after it.
 pub fn past_name<'t, K: TokenKind>(tokens: &'t [Token<K>]) -> Option<(&'t [u8], &'t [Token<K>])>
     ensures { MatchOption result
         (picked (named K.sign) (map (kind_by K.plain) tokens.now) ≡ None)

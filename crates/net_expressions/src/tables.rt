@@ -18,7 +18,7 @@ pub struct NameTable<'a> {
     pub again: Option<&'a [u8]>,
 }
 
-/// The table of some names, where those before are given. Its only error is want of memory.
+/// The table of some names, where those before are given. Its only error is out of memory.
 pub fn name_table<'a>(
     alloc: Global,
     before: &HashSet<&[u8]>,
@@ -55,7 +55,7 @@ fn ended<'a>(names: HashSet<&'a [u8]>, name: &'a [u8]) -> NameTable<'a>
     }
 }
 
-/// The set of some names. Its only error is want of memory.
+/// The set of some names. Its only error is out of memory.
 pub fn name_set<'a>(alloc: Global, names: &[&'a [u8]]) -> Result<HashSet<&'a [u8]>, NoMemory>
     ensures { IfOk result
         (λ s. (n : List ℕ) → contains_by (λ k. is_same_name n k.now) s ≡ is_among n (map (λ w. w.now) names.now)) }

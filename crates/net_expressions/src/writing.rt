@@ -1,4 +1,4 @@
-// The names of a net's parts, and what gates make of them, written. Want of memory is the only error.
+// The names of a net's parts, and what gates make of them, written. Running out of memory is the only error.
 
 ghost use Rattle.std.specs.Prelude.{◌≡◌, ◌+◌, ◌<◌, ◌≤◌, ◌++◌, OnOk};
 ghost use Rattle.net_ir.specs.Gates.{operand_end};

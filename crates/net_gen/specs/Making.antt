@@ -26,7 +26,7 @@ pub record RowsMade (g : Graph) (w : Words) (old new : Drawing) (from to : ℕ) 
   pub placed : RowsPlaced new to
   pub within : spent new + from ≤ spent old + to
 
--- so many wires of an order have their nets now, and the gates that carry them stand in that order
+-- so many wires of an order have their nets now, and the gates that carry them are in that order
 pub record WiresMade (g : Graph) (w : Words) (old new : Drawing) (order : List WireId) (count : ℕ) : Type 0 where
   pub sound : Sound g w new
   pub stays : (n : ℕ) (m : Sense g) → Stands g old n m → Stands g new n m

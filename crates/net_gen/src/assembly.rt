@@ -19,7 +19,7 @@ use grc_graph::{Graph, Order};
 use net_ir::{Latch, Net};
 use std::alloc::Global;
 
-/// The netlist of a graph, over the table of its words. Its only error is want of memory.
+/// The netlist of a graph, over the table of its words. Its only error is out of memory.
 pub fn net_over(alloc: Global, graph: &Graph, words: &Words, order: &Order) -> Result<Net, NoMemory>
     requires words { AreWordsOf graph.now words.now }
     requires order { IsReadingOrder (names_of graph.now)

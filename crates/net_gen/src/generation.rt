@@ -20,7 +20,7 @@ use std::alloc::Global;
 
 /// The netlist of a graph along an order in which its equations read. The graph's equations and `next` formulas are
 /// any. The netlist has at most 15 gates for each wire and each live test node of the program's own graph. Its only
-/// error is want of memory.
+/// error is out of memory.
 ///
 /// Example: the equation of a wire that is started by one of two others becomes an or gate, which carries the
 /// wire.

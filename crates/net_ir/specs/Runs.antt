@@ -1,5 +1,5 @@
 -- To believe: the values of a netlist and its runs over items. A latch has its initial value in the first
--- instant and in the first one behind a reset, and in every other one the value that its net had one
+-- instant and in the first one after a reset, and in every other one the value that its net had one
 -- instant before.
 use Rattle.std.specs.Prelude.{Bool, List, ◌++◌, map}
 use Rattle.base_types.specs.Items.{Item}

@@ -39,7 +39,7 @@ pub struct NetOut {
 }
 
 /// A netlist of at most 2^32 nets. There is one input for each given signal and one output for each
-/// outgoing one, so the name of a signal that is both stands in both lists. The nets are numbered from 0:
+/// outgoing one, so the name of a signal that is both is in both lists. The nets are numbered from 0:
 /// the inputs, then the latches, then the gates in order. The net `paused` tells whether the program is
 /// still active after the instant.
 #[derive(Drop)]

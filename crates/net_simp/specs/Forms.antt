@@ -1,4 +1,4 @@
--- Inner: operators as keys: the operands of an and, and of an or, stand in ascending order.
+-- Inner: operators as keys: the operands of an and, and of an or, are in ascending order.
 use Rattle.std.specs.Prelude.{ℕ, Bool, if◌then◌else◌, nat_lt}
 use Rattle.net_ir.specs.declared.netlist.Op.{Op}
 use Rattle.net_ir.specs.declared.netlist.Op.TheVariants.{Const, Copy, Not, And, Or}

@@ -12,7 +12,7 @@ abbrev pub rank : List Bool → ℕ → ℕ
 rank marks zero = 0
 rank marks (suc n) = rank marks n + (if marked marks n then 1 else 0)
 
--- what stands in the new gates at this place: the old gate of this rank
+-- what is in the new gates at this place: the old gate of this rank
 pub record ComesFrom (first : ℕ) (marks : List Bool) (gates new : List Gate) (place : ℕ) : Type 0 where
   pub at : ℕ
   pub within : at < length gates

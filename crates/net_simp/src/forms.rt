@@ -7,7 +7,7 @@ ghost use Rattle.net_simp.specs.Forms.{form_of};
 use base_types::NetId;
 use net_ir::Op;
 
-/// An operator, by which gates that compute the same are found: the operands of an and, and of an or, stand in
+/// An operator, by which gates that compute the same are found: the operands of an and, and of an or, are in
 /// ascending order.
 #[derive(Clone, Copy, PartialEq, Eq, Hash)]
 pub(crate) enum Form {

@@ -43,7 +43,7 @@ pub(crate) fn reduced_op(first: usize, gates: &[Gate], op: Op) -> Op
     }
 }
 
-/// A copy of a net whose gate has this operator, as it is told outright: of a constant it is that constant.
+/// A copy of a net whose gate has this operator, as it is reported outright: of a constant it is that constant.
 pub(crate) fn outright_op(op: Option<Op>, net: NetId) -> Op
     ensures { result ≡ outright_op op net }
 {

@@ -18,7 +18,7 @@ pub record IsTreeOf (tree : SelTree) (body : Term) : Type 0 where
   pub nodes : map tree_node tree.nodes.items ≡ body_tree body
   pub leaves : tree.leaves ≡ length (body_leaves body)
 
--- The latches behind the first one select leaves, in their order, as the body's selection tree wants.
+-- The latches after the first one select leaves, in their order, as the body's selection tree wants.
 abbrev pub SelectsWell : Term → List Bool → Type 0
 SelectsWell body latches = well_formed (selecting (body_leaves body) (drop 1 latches)) body 0 ≡ true
 

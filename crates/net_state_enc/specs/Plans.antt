@@ -12,7 +12,7 @@ use Rattle.net_state_enc.specs.Widths.{Widths}
 abbrev pub needs_of : List LeafCode → List (List Literal)
 needs_of es = map (λ e. e.needs) es
 
--- the same behind others
+-- the same after others
 abbrev pub codes_behind : List Literal → List LeafCode → List (List Literal)
 codes_behind front es = map (λ e. front ++ e.needs) es
 

@@ -55,14 +55,14 @@ RecodesInstants net new write read = (latches inputs : List Bool)
 abbrev pub copied : (ℕ → ℕ) → Gate → Gate
 copied f g = record { op = renamed_op f g.op; wire = g.wire }
 
--- the number of the first net of the code, and of the first gate behind a code of this width
+-- the number of the first net of the code, and of the first gate after a code of this width
 abbrev pub code_base : Netlist → ℕ
 code_base net = length net.inputs + 1
 
 abbrev pub first_behind : Netlist → ℕ → ℕ
 first_behind net width = code_base net + width
 
--- Gates that read the code, behind those that stood before, and copies of the gates of a netlist over the nets that
+-- Gates that read the code, after those that stood before, and copies of the gates of a netlist over the nets that
 -- stand for its nets.
 pub record CopiesDrawn (net : Netlist) (width : ℕ) (codes : List (List Literal)) (before : List Gate)
     (names : List NetId) (gates : List Gate) : Type 0 where
@@ -78,7 +78,7 @@ pub record CopiesDrawn (net : Netlist) (width : ℕ) (codes : List (List Literal
       → stand_in names (first_gate net + k) ≡ first_behind net width + length decode + k
   pub many : length names ≡ net_count net
 
--- All that is drawn for a netlist: behind these, gates that write the code anew.
+-- All that is drawn for a netlist: after these, gates that write the code anew.
 pub record Drawn (net : Netlist) (next : List NetId) (width : ℕ) (codes : List (List Literal)) (names : List NetId)
     (gates : List Gate) (bits : List NetId) : Type 0 where
   pub decode : List Gate

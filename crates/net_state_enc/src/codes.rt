@@ -34,7 +34,7 @@ pub(crate) enum Way {
     Part(u32, u32),
 }
 
-/// How the parts of a node are coded: behind which literals, and how and from which bit on each of the two.
+/// How the parts of a node are coded: after which literals, and how and from which bit on each of the two.
 #[derive(Drop)]
 pub(crate) struct Plan {
     pub front: Vec<Literal>,
@@ -51,7 +51,7 @@ fn power_of_two(exponent: u32) -> u64
     1u64 << exponent
 }
 
-// What is left of a number behind its highest bit.
+// What is left of a number after its highest bit.
 fn low_bits(number: u32, power: u64, high: bool) -> u32
     requires { high ≡ nat_le power number }
     ensures { result ≡ (if high then number - power else number) }
@@ -80,7 +80,7 @@ fn push_number(
     Ok(())
 }
 
-// Literals, and behind them what is said of a tree in front of its branches.
+// Literals, and after them what is said of a tree in front of its branches.
 fn extended(
     alloc: Global,
     known: &[Literal],
@@ -190,7 +190,7 @@ fn parts_plan(
     })
 }
 
-// How the branches of a parallel are coded: behind what is said of it, each in bits of its own.
+// How the branches of a parallel are coded: after what is said of it, each in bits of its own.
 fn branches_plan(
     alloc: Global,
     way: Way,
@@ -218,7 +218,7 @@ fn branches_plan(
     })
 }
 
-// Appends the literals of the leaves of a tree that is coded this way from a bit on, each behind those that are known.
+// Appends the literals of the leaves of a tree that is coded this way from a bit on, each after those that are known.
 #[cycle(subtree_codes)]
 fn add_codes(
     alloc: Global,

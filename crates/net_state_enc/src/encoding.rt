@@ -19,11 +19,11 @@ use std::alloc::Global;
 const LEAVES_AT_MOST: u32 = 1024;
 
 /// A netlist whose latches hold a program's state in a code of few bits, where the given one has a latch for each leaf
-/// of the selection tree behind the one that tells the first instant. Of the parts of an exclusive node, whose leaves
+/// of the selection tree after the one that tells the first instant. Of the parts of an exclusive node, whose leaves
 /// are never selected together, the code says by a number which one holds a selected leaf; the branches of a parallel
 /// have bits of their own. It shows the same over items, wherever the leaves are selected as the tree wants in each
 /// instant. Where a code would not be shorter, or there are more than 1,024 leaves, the result is a copy. Its fault is
-/// that there are more than 2^31 inputs and gates, and its only other error is want of memory.
+/// that there are more than 2^31 inputs and gates, and its only other error is out of memory.
 ///
 /// Example: `repeat 200 times pause end; emit O` has 201 latches, and 9 in a code.
 pub fn encode(alloc: Global, net: &Net, tree: &SelTree) -> Result<Net, Stop<TooManyNets>>

@@ -85,7 +85,7 @@ fn next_nets(alloc: Global, names: &[NetId], latches: &[Latch]) -> Result<Vec<Ne
     Ok(nets)
 }
 
-// Draws the gates that read the code, behind those that there are, and the copies of the gates of a netlist. Answers
+// Draws the gates that read the code, after those that there are, and the copies of the gates of a netlist. Answers
 // the nets that stand for those of the netlist.
 fn draw_copies(
     alloc: Global,
@@ -182,7 +182,7 @@ fn drawing_of(
 pub struct TooManyNets;
 
 /// How many inputs and gates a netlist may have whose state is coded. The gates that read and write a code have room
-/// behind them.
+/// after them.
 const NETS_AT_MOST: usize = 0x8000_0000;
 
 /// The netlist whose latches hold the code of those of a netlist, where `codes` are the literals of the leaves in a

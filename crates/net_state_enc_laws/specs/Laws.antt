@@ -17,7 +17,7 @@ use Rattle.net_ir.specs.Runs.{initial_latches}
 use Rattle.net_state_enc.specs.Encodings.{SelectsWell}
 use Rattle.net_state_enc.specs.Meeting.{LatchesMeet}
 
--- A graph keeps the states of a program: what is behind one of its instants in such a state is one again, and its
+-- A graph keeps the states of a program: what is after one of its instants in such a state is one again, and its
 -- leaves are among those of the program's body.
 pub record KeepsStates (g : Graph) (p : Program) : Type 0 where
   pub program : program_of g.program ≡ p

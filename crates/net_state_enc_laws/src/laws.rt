@@ -6,7 +6,7 @@ ghost use Rattle.net_state_enc_laws.specs.Laws.{GraphsKeepStates, KeptStatesAreF
 
 use grc_solutions_laws::next_state_is_kept;
 
-/// The graph of a program keeps its states: behind each instant is a state of the body again.
+/// The graph of a program keeps its states: after each instant is a state of the body again.
 pub fn graphs_keep_states()
     ensures { GraphsKeepStates }
 {

@@ -41,7 +41,7 @@ impl<P: Places + Drop> Pieces<P> {
     }
 
     /// The next piece: the first 65,536 bytes of what is to come, or all of it where that is less; None
-    /// exactly at the end of the text. After want of memory, which is its only error, all that was to come
+    /// exactly at the end of the text. After out of memory, which is its only error, all that was to come
     /// is to come still, so the next call gives the piece that was due.
     pub fn next(&mut self, alloc: Global) -> Result<Option<Vec<u8>>, NoMemory>
         ensures piece { IfOk result (λ answer. MatchOption answer (self.old ≡ [])
@@ -58,8 +58,8 @@ impl<P: Places + Drop> Pieces<P> {
         Ok(Some(text))
     }
 
-    /// All pieces, one behind another. The time and the memory that it takes are linear in the length of the text;
-    /// want of memory is its only error.
+    /// All pieces, one after another. The time and the memory that it takes are linear in the length of the text;
+    /// out of memory is its only error.
     pub fn all(self, alloc: Global) -> Result<Vec<u8>, NoMemory>
         ensures { IfOk result (λ t. t.items ≡ self) }
     {
@@ -73,7 +73,7 @@ impl<P: Places + Drop> Pieces<P> {
 }
 
 // What is left and what stands at the places from this one on, at least as far as a piece goes or to the end of the
-// text, and the place behind it.
+// text, and the place after it.
 fn filled<P: Places>(
     alloc: Global,
     places: &P,
@@ -96,7 +96,7 @@ fn filled<P: Places>(
     Ok((text, at))
 }
 
-// Cuts a text behind its first piece; the answer is what stood there.
+// Cuts a text after its first piece; the answer is what stood there.
 fn cut(text: &mut Vec<u8>) -> Result<Vec<u8>, NoMemory>
     ensures piece { OnOk result (text.new.items ≡ take Limits.PIECE_BYTES text.old.items) }
     ensures rest { IfOk result (λ rest. rest.items ≡ drop Limits.PIECE_BYTES text.old.items) }

@@ -21,8 +21,8 @@ pub trait Places {
 
     ghost is_sound: { Self → Type 0 };
 
-    /// Puts what stands at a place behind a text. The answer is the place behind it; None where the text is at its
-    /// end. Want of memory is the only error.
+    /// Puts what stands at a place after a text. The answer is the place after it; None where the text is at its
+    /// end. Running out of memory is the only error.
     fn put_place(&self, text: &mut Vec<u8>, place: u128) -> Result<Option<u128>, NoMemory>
         requires { is_sound self.now }
         ensures { IfOk result (PutsPlace (text_from self.now) place text.old.items text.new.items) };

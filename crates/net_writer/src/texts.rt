@@ -4,7 +4,7 @@ use base_types::NoMemory;
 use net_ir::Net;
 use std::alloc::Global;
 
-/// A form of text in which nets are written, part by part. The parts stand in sections: a section has a part for each
+/// A form of text in which nets are written, part by part. The parts are in sections: a section has a part for each
 /// latch, input, output or gate of a net, or one alone.
 ///
 /// `sections` are the sections in order, and `parts_in` are the parts of a section; `written` is the text itself, and
@@ -28,7 +28,7 @@ pub trait NetText {
 
     ghost is_of: { Self → Netlist → Type 0 };
 
-    /// What is made of a net before its first part. Want of memory is the only error, here and below.
+    /// What is made of a net before its first part. Running out of memory is the only error, here and below.
     fn of(alloc: Global, net: &Net) -> Result<Self, NoMemory>
         ensures { IfOk result (λ form. is_of form (netlist_of net.now)) };
 
@@ -40,7 +40,7 @@ pub trait NetText {
     fn count(net: &Net, section: Self::Section) -> usize
         ensures { result ≡ length (parts_in (netlist_of net.now) section) };
 
-    /// Puts the part of a section with this number behind a text.
+    /// Puts the part of a section with this number after a text.
     fn put_in(
         &self,
         text: &mut Vec<u8>,

@@ -4,7 +4,7 @@ ghost use Rattle.std.specs.Prelude.{◌≡◌, ◌++◌, OnOk};
 
 use base_types::{NoMemory, put};
 
-/// Writes a name between some bytes. Want of memory is the only error.
+/// Writes a name between some bytes. Running out of memory is the only error.
 pub fn put_named(
     text: &mut Vec<u8>,
     before: &[u8],

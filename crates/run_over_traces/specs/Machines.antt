@@ -5,7 +5,7 @@ use Rattle.base_types.specs.Items.{Item, Event, Reset}
 use Rattle.run_trace_io.specs.declared.lines.Word.{Word}
 use Rattle.run_trace_io.specs.Lines.{line}
 
--- what an instant shows: for each outgoing signal whether it is present, and what is said of the program behind it
+-- what an instant shows: for each outgoing signal whether it is present, and what is said of the program after it
 pub record ShownAnswer : Type 0 where
   pub present : List Bool
   pub word : Word

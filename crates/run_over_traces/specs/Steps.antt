@@ -30,7 +30,7 @@ Came s text (Err (Trace fault)) = Appends s.before s.after s.faults_before s.fau
 Came s text (Err Write) = Stops s.before s.after s.faults_before s.faults_now text
 Came s text (Err NoMemory) = (s.faults_now ≡ s.faults_before) × GainsFront s.before s.after text
 
--- where the reading stands: behind an item, at the end, at a fault
+-- where the reading stands: after an item, at the end, at a fault
 abbrev pub Stands : Reading → Reading → Result Bool RunFault → Type 0
 Stands old new (Ok true) = (old.at < new.at) × (new.at ≤ length new.text)
 Stands old new (Ok false) = next_group new ≡ groups.End
@@ -55,7 +55,7 @@ pub record IsStep {S : Type 0} (shows : S → List Item → List ShownAnswer →
   pub came : Came s (answer_lines names answers) result
   pub stands : Stands r later result
 
--- the same, whatever machine it becomes behind the items that are left
+-- the same, whatever machine it becomes after the items that are left
 abbrev pub IsStepTowards : {S : Type 0} → (S → List Item → List ShownAnswer → Type 0)
     → (S → List Item → S → Type 0) → (names : List (List ℕ)) (r later : Reading) (old new : S) (s : SinkChange)
     (result : Result Bool RunFault) → Type 0

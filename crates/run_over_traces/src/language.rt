@@ -10,7 +10,7 @@ use std::alloc::Global;
 ///
 /// `Plain` is the type of its programs as plain values. `reads` says that a text has a reading, and which one; `given`
 /// and `outgoing` are the names of its signals, `shows` is its meaning, and `faulty` says of a text which fault is its
-/// first. These, and `means`, which says that a text is what is written of a netlist, are to be believed of each
+/// first. These, and `means`, which says that a text is what is written of a netlist, must be believed of each
 /// language; `plain` is what a machine of it runs.
 pub trait Language {
     ghost use Rattle.std.specs.Prelude.{◌≡◌, ℕ, ◌≤◌, List, [], length, IfOk, IsTrue};
@@ -44,14 +44,14 @@ pub trait Language {
 
     ghost plain: { Self.Machine → Plain };
 
-    /// The machine of a text, at its start. Its errors are the first fault of the text, and want of memory.
+    /// The machine of a text, at its start. Its errors are the first fault of the text, and out of memory.
     fn read(alloc: Global, text: &[u8]) -> Result<Self::Machine, Stop<Self::Fault>>
         requires { length text.now ≤ Limits.TEXT_BYTES }
         ensures reads { IfOk result (λ m. reads text.now (plain m)) }
         ensures shows { IfOk result (λ m. IsOfProgram Self.Machine.shows shows m (plain m)) }
         ensures fault { IfFault result (faulty text.now) };
 
-    /// The interface of the text itself, without relations. Its only error is want of memory.
+    /// The interface of the text itself, without relations. Its only error is out of memory.
     fn interface(alloc: Global, machine: &Self::Machine) -> Result<Interface, NoMemory>
         ensures given { IfOk result (λ i. i.given.items ≡ given (plain machine.now)) }
         ensures outgoing { IfOk result (λ i. i.outgoing.items ≡ outgoing (plain machine.now)) }

@@ -1,6 +1,6 @@
 //! Runs of machines over traces, for every language of texts.
 //!
-//! `run_trace` drives a machine by the items of a trace, and writes one line after each reaction, right behind it.
+//! `run_trace` drives a machine by the items of a trace, and writes one line after each reaction, right after it.
 //! `Runner` is what a machine has to be for that, and `Language` what a language of texts is: which texts it has, what
 //! each means, and the machine that runs it. `run_text` runs a text that was read, by its own names, and `run_written`
 //! the text that was written of a netlist. The languages are implemented in crates of their own.

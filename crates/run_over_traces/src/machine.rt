@@ -6,7 +6,7 @@ use run_trace_io::Word;
 ///
 /// `shows` says which answers a machine of the type gives to items, from its present state on. It is the meaning of
 /// what the machine runs, and so to be believed of each implementation; a reaction and a reset keep it. `becomes` says
-/// which machine it may be behind items, as far as a caller asks.
+/// which machine it may be after items, as far as a caller asks.
 pub trait Runner {
     ghost use Rattle.std.specs.Prelude.{◌≡◌, ℕ, Bool, List, [], length};
     ghost use Rattle.base_types.specs.Items.{Item, Event, Reset};
@@ -23,7 +23,7 @@ pub trait Runner {
 
     ghost becomes: { Self → List Item → Self → Type 0 };
 
-    /// One reaction to these values of the inputs. It answers what is said of the program behind it.
+    /// One reaction to these values of the inputs. It answers what is said of the program after it.
     fn react(&mut self, inputs: &[bool]) -> Word
         requires { length inputs.now ≡ input_count self.old }
         ensures answered { Answered shows self.old inputs.now (record { present = present self.new; word = result })

@@ -36,12 +36,12 @@ pub enum RunFault {
     Trace(TraceFault),
     /// A line was not written.
     Write,
-    /// Want of memory.
+    /// Running out of memory.
     NoMemory,
 }
 
 /// Runs a machine over the items of a trace, up to its end or its first fault, and writes one line after each
-/// reaction, right behind it. A line is one piece. It allocates an event and a line for each reaction.
+/// reaction, right after it. A line is one piece. It allocates an event and a line for each reaction.
 pub fn run_trace<R: Runner, O: Sink>(
     alloc: Global,
     runner: &mut R,

@@ -15,8 +15,8 @@ use base_types::{InputRelation, Limits, NoMemory, Sink, Text};
 use net_ir::{Net, NetOut};
 use std::alloc::Global;
 
-/// Runs a text that was read over a trace, by its own interface: one line for each instant, right behind its reaction.
-/// Its errors are the first fault of the trace, a write that failed, and want of memory.
+/// Runs a text that was read over a trace, by its own interface: one line for each instant, right after its reaction.
+/// Its errors are the first fault of the trace, a write that failed, and out of memory.
 pub fn run_text<L: Language, O: Sink>(
     alloc: Global,
     machine: L::Machine,
@@ -38,7 +38,7 @@ pub fn run_text<L: Language, O: Sink>(
 
 /// Reads the text that was written of a net, and runs it over a trace, with these names in its lines. What is written
 /// is what the net shows.
-/// Its errors are the first fault of the trace, a write that failed, and want of memory.
+/// Its errors are the first fault of the trace, a write that failed, and out of memory.
 pub fn run_written<L: Language, O: Sink>(
     alloc: Global,
     net: &Net,
@@ -67,7 +67,7 @@ pub fn run_written<L: Language, O: Sink>(
 }
 
 /// The interface of a net: the names of its inputs and outputs, with these relations of its inputs.
-/// Its only error is want of memory.
+/// Its only error is out of memory.
 pub fn net_interface(
     alloc: Global,
     net: &Net,
@@ -84,7 +84,7 @@ pub fn net_interface(
     })
 }
 
-/// Names, copied. Its only error is want of memory.
+/// Names, copied. Its only error is out of memory.
 pub fn copied_names(alloc: Global, names: &[Text]) -> Result<Vec<Text>, NoMemory>
     ensures { IfOk result (λ copied. copied.items ≡ names.now) }
 {

@@ -14,7 +14,7 @@ pub fn tells_pause(paused: &[u8], outputs: &[Text]) -> bool
     paused == last_name(outputs)
 }
 
-/// How many of the outputs are listed: all but a last one of this name.
+/// How many of the outputs are listed: all except a last one of this name.
 pub fn listed_count(paused: &[u8], outputs: &[Text]) -> usize
     ensures count { result ≡ listed_count paused.now outputs.now }
     ensures within { result ≤ length outputs.now }

@@ -22,7 +22,7 @@ pub record IsAgainst (ranks order : List ℕ) : Type 0 where
   pub nodes : All (λ node. node < length ranks) order
   pub inverse : (node : ℕ) → node < length ranks → slice_index order (length ranks - 1 - slice_index ranks node) ≡ node
 
--- the nodes in an order in which each one stands behind those that its edges lead to
+-- the nodes in an order in which each one comes after those that its edges lead to
 pub record IsEvaluationOrder (count : ℕ) (edges : List (ℕ × ℕ)) (order : List ℕ) : Type 0 where
   pub ranks : List ℕ
   pub each_node : length ranks ≡ count

@@ -28,7 +28,7 @@ pub record Lookup : Type 0 where
   pub reads : List ℕ
   pub truth : List Bool
 
--- a plan: how many slots have names, the first slot behind them that is free, how many slots there are, the lookups,
+-- a plan: how many slots have names, the first slot after them that is free, how many slots there are, the lookups,
 -- and how many of them are no gates
 pub record Planned : Type 0 where
   pub named : ℕ
@@ -42,18 +42,18 @@ pub record Listed : Type 0 where
   pub slots : ℕ
   pub lookups : List Lookup
 
--- the values behind a lookup
+-- the values after a lookup
 abbrev pub lookup_made : Lookup → List Bool → List Bool
 lookup_made l values = slice_set values l.output (looked_up l.reads l.truth values)
 
--- the values behind some lookups
+-- the values after some lookups
 abbrev pub made : List Lookup → List Bool → List Bool
 made [] values = values
 made (l ∷ lookups) values = made lookups (lookup_made l values)
 
 -- ---- the plan makes the steps
 
--- The plan makes the steps: behind its lookups the slots of the names have the values that the steps give them, one
+-- The plan makes the steps: after its lookups the slots of the names have the values that the steps give them, one
 -- after another.
 pub record Makes (plan : Planned) (steps : List Step) : Type 0 where
   pub made_is : (values : List Bool) → plan.slots ≤ length values
@@ -85,7 +85,7 @@ pub record TermFits (free : ℕ) (t : Term) : Type 0 where
   pub left_low : t.left < free
   pub right_low : t.right < free
 
--- behind the plan's lookups the term has the value that the function gives to those of the names
+-- after the plan's lookups the term has the value that the function gives to those of the names
 pub record Says (plan : Planned) (t : Term) (value : List Bool → Bool) : Type 0 where
   pub fits : TermFits plan.free t
   pub says : (values : List Bool) → plan.slots ≤ length values

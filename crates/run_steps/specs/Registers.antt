@@ -47,7 +47,7 @@ pub record StaysSame (old new : Frame) : Type 0 where
   pub shown : new.shown ≡ old.shown
 
 -- One instant: the plan's lookups begin with the inputs and the registers in front, the registers get the values of
--- their sources behind them, and the outputs those of their slots.
+-- their sources after them, and the outputs those of their slots.
 pub record Advances (old : Frame) (inputs : List Bool) (new : Frame) : Type 0 where
   pub same : StaysSame old new
   pub start : List Bool
@@ -58,7 +58,7 @@ pub record Advances (old : Frame) (inputs : List Bool) (new : Frame) : Type 0 wh
   pub registers : new.registers ≡ map (value_at (made old.plan.lookups start)) old.sources
   pub outputs : new.outputs ≡ map (value_at (made old.plan.lookups start)) old.shown
 
--- before the first instant and behind a reset each register has its first value, and every output is false
+-- before the first instant and after a reset each register has its first value, and every output is false
 pub record IsBegun (r : Frame) : Type 0 where
   pub registers : r.registers ≡ r.initial
   pub outputs : r.outputs ≡ replicate (length r.shown) false

@@ -25,7 +25,7 @@ AreResolved given equations r =
     IsResolved given equations (map (λ w. w.now) r.names.items) (map (λ k. k.now) r.slots.keys) r.first
     (map (λ s. s.items) r.reads.items)
 
--- equations in an order in which each one stands behind those that it reads
+-- equations in an order in which each one comes after those that it reads
 abbrev pub AreOrdered : List (List ℕ) → List NameEquation → List ℕ → Type 0
 AreOrdered given equations order = IsEvaluationOrder (length equations) (equation_edges given equations) order
 

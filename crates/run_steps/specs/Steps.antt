@@ -11,11 +11,11 @@ pub record Step : Type 0 where
   pub output : ℕ
   pub value : List Bool → Bool
 
--- the values behind a step
+-- the values after a step
 abbrev pub step_made : Step → List Bool → List Bool
 step_made s values = slice_set values s.output (s.value values)
 
--- the values behind some steps
+-- the values after some steps
 abbrev pub settled : List Step → List Bool → List Bool
 settled [] values = values
 settled (s ∷ steps) values = settled steps (step_made s values)
@@ -41,7 +41,7 @@ pub record AreSound (given : List (List ℕ)) (equations : List NameEquation) : 
       (λ e. AllByRecursion (λ x. is_among x (driven given equations) ≡ true) e.reads) equations
   pub local : AllByRecursion IsLocal equations
 
--- Behind the steps the names that are given have these values and every equation holds, and no other valuation does so
+-- After the steps the names that are given have these values and every equation holds, and no other valuation does so
 -- much.
 pub record AreSolved (given : List (List ℕ)) (equations : List NameEquation) (values : List Bool) (v : List ℕ → Bool)
     : Type 0 where

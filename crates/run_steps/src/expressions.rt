@@ -13,7 +13,7 @@ use base_types::NoMemory;
 use indexmap::IndexSet;
 use net_expressions::Expr;
 
-/// The term of an expression. What stands in it is computed before. Its only error is want of memory.
+/// The term of an expression. What is in it is computed before. Its only error is out of memory.
 #[cycle(terms)]
 pub fn expr_term(plan: &mut Plan, slots: &IndexSet<&[u8]>, value: &Expr) -> Result<Term, NoMemory>
     ensures { IfOk result
@@ -63,7 +63,7 @@ fn none_joined(junction: Junction) -> bool
 }
 
 /// Adds the step that gives a name the value of an expression. The terms so far say nothing any more. Its only error is
-/// want of memory.
+/// out of memory.
 pub fn push_expr(
     plan: &mut Plan,
     slots: &IndexSet<&[u8]>,

@@ -43,7 +43,7 @@ impl GateList {
         self.narrow.len() + self.wide.len()
     }
 
-    /// Adds a gate. Its only error is want of memory, behind which the list is as it was.
+    /// Adds a gate. Its only error is out of memory, after which the list is as it was.
     pub fn push(&mut self, gate: Gate) -> Result<(), NoMemory>
         ensures more { OnOk result (self.new ≡ self.old ++ gate ∷ []) }
         ensures kept { OnErr result (self.new ≡ self.old) }
@@ -56,7 +56,7 @@ impl GateList {
         Ok(self.wide.push(gate)?)
     }
 
-    /// Adds the gates of a list. Its only error is want of memory, behind which there are some of them.
+    /// Adds the gates of a list. Its only error is out of memory, after which there are some of them.
     pub fn append(&mut self, others: &GateList) -> Result<(), NoMemory>
         ensures more { OnOk result (self.new ≡ self.old ++ others.now) }
         ensures fits { (slots : ℕ) → All (GateFits slots) self.old → All (GateFits slots) others.now

@@ -1,4 +1,4 @@
-// Gates of plans, one plan behind another, of which a part is made.
+// Gates of plans, one plan after another, of which a part is made.
 
 ghost use Rattle.std.specs.Prelude.{◌≡◌, ◌≤◌, [], ◌++◌, length, max, slice_range, OnOk};
 ghost use Rattle.run_steps.specs.Plans.{made};
@@ -9,7 +9,7 @@ use base_types::NoMemory;
 use std::alloc::Global;
 use std::marker::Model;
 
-/// The gates of plans, one plan behind another. A contract sees them as the list of their lookups, with how many slots
+/// The gates of plans, one plan after another. A contract sees them as the list of their lookups, with how many slots
 /// there are (`Listed`).
 #[derive(Drop)]
 pub struct Gates {
@@ -41,7 +41,7 @@ impl Gates {
         }
     }
 
-    /// Adds the gates of a plan that has no tables beside them. Its only error is want of memory.
+    /// Adds the gates of a plan that has no tables beside them. Its only error is out of memory.
     pub fn push_plan(&mut self, plan: &Plan) -> Result<(), NoMemory>
         requires { plan.now.tables ≡ 0 }
         ensures slots { OnOk result (self.new.slots ≡ max self.old.slots plan.now.slots) }

@@ -3,10 +3,10 @@
 //! A name has its place among the names as its slot (`slot_table`). A step gives one slot a value that is a function of
 //! the values of all. `Plan` compiles tables and expressions to lookups: most are gates, records of two operands whose
 //! truth table is a number, as in compiled simulation of logic circuits. Its one theorem is that a plan makes the
-//! steps: behind `Plan::run` the slots of the names have the values that the steps give them, one after another.
-//! `evaluation_order` puts equations into an order in which each one stands behind those that it reads, or finds a
+//! steps: after `Plan::run` the slots of the names have the values that the steps give them, one after another.
+//! `evaluation_order` puts equations into an order in which each one comes after those that it reads, or finds a
 //! combinational cycle; in such an order the steps solve the equations. `Registers` runs a plan from instant to
-//! instant, and `Gates` a part of what stands in several plans, of gates alone.
+//! instant, and `Gates` a part of what is in several plans, of gates alone.
 #![tactic(auto)]
 
 mod expressions;

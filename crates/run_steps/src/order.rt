@@ -1,4 +1,4 @@
-// Which equations read the outputs of which, and an order in which each one stands behind those that it reads.
+// Which equations read the outputs of which, and an order in which each one comes after those that it reads.
 
 ghost use Rattle.std.specs.Prelude.{◌≡◌, ◌++◌, ◌+◌, ◌<◌, map, length, All, IfOk, OnOk};
 ghost use Rattle.base_types.specs.Stops.{IfFault};
@@ -10,11 +10,11 @@ use base_digraph::{WideRanking, WideRanksOrCycle, wide_ranks_or_cycle};
 use base_types::{NoMemory, Stop, Text};
 use std::alloc::Global;
 
-/// The equations in an order in which each one stands behind those whose outputs it reads. The names are in the order
+/// The equations in an order in which each one comes after those whose outputs it reads. The names are in the order
 /// of their slots, those of the outputs begin at `first`, and there are the slots that each equation reads.
 ///
 /// The fault is a combinational cycle, where there is one: the names of the outputs along it. The only other error is
-/// want of memory.
+/// out of memory.
 pub fn evaluation_order(
     alloc: Global,
     names: &[&[u8]],

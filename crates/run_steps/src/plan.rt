@@ -1,4 +1,4 @@
-// Plans: steps as records, one behind another.
+// Plans: steps as records, one after another.
 
 ghost use Rattle.std.specs.Prelude.{◌≡◌, ◌<◌, ◌≤◌, ◌^◌, [], ◌∷◌, length, map, All, IfOk, IfSome, OnOk};
 ghost use Rattle.run_steps.specs.Slots.{value_at};
@@ -15,7 +15,7 @@ use std::alloc::Global;
 use std::marker::Model;
 use std::mem;
 
-/// Gates, and behind them a lookup that is none.
+/// Gates, and after them a lookup that is none.
 #[derive(Drop)]
 pub struct Stretch {
     pub gates: GateList,
@@ -30,7 +30,7 @@ pub struct Plan {
     free: usize,
     slots: usize,
     stretches: Vec<Stretch>,
-    // The gates behind the last stretch.
+    // The gates after the last stretch.
     gates: GateList,
 }
 
@@ -47,7 +47,7 @@ impl Model for Plan {
 }
 
 impl Plan {
-    /// A plan without a step, where so many slots have names. Its only error is want of memory: none holds a value for
+    /// A plan without a step, where so many slots have names. Its only error is out of memory: none holds a value for
     /// each of 2^64 slots.
     pub fn new(alloc: Global, named: usize) -> Result<Plan, NoMemory>
         ensures named { IfOk result (λ p. p.named ≡ named) }
@@ -83,7 +83,7 @@ impl Plan {
     }
 
     /// Adds the step of a table over slots of names: its element at the place whose binary digits are their values, the
-    /// lowest digit first. Its only error is want of memory.
+    /// lowest digit first. Its only error is out of memory.
     pub fn push_table(
         &mut self,
         alloc: Global,
@@ -147,7 +147,7 @@ impl Plan {
         }
     }
 
-    /// Two terms joined. What stands in them is computed before. Its only error is want of memory.
+    /// Two terms joined. What is in them is computed before. Its only error is out of memory.
     pub fn joined(&mut self, junction: Junction, left: Term, right: Term) -> Result<Term, NoMemory>
         requires left_fits { TermFits self.old.free left }
         requires right_fits { TermFits self.old.free right }
@@ -175,7 +175,7 @@ impl Plan {
     }
 
     /// Adds the step that gives a slot of a name the value of a term. The terms so far say nothing any more. Its only
-    /// error is want of memory.
+    /// error is out of memory.
     pub fn push_term(&mut self, output: usize, term: Term) -> Result<(), NoMemory>
         requires output { output < self.old.named }
         requires fits { TermFits self.old.free term }

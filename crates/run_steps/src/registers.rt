@@ -40,7 +40,7 @@ impl Model for Registers {
 
 impl Registers {
     /// Registers before the first instant: so many inputs, for each register its value at first and the slot of a name
-    /// whose value it gets behind an instant, and the slots of the outputs. Its only error is want of memory.
+    /// whose value it gets after an instant, and the slots of the outputs. Its only error is out of memory.
     pub fn new(
         alloc: Global,
         plan: Plan,
@@ -88,7 +88,7 @@ impl Registers {
         take_values(&self.shown, &self.values, &mut self.outputs);
     }
 
-    /// The values of the outputs in the last instant; all false before the first one and behind a reset. It takes no
+    /// The values of the outputs in the last instant; all false before the first one and after a reset. It takes no
     /// memory.
     pub fn outputs(&self) -> &[bool]
         ensures { result.now ≡ self.now.outputs }

@@ -2,7 +2,7 @@
 
 use indexmap::IndexSet;
 
-/// The names that have a value, each with its place as its slot: those that are given, and behind them the outputs of
+/// The names that have a value, each with its place as its slot: those that are given, and after them the outputs of
 /// the equations.
 #[derive(Drop)]
 pub struct Resolved<'a> {

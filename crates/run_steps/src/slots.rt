@@ -8,7 +8,7 @@ use base_types::{NoMemory, Text};
 use indexmap::IndexSet;
 use std::alloc::Global;
 
-/// The table of some names, of which none stands twice. Its only error is want of memory.
+/// The table of some names, of which none stands twice. Its only error is out of memory.
 pub fn slot_table<'a>(alloc: Global, names: &[&'a [u8]]) -> Result<IndexSet<&'a [u8]>, NoMemory>
     requires { first_again [] (map (λ w. w.now) names.now) ≡ None }
     ensures { IfOk result (λ s. map (λ k. k.now) s.keys ≡ map (λ w. w.now) names.now) }
@@ -30,7 +30,7 @@ pub fn slot_of(slots: &IndexSet<&[u8]>, name: &[u8]) -> usize
     }
 }
 
-/// The slots of some names. Its only error is want of memory.
+/// The slots of some names. Its only error is out of memory.
 pub fn slots_of(
     alloc: Global,
     slots: &IndexSet<&[u8]>,

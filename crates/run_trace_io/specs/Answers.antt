@@ -35,7 +35,7 @@ IsFault r (faults.Breaks instant number) =
     × (instant ≡ r.instant) × (number ≡ place + 1) × IsFirstBroken r.relations event place
 IsFault r fault = next_group r ≡ Refused fault
 
--- The answer by the next group, and the reading after it. At the end, at a fault and for want of memory it is as it
+-- The answer by the next group, and the reading after it. At the end, at a fault and because memory ran out it is as it
 -- was.
 abbrev pub AnswersGroup : Reading → Result (Option Item) TraceError → Reading → Type 0
 AnswersGroup old (Ok None) new = (next_group old ≡ End) × (new ≡ old)
@@ -47,7 +47,7 @@ AnswersGroup old (Ok (Some (items.React event))) new =
 AnswersGroup old (Err (Fault fault)) new = IsFault old fault × (new ≡ old)
 AnswersGroup old (Err NoMemory) new = new ≡ old
 
--- The items of a trace from a reading on, and what stands behind them: the end of the text, or the first fault.
+-- The items of a trace from a reading on, and what comes after them: the end of the text, or the first fault.
 abbrev pub IsTrace : Reading → List driven.Item → Option TraceFault → Type 0
 IsTrace r [] None = next_group r ≡ End
 IsTrace r [] (Some fault) = IsFault r fault

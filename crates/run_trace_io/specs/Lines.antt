@@ -3,7 +3,7 @@ use Rattle.std.specs.Prelude.{ℕ, Bool, true, false, List, [], ◌∷◌, ◌++
 use Rattle.run_trace_io.specs.declared.lines.Word.{Word}
 use Rattle.run_trace_io.specs.declared.lines.Word.TheVariants.{Paused, Ended, Bare}
 
--- a name, behind a space where a name stands before it
+-- a name, after a space where a name stands before it
 abbrev pub spaced : Bool → List ℕ → List ℕ
 spaced behind name = (if behind then codes " " else []) ++ name
 

@@ -38,7 +38,7 @@ IsEnd group (Ok read) = (group ≡ group_of read) × (read ≡ reads.End)
 IsEnd group (Err (Fault fault)) = (group ≡ Refused fault) × IsOfGroup fault
 IsEnd group (Err NoMemory) = ⊤
 
--- the place behind a group is one of the text, behind its beginning
+-- the place after a group is one of the text, after its beginning
 abbrev pub IsBehind : List ℕ → ℕ → Read → Type 0
 IsBehind text at reads.End = ⊤
 IsBehind text at (reads.Reset behind) = (at < behind) × (behind ≤ length text)

@@ -4,7 +4,7 @@
 use Rattle.std.specs.Prelude.{ℕ, ◌+◌, Bool, true, false, not, ◌==◌, ◌&&◌, ◌||◌, nat_le, List, [], ◌∷◌, if◌then◌else◌}
 
 pub data TraceToken : Type 0 where
-  -- a `;`, by the place behind it
+  -- a `;`, by the place after it
   Semicolon : (behind : ℕ) → TraceToken
   -- a byte that has no place in a trace, by its place
   BadByte : (place : ℕ) → TraceToken
@@ -20,7 +20,7 @@ abbrev pub begins_name : List ℕ → Bool
 begins_name [] = false
 begins_name (c ∷ cs) = is_trace_byte c
 
--- a byte of a name, before the tokens behind it: it is of the name that stands there, where the name goes on
+-- a byte of a name, before the tokens after it: it is of the name that is there, where the name goes on
 abbrev pub with_byte : ℕ → Bool → List TraceToken → List TraceToken
 with_byte c true (Name name ∷ more) = Name (c ∷ name) ∷ more
 with_byte c goes_on more = Name (c ∷ []) ∷ more

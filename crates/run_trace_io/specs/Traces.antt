@@ -17,7 +17,7 @@ reset_name = codes "!reset"
 abbrev pub has_resets : List (List ℕ) → Bool
 has_resets inputs = not (list_any (is_same_name reset_name) inputs)
 
--- what stood in a group so far: nothing, names of inputs, or the name of a reset
+-- what was in a group so far: nothing, names of inputs, or the name of a reset
 pub data Stage : Type 0 where
   Fresh : Stage
   Named : Stage
@@ -28,7 +28,7 @@ pub data NameEffect : Type 0 where
   Faulty : (fault : TraceFault) → NameEffect
   Goes : (stage : Stage) (event : List Bool) → NameEffect
 
--- a name behind a reset in its group, or a reset behind a name
+-- a name after a reset in its group, or a reset after a name
 abbrev pub is_misplaced : Stage → List ℕ → Bool
 is_misplaced Fresh name = false
 is_misplaced Named name = is_same_name reset_name name
@@ -47,7 +47,7 @@ met_name inputs instant stage event name =
     else if has_resets inputs && is_same_name reset_name name then Goes Resetting event
     else met_input instant event name (position (is_same_name name) inputs)
 
--- what the next group is: the end of the text, a reset or an instant with the place behind it, or a fault
+-- what the next group is: the end of the text, a reset or an instant with the place after it, or a fault
 pub data TraceGroup : Type 0 where
   End : TraceGroup
   Reset : (behind : ℕ) → TraceGroup
@@ -66,7 +66,7 @@ ended instant Fresh = End
 ended instant Named = Refused (faults.OpenInstant instant)
 ended instant Resetting = Refused (faults.OpenInstant instant)
 
--- behind a name
+-- after a name
 abbrev pub behind_name : (Stage → List Bool → TraceGroup) → NameEffect → TraceGroup
 behind_name rest (Faulty fault) = Refused fault
 behind_name rest (Goes stage event) = rest stage event

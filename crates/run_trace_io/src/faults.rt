@@ -11,9 +11,9 @@ pub enum TraceFault {
     UnknownInput(u32, Text),
     /// In this instant stands the name of an input a second time.
     Repeated(u32, Text),
-    /// Where this instant would stand, `!reset` and another name stand in one group.
+    /// Where this instant would stand, `!reset` and another name are in one group.
     BadReset(u32),
-    /// At the end of the text stand names of this instant, without a `;` behind them.
+    /// At the end of the text stand names of this instant, without a `;` after them.
     OpenInstant(u32),
     /// This instant breaks a relation of the inputs; this is the first one that it breaks.
     Breaks(u32, u32),

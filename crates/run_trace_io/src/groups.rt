@@ -12,7 +12,7 @@ use crate::scan::{Found, next_token};
 use base_types::{NoMemory, Text};
 use std::alloc::Global;
 
-// What stood in the group so far.
+// What was in the group so far.
 #[derive(Clone, Copy)]
 pub enum Stage {
     Fresh,
@@ -20,7 +20,7 @@ pub enum Stage {
     Resetting,
 }
 
-// A group that is read, with the place behind it.
+// A group that is read, with the place after it.
 #[derive(Drop)]
 pub enum Read {
     End,
@@ -84,7 +84,7 @@ pub fn read_group(
     }
 }
 
-// What the end of the text is, by what stood in the group.
+// What the end of the text is, by what was in the group.
 fn end_of(stage: Stage, instant: u32) -> Result<Read, TraceError>
     ensures { IsEnd (ended instant (stage_of stage)) result }
 {
@@ -104,7 +104,7 @@ fn closed_group(stage: Stage, event: Vec<bool>, behind: usize) -> Read
     }
 }
 
-// What stands in the group after one name more.
+// What is in the group after one name more.
 fn stage_after(
     alloc: Global,
     names: Names<'_>,
@@ -146,7 +146,7 @@ fn copied_name(alloc: Global, name: &[u8]) -> Result<Text, TraceError>
     }
 }
 
-// Whether a name stands behind a reset, or a reset behind a name.
+// Whether a name comes after a reset, or a reset after a name.
 fn is_misplaced(stage: Stage, name: &[u8]) -> bool
     ensures { result ≡ is_misplaced (stage_of stage) name.now }
 {

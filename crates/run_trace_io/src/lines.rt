@@ -19,7 +19,7 @@ pub enum Word {
 
 /// The line of an answer: the names of the outgoing signals that are present, in their order, with
 /// one space between, or `-` where there is none; then the word, and a line feed. Its only error is
-/// want of memory.
+/// out of memory.
 ///
 /// Example: for the names O and P, of which P is present, and a program that pauses, the line is `P | paused`.
 pub fn reaction_line(
@@ -48,8 +48,8 @@ fn put_names(text: &mut Vec<u8>, names: &[Text], present: &[bool]) -> Result<(),
     put(text, if any { b"" } else { b"-" })
 }
 
-// A name whose signal is present, behind a space where a name stands before it. The answer is
-// whether a name stands there now.
+// A name whose signal is present, after a space where a name stands before it. The answer is
+// whether a name is there now.
 fn put_name(text: &mut Vec<u8>, behind: bool, name: &Text, present: bool) -> Result<bool, NoMemory>
     ensures text { OnOk result (text.new.items ≡ text.old.items ++ (if present then spaced behind name.now else [])) }
     ensures any { IfOk result (λ any. any ≡ (behind || present)) }

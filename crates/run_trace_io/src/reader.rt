@@ -97,8 +97,8 @@ impl TraceReader {
         }
     }
 
-    /// The next item; None at the end of the trace, which is behind a whole group. At a fault, and for
-    /// want of memory, the reader stays as it was, so the same fault comes again.
+    /// The next item; None at the end of the trace, which is after a whole group. At a fault, and for
+    /// out of memory, the reader stays as it was, so the same fault comes again.
     pub fn next(&mut self) -> Result<Option<Item>, TraceError>
         ensures { AnswersGroup (reading_of self.old) result (reading_of self.new) }
     {

@@ -8,11 +8,11 @@ ghost use Rattle.run_trace_io.specs.Scans.{Begins, IsNameAt};
 #[derive(Clone, Copy)]
 pub enum Found {
     End,
-    // A `;`, by the place behind it.
+    // A `;`, by the place after it.
     Semicolon(usize),
     // A byte that has no place in a trace, by its place.
     Bad(usize),
-    // A name, by its place and the place behind it.
+    // A name, by its place and the place after it.
     Name(usize, usize),
 }
 
@@ -52,7 +52,7 @@ fn token_at(text: &[u8], at: usize) -> Found
     }
 }
 
-// The place behind the name that begins at a place.
+// The place after the name that begins at a place.
 fn name_end(text: &[u8], start: usize) -> usize
     requires within { start < length text.now }
     requires begins { is_trace_byte (slice_index text.now start) ≡ true }

@@ -78,7 +78,7 @@ pub(crate) fn changed(
     Ok(text)
 }
 
-/// The numbers behind a mark in the settings, up to the first word that is none.
+/// The numbers after a mark in the settings, up to the first word that is none.
 pub(crate) fn numbers_behind(
     alloc: Global,
     settings: &str,

@@ -14,8 +14,8 @@
 //! ```
 //!
 //! The lines before the words are comments and settings. `files fail at`, `out fails at` and `err fails at` have the
-//! numbers of calls behind them, from 1; with `out is counted` only the number of its bytes is shown, and with `out is
-//! hidden` not even that. The lines of a file have a line feed between two and none behind the last one, so a text that
+//! numbers of calls after them, from 1; with `out is counted` only the number of its bytes is shown, and with `out is
+//! hidden` not even that. The lines of a file have a line feed between two and none after the last one, so a text that
 //! ends in a line feed has an empty last line here. Without a line `--` there is no file `t`. The file `o` has what the
 //! block before wrote to `out`.
 //!

@@ -1,6 +1,6 @@
 //! Rows of single passes: each line of the standard input is a row, and so is each answer on the standard output.
 //!
-//! A row is the word of a kind and a text behind one space, in which `~` stands for a line feed:
+//! A row is the word of a kind and a text after one space, in which `~` stands for a line feed:
 //!
 //! - `tokens TEXT`: the tokens of a text, each with its place, or the first fault.
 //! - `tree TEXT`: the place of the first module's body, or the fault by the number of its token.
@@ -12,7 +12,7 @@
 //!   or `-`.
 //! - `reads HOW NAME:LIMIT ..`: what files in memory answer, call by call, `a` with four bytes and `b` with none,
 //!   where the calls of the numbers `3,5` fail, or `steady`, where none does; `writes ROOM HOW PIECE ..`: what a sink
-//!   in memory answers likewise, and what it keeps.
+//!   in memory answers the same, and what it keeps.
 //! - `trace TEXT`: the first four answers of a reader of a trace for the one input `A`.
 //! - `net texts NAME`: the BLIF text and the C text of a worked netlist; `net least NAME`: those of the netlist made
 //!   smaller; `net solves worked BITS`: whether these are the values of the nets of one of them; `net turns NUMBER`:

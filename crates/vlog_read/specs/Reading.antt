@@ -49,7 +49,7 @@ declaration_rule = mapped (λ found. record { sort = found.0; name = found.1 }) 
 abbrev pub declaration_step : Rule Kind (Option Declaration)
 declaration_step = maybe sort declaration_rule
 
--- behind "initial"
+-- after "initial"
 abbrev pub initial_behind : Rule Kind Initial
 initial_behind =
     mapped (λ found. record { name = found.0; value = found.1 })
@@ -58,7 +58,7 @@ initial_behind =
 abbrev pub initial_step : Rule Kind (Option Initial)
 initial_step = maybe (is InitialWord) (on (is InitialWord) (λ _. initial_behind))
 
--- behind "assign"
+-- after "assign"
 abbrev pub assign_behind : {A : Type 0} → Maker A → ℕ → Rule Kind (Assign A)
 assign_behind m room =
     mapped (λ found. record { target = found.0; value = found.1 })
@@ -77,7 +77,7 @@ clock_rule =
     on (is AlwaysWord) (λ _. on (is At) (λ _. on (is LeftParenthesis) (λ _. on (is PosedgeWord) (λ _.
     trail (the name) (on (is RightParenthesis) (λ _. the (is BeginWord)))))))
 
--- behind a name
+-- after a name
 abbrev pub next_behind : Rule Kind (List ℕ)
 next_behind = on (is Becomes) (λ _. trail (the name) (the (is Semicolon)))
 

@@ -42,7 +42,7 @@ fn initial_again<'a>(alloc: Global, initials: &[Initial<'a>]) -> Result<Option<&
     again_in(alloc, &names)
 }
 
-// The first name under `assign` that is an input or a reg, or stands there a second time.
+// The first name under `assign` that is an input or a reg, or is there a second time.
 fn assigned_again<'a>(alloc: Global, source: &'a Source<'a>) -> Result<Option<&'a [u8]>, NoMemory>
     ensures { IfOk result (λ found. name_told found
         ≡ first_again (names_of (group_test Group.Driven) (plain_source source.now).declarations)

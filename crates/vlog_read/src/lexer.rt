@@ -91,7 +91,7 @@ fn constant<'a>(text: &[u8]) -> Front<Kind<'a>>
     digit(text[2])
 }
 
-// The last byte of `1'b0` or `1'b1`, of which three stand behind the first one.
+// The last byte of `1'b0` or `1'b1`, of which three come after the first one.
 fn digit<'a>(byte: u8) -> Front<Kind<'a>>
     ensures is { front_by kind_of result ≡ digit_front byte }
     ensures within { front_more (front_by kind_of result) ≤ 3 }

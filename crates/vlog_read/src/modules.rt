@@ -16,7 +16,7 @@ use std::alloc::Global;
 use std::collections::HashMap;
 use vlog_text::{Module, Register};
 
-// The module of a source. Its only error is want of memory.
+// The module of a source. Its only error is out of memory.
 pub fn module_of(alloc: Global, source: Source<'_>) -> Result<Module, NoMemory>
     ensures { IfOk result (λ m. module_of m ≡ module_said (plain_source source.entry)) }
 {
@@ -171,7 +171,7 @@ fn initial_values<'a>(
     Ok(values)
 }
 
-// The names right of `<=`, by the names of the regs, likewise.
+// The names right of `<=`, by the names of the regs, the same.
 fn next_sources<'a>(
     alloc: Global,
     nexts: &[Next<'a>],

@@ -140,7 +140,7 @@ fn is_paused(name: &[u8]) -> bool
     name == b"paused".as_slice()
 }
 
-// The name behind `posedge`, if it is not the clock.
+// The name after `posedge`, if it is not the clock.
 fn other_clock<'a>(source: &Source<'a>) -> Option<&'a [u8]>
     ensures { name_told result ≡ other_clock (plain_source source.now) }
 {

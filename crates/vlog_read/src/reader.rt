@@ -77,7 +77,7 @@ fn read_tokens<'a>(
     }
 }
 
-// What the tokens say, with nothing behind it.
+// What the tokens say, with nothing after it.
 fn read_whole<'a>(
     alloc: Global,
     tokens: &'a [Token<'a>],

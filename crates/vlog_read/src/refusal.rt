@@ -3,7 +3,7 @@
 use base_types::Text;
 use thiserror::Error;
 
-/// Why `read_verilog` gives no module. Of several faults the first of this list is told.
+/// Why `read_verilog` gives no module. Of several faults the first of this list is reported.
 #[derive(Debug, Drop, Error)]
 pub enum VlogFault {
     /// The text is longer than 256 MiB.
@@ -16,7 +16,7 @@ pub enum VlogFault {
     #[error("a name is declared twice")]
     Twice(Text),
     /// The first port that is not the declaration at its place; else the first declared input or output that is no
-    /// port; else the first of these with a name that it may not have; else the name behind `posedge`, if it is not
+    /// port; else the first of these with a name that it may not have; else the name after `posedge`, if it is not
     /// the first input.
     #[error("a port is wrong")]
     Port(Text),

@@ -11,7 +11,7 @@ use crate::tokens::{Kind, Token};
 use base_reader::{ReadError, first};
 use net_expressions::{past_name, refused_here};
 
-// The word that declares names of a sort, and the tokens behind it.
+// The word that declares names of a sort, and the tokens after it.
 pub fn past_sort<'a>(tokens: &'a [Token<'a>]) -> Option<(Sort, &'a [Token<'a>])>
     ensures { MatchOption result
         (picked sort (map kind_in tokens.now) ≡ None)

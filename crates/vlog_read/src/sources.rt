@@ -46,7 +46,7 @@ pub struct Head<'a> {
     pub ports: Vec<&'a [u8]>,
 }
 
-// What stands behind `always`: the name of the clock, and the registers.
+// What comes after `always`: the name of the clock, and the registers.
 #[derive(Drop)]
 pub struct Clocked<'a> {
     pub clock: &'a [u8],

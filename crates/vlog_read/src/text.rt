@@ -18,7 +18,7 @@ use net_expressions::{after, copy_of, nothing_read, past, past_name, read_bit, r
 use std::alloc::Global;
 use vlog_text::Assign;
 
-// What a text says, and the tokens behind it.
+// What a text says, and the tokens after it.
 pub fn read_text<'a>(
     alloc: Global,
     tokens: &'a [Token<'a>],
@@ -91,7 +91,7 @@ fn read_declarations<'a>(
     Ok((declarations, rest))
 }
 
-// A declaration, behind its first word.
+// A declaration, after its first word.
 fn read_declaration<'a>(
     sort: Sort,
     tokens: &'a [Token<'a>],
@@ -121,7 +121,7 @@ fn read_initials<'a>(
     Ok((initials, rest))
 }
 
-// The first value of a reg, behind `initial`.
+// The first value of a reg, after `initial`.
 fn read_initial<'a>(tokens: &'a [Token<'a>]) -> Result<(Initial<'a>, &'a [Token<'a>]), ReadError>
     ensures { FindsKinds initial_of result (initial_behind (map kind_in tokens.now)) }
 {
@@ -150,7 +150,7 @@ fn read_assigns<'a>(
     Ok((assigns, rest))
 }
 
-// An assignment, behind `assign`.
+// An assignment, after `assign`.
 fn read_assign<'a>(
     alloc: Global,
     tokens: &'a [Token<'a>],
@@ -210,7 +210,7 @@ fn read_nexts<'a>(
     Ok((nexts, rest))
 }
 
-// A register, behind its name.
+// A register, after its name.
 fn read_next<'a>(
     target: &'a [u8],
     tokens: &'a [Token<'a>],

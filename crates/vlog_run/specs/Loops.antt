@@ -19,7 +19,7 @@ equation_of a = record { output = a.target; reads = names_in a.value; value = λ
 abbrev pub equations_of : VerilogModule → List NameEquation
 equations_of design = map equation_of design.assigns
 
--- A combinational cycle: each next name stands in the expression that is assigned to the one before, and the first in
+-- A combinational cycle: each next name is in the expression that is assigned to the one before, and the first in
 -- the one that is assigned to the last.
 abbrev pub IsLoop : VerilogModule → List (List ℕ) → Type 0
 IsLoop design names = equations.IsEquationLoop (equations_of design) names

@@ -1,5 +1,5 @@
 -- To believe: what a module shows over items, as lines tell it. The names of the inputs besides the clock and of the
--- outputs are those behind their signs. A last output `paused` is not listed, and its value gives the word; where there
+-- outputs are those after their signs. A last output `paused` is not listed, and its value gives the word; where there
 -- is none, there is no word.
 use Rattle.std.specs.Prelude.{ℕ, Bool, List, map, take, drop}
 use Rattle.base_types.specs.Items.{Item}

@@ -9,7 +9,7 @@ use Rattle.vlog_text.specs.Machine.{given_inputs, driven_names}
 use Rattle.vlog_text.specs.Trees.{Assign, VerilogModule}
 use Rattle.vlog_run.specs.Loops.{equations_of}
 
--- the names that have a value before the assignments: the inputs besides the clock, and the registers
+-- the names that have a value before the assignments: the inputs in addition to the clock, and the registers
 abbrev pub given_names : VerilogModule → List (List ℕ)
 given_names design = given_inputs design ++ map (λ r. r.name) design.registers
 

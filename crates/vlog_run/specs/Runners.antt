@@ -15,7 +15,7 @@ pub record Runner : Type 0 where
 abbrev pub module_in : Runner → VerilogModule
 module_in r = module_of r.code
 
--- before the first event and behind a reset each register has its initial value, and every output is false
+-- before the first event and after a reset each register has its initial value, and every output is false
 pub record IsFresh (r : Runner) : Type 0 where
   pub registers_initial : r.registers ≡ initial_registers (module_in r)
   pub outputs_false : r.outputs ≡ replicate (length (module_in r).outputs) false

@@ -25,7 +25,7 @@ pub record IsModuleOf (net : Netlist) (design : VerilogModule) : Type 0 where
   pub is : design ≡ means.design
   pub acyclic : HasNoLoop design
 
--- a fault of the reader, but for the limit on the length, as a fault of the language
+-- a fault of the reader, except for the limit on the length, as a fault of the language
 abbrev pub IsTold : VlogFault → VerilogTextFault → Type 0
 IsTold answers.TooLong told = ⊥
 IsTold (answers.Syntax at) told = told ≡ Syntax at

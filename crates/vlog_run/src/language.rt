@@ -19,7 +19,7 @@ use std::alloc::Global;
 use vlog_read::{VlogFault, read_verilog};
 use vlog_text::Module;
 
-/// The first fault of a Verilog text that is to be run.
+/// The first fault of a Verilog text that must be run.
 #[derive(Debug, Drop)]
 pub enum VerilogTextFault {
     /// At this byte stands the first token that no text of the subset passes, or here the text ends too early.
@@ -38,7 +38,7 @@ pub enum VerilogTextFault {
     Loop(Vec<Text>),
 }
 
-/// The language of texts of structural Verilog, whose meaning stands in `vlog_text`.
+/// The language of texts of structural Verilog, whose meaning is in `vlog_text`.
 pub struct VerilogTexts {}
 
 impl Language for VerilogTexts {

@@ -2,8 +2,8 @@
 //!
 //! A module of assignments and registers has a run over events and resets wherever no assignment needs its own target
 //! in the same instant. `ModuleRun::new` looks for such a combinational cycle, and else makes a plan of `run_steps`
-//! of the assignments, each one behind those that it reads; `react` makes one reaction. What an instant and a run of a
-//! module are stands in `vlog_text`. `VlogRunner` is the same runner as a machine that a trace drives, and
+//! of the assignments, each one after those that it reads; `react` makes one reaction. What an instant and a run of a
+//! module are is in `vlog_text`. `VlogRunner` is the same runner as a machine that a trace drives, and
 //! `VerilogTexts` says what a text of structural Verilog means where it is run over a trace.
 #![tactic(auto)]
 

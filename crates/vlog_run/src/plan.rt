@@ -18,7 +18,7 @@ use vlog_text::{Assign, Module};
 
 #[derive(Drop)]
 pub struct ModulePlan {
-    // The assignments, each one behind those that it reads.
+    // The assignments, each one after those that it reads.
     pub assigns: Plan,
     // For each register the slot whose value it gets.
     pub sources: Vec<usize>,
@@ -110,7 +110,7 @@ fn resolved_names<'a>(alloc: Global, design: &'a Module) -> Result<Resolved<'a>,
     })
 }
 
-// The assignments in an order in which each one stands behind those that it reads, or a combinational cycle.
+// The assignments in an order in which each one comes after those that it reads, or a combinational cycle.
 fn assign_order(
     alloc: Global,
     design: &Module,

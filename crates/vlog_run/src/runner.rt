@@ -45,8 +45,8 @@ impl Model for ModuleRun {
 impl ModuleRun {
     /// A runner of a module before its first event. The module is one that some text describes.
     ///
-    /// The fault is a combinational cycle, where there is one: each next name stands in the expression that is assigned
-    /// to the one before, and the first in that of the last. The only other error is want of memory.
+    /// The fault is a combinational cycle, where there is one: each next name is in the expression that is assigned
+    /// to the one before, and the first in that of the last. The only other error is out of memory.
     pub fn new(alloc: Global, design: Module) -> Result<ModuleRun, Stop<Vec<Text>>>
         requires { IsDescribed (module_of design) }
         ensures code { IfOk result (λ r. r.code ≡ design) }
@@ -58,7 +58,7 @@ impl ModuleRun {
         Ok(ModuleRun { design, registers })
     }
 
-    /// One reaction to these values of the inputs besides the clock. It takes no memory.
+    /// One reaction to these values of the inputs in addition to the clock. It takes no memory.
     pub fn react(&mut self, inputs: &[bool])
         requires { length inputs.now ≡ length (given_inputs (module_in self.old)) }
         ensures { Reacts self.old inputs.now self.new }
@@ -66,7 +66,7 @@ impl ModuleRun {
         self.registers.react(inputs);
     }
 
-    /// The values of the outputs in the last reaction, in their order; all false before the first one and behind a
+    /// The values of the outputs in the last reaction, in their order; all false before the first one and after a
     /// reset. It takes no memory.
     pub fn outputs(&self) -> &[bool]
         ensures { result.now ≡ self.now.outputs }

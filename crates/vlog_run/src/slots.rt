@@ -14,7 +14,7 @@ use run_steps::slot_of;
 use std::alloc::Global;
 use vlog_text::{Assign, Module, Register};
 
-// The inputs besides the clock.
+// The inputs in addition to the clock.
 pub fn given_inputs(design: &Module) -> &[Text]
     ensures { result.now ≡ given_inputs (module_of design.now) }
 {

@@ -62,7 +62,7 @@ impl VlogRunner {
     }
 
     /// The interface of the text itself: its inputs besides the clock, and its outputs but for a last `paused`, without
-    /// the two bytes of their signs; no relations. Its only error is want of memory.
+    /// the two bytes of their signs; no relations. Its only error is out of memory.
     pub fn interface(&self, alloc: Global) -> Result<Interface, NoMemory>
         ensures given { IfOk result (λ i. i.given.items ≡ bare_inputs (module_in self.now)) }
         ensures outgoing { IfOk result (λ i. i.outgoing.items ≡ bare_outputs (module_in self.now)) }
@@ -138,7 +138,7 @@ fn bare_names(alloc: Global, names: &[Text]) -> Result<Vec<Text>, NoMemory>
     Ok(bare)
 }
 
-// The bytes of a name behind the first two.
+// The bytes of a name after the first two.
 fn bare_name(name: &[u8]) -> &[u8]
     ensures { result.now ≡ bare_name name.now }
 {

@@ -121,7 +121,7 @@ SpellsClock clock =
     Led (is AlwaysWord) (λ _. Led (is At) (λ _. Led (is LeftParenthesis) (λ _. Led (is PosedgeWord) (λ _.
     Then (Single name clock) (Led (is RightParenthesis) (λ _. Single (is BeginWord) tt))))))
 
--- and behind it { NAME "<=" NAME ";" } "end" "endmodule"
+-- and after it { NAME "<=" NAME ";" } "end" "endmodule"
 abbrev pub SpellsClocked : List ℕ → List Next → List Kind → Type 0
 SpellsClocked clock nexts =
     Then (SpellsClock clock)

@@ -7,7 +7,7 @@ use Rattle.base_machines.specs.Machines.{Machine}
 use Rattle.net_expressions.specs.Values.{value_of}
 use Rattle.vlog_text.specs.Trees.{VerilogModule}
 
--- the inputs besides the clock, which get a value at each event
+-- the inputs in addition to the clock, which get a value at each event
 abbrev pub given_inputs : VerilogModule → List (List ℕ)
 given_inputs design = drop 1 design.inputs
 
@@ -18,12 +18,12 @@ pub record IsInstant (design : VerilogModule) (registers inputs : List Bool) (v 
   pub registers_kept : map (λ r. v r.name) design.registers ≡ registers
   pub assigns_met : AllByRecursion (λ a. v a.target ≡ value_of v a.value) design.assigns
 
--- the values of the registers before the first event, and behind a reset
+-- the values of the registers before the first event, and after a reset
 abbrev pub initial_registers : VerilogModule → List Bool
 initial_registers design = map (λ r. r.init) design.registers
 
 -- The machine of a module: its states are the values of the registers, in an instant a valuation meets every
--- assignment, and behind it each register has the value of the name that it gets.
+-- assignment, and after it each register has the value of the name that it gets.
 abbrev pub vlog_machine : VerilogModule → Machine (List ℕ → Bool)
 vlog_machine design = record {
   State = List Bool;

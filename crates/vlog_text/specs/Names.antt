@@ -90,7 +90,7 @@ ill_named s = declaration_found (find (λ d. is_ill_named s.declarations d.sort 
 abbrev pub is_clock : List Declaration → List ℕ → Bool
 is_clock declarations name = is_first (names_of is_input declarations) name
 
--- the name behind `posedge`, if it is not the clock
+-- the name after `posedge`, if it is not the clock
 abbrev pub other_clock : Source Expr → Option (List ℕ)
 other_clock s = if is_clock s.declarations s.clock then None else Some s.clock
 

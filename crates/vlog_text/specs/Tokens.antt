@@ -103,7 +103,7 @@ abbrev pub one_front : List ℕ → Front Kind
 one_front (c ∷ d ∷ e ∷ cs) = if c == 39 && d == 98 then digit_front e else Wrong
 one_front others = Wrong
 
--- what a byte and those behind it begin with
+-- what a byte and those after it begin with
 abbrev pub front : ℕ → List ℕ → Front Kind
 front c cs =
     if is_space c then Gap 0

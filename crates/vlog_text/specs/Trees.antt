@@ -29,7 +29,7 @@ pub record Next : Type 0 where
   pub source : List ℕ
 
 -- What a text says, in its own order, where E is what its expressions are: the module's name, its ports, and the name
--- behind `posedge` among them.
+-- after `posedge` among them.
 pub record Source (E : Type 0) : Type 0 where
   pub name : List ℕ
   pub ports : List (List ℕ)

@@ -1,4 +1,4 @@
-// The Verilog text of a net, line by line. Want of memory is the only error.
+// The Verilog text of a net, line by line. Running out of memory is the only error.
 
 ghost use Rattle.std.specs.Prelude.{◌≡◌, ◌+◌, ◌<◌, ◌≤◌, ◌++◌, OnOk};
 ghost use Rattle.net_ir.specs.Gates.{operand_end};

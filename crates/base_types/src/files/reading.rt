@@ -7,9 +7,9 @@ use std::alloc::{AllocError, AllocFailed, Global};
 pub enum FileFault {
     /// The file was not read. The count of faults rose, and the name is the one that failed last.
     Failed,
-    /// More bytes than the limit stand in the file.
+    /// More bytes than the limit are in the file.
     TooLong,
-    /// Want of memory.
+    /// Running out of memory.
     NoMemory,
 }
 
@@ -38,7 +38,7 @@ impl<T: Drop> From<AllocFailed<T>> for FileFault {
 /// Files that can be read by name.
 ///
 /// An implementation may tell its `content`, a map from names to bytes, or keep it untold; clauses
-/// on bytes hold where it is told. The count of `faults` is always told and never falls, and so is
+/// on bytes hold where it is reported. The count of `faults` is always told and never falls, and so is
 /// the name that failed last, which is empty at first.
 pub trait Files {
     ghost use Rattle.std.specs.Prelude.{◌≡◌, ℕ, List, Option};
@@ -53,7 +53,7 @@ pub trait Files {
     /// The bytes that the file of this name holds, where there are at most `limit` of them.
     ///
     /// `Failed` comes only where the count of faults rises in this call, and `TooLong` exactly
-    /// where the read does not fail and more than `limit` bytes stand there.
+    /// where the read does not fail and more than `limit` bytes are there.
     fn read(&mut self, alloc: Global, name: &str, limit: u64) -> Result<Vec<u8>, FileFault>
         ensures bytes { Reads (content self.old) name.now limit result }
         ensures counts { Counts (faults self.old) (faults self.new)

@@ -33,7 +33,7 @@ impl Model for ListSink {
 impl ListSink {
     ghost use Rattle.std.specs.Prelude.{◌≡◌, [], IfOk};
 
-    /// A sink with room for this many bytes, before the first call. Its only error is want of memory.
+    /// A sink with room for this many bytes, before the first call. Its only error is out of memory.
     pub fn new(alloc: Global, room: u64, failing: Vec<u64>) -> Result<ListSink, NoMemory>
         ensures { IfOk result (λ sink. sink ≡ record {
           kept = record { bytes = []; room = room; beyond = 0 };

@@ -25,7 +25,7 @@ impl Model for SteadySink {
 impl SteadySink {
     ghost use Rattle.std.specs.Prelude.{◌≡◌, [], IfOk};
 
-    /// A sink with room for this many bytes. Its only error is want of memory.
+    /// A sink with room for this many bytes. Its only error is out of memory.
     pub fn new(alloc: Global, room: u64) -> Result<SteadySink, NoMemory>
         ensures { IfOk result (λ sink. sink ≡ record { bytes = []; room = room; beyond = 0 }) }
     {

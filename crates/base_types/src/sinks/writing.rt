@@ -10,7 +10,7 @@ pub enum SinkFault {
 /// What takes written text.
 ///
 /// An implementation may tell the bytes that it has, or keep them untold; clauses on bytes hold
-/// where they are told before and after a call, and what is not told stays so. The count of
+/// where they are reported before and after a call, and what is not told stays so. The count of
 /// `faults` is always told and never falls.
 pub trait Sink {
     ghost use Rattle.std.specs.Prelude.{ℕ, List, Option};
