@@ -1,6 +1,7 @@
 pub mod Drawings
 pub mod OrderSums
 pub mod DrawnSizes
+pub mod GateCounts
 pub mod Rows
 pub mod Slots
 pub mod Words

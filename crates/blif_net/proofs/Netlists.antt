@@ -35,6 +35,7 @@ use Rattle.blif_run.specs.Loops.{equations_of}
 use Rattle.blif_run.specs.Plans.{given_names, all_names}
 use Rattle.blif_run.proofs.Exports.{names-are, given-count, sound-equations, IsOnly, only-instant}
 use Rattle.blif_net.specs.declared.assembling.Named.{Named}
+use Rattle.blif_net.specs.Sizes.{gates_of}
 use Rattle.blif_net.specs.Conversions.{FitsCircuit, ShowsCircuit, SameLatches, IsNetOf}
 use Rattle.blif_net.specs.Drawings.{IsDrawing, read_values}
 use Rattle.blif_net.specs.Interfaces.{IsFit}
@@ -181,7 +182,7 @@ named-net c sound fit gates nets named n d each low =
 module _ (c : Circuit) (sound : IsSound c) (fit : IsFit c) (order : List ℕ)
     (is : IsEvaluationOrder (length (equations_of c)) (equation_edges (given_names c) (equations_of c)) order) (gates : List Gate) (nets : List NetId)
     (s : Settles (length (given_names c)) (length (equations_of c)) gates nets (ordered_steps (given_names c) (equations_of c) order))
-    (named : Named) (n : IsNamed c nets named) where
+    (drawn : length gates ≡ gates_of c) (named : Named) (n : IsNamed c nets named) where
   abbrev net : Netlist
   net = net_with named gates
 
@@ -296,6 +297,7 @@ module _ (c : Circuit) (sound : IsSound c) (fit : IsFit c) (order : List ℕ)
     inputs = n.inputs;
     outputs = words;
     silent = s.drawing.silent;
+    gates = drawn;
     follows = net-follows;
   }
     where

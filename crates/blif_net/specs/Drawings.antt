@@ -19,6 +19,11 @@ abbrev pub said : Bool → Option NetId → List Bool → Bool
 said none None values = none
 said none (Some net) values = value_in values net.0
 
+-- N parts are joined in one net by the gates between two numbers of gates; or there is none, and no net is needed.
+abbrev pub Joins : (before after : ℕ) → Option NetId → (parts : ℕ) → Type 0
+Joins before after None parts = (parts ≡ 0) × (after ≡ before)
+Joins before after (Some n) parts = (0 < parts) × (after + 1 ≡ before + parts)
+
 -- the values of some nets
 abbrev pub read_values : List NetId → List Bool → List Bool
 read_values nets values = map (λ n. value_in values n.0) nets

@@ -9,7 +9,7 @@ ghost use Rattle.blif_run.specs.Plans.{given_names};
 ghost use Rattle.run_steps.specs.Order.{IsEvaluationOrder};
 ghost use Rattle.run_steps.specs.Solvers.{IsResolved, equation_edges, ordered_steps};
 ghost use Rattle.blif_net.specs.Drawings.{IsDrawing};
-ghost use Rattle.blif_net.specs.Sizes.{nets_at_most, table_nets};
+ghost use Rattle.blif_net.specs.Sizes.{gates_of, nets_at_most, table_gates, table_nets};
 ghost use Rattle.blif_net.specs.Tables.{Settles, AddsStep, rows_step};
 
 use crate::tables::table_net;
@@ -40,9 +40,10 @@ pub(crate) fn drawn_tables(
     requires order { IsEvaluationOrder (length (equations_of (plain_circuit blif.now)))
         (equation_edges (given_names (plain_circuit blif.now)) (equations_of (plain_circuit blif.now))) order.now }
     requires few { nets_at_most (plain_circuit blif.now) ≤ 2 ^ 32 }
-    ensures { IfOk result (λ d. Settles (length (given_names (plain_circuit blif.now)))
+    ensures settles { IfOk result (λ d. Settles (length (given_names (plain_circuit blif.now)))
         (length (equations_of (plain_circuit blif.now))) d.gates.items d.nets.items
         (ordered_steps (given_names (plain_circuit blif.now)) (equations_of (plain_circuit blif.now)) order.now)) }
+    ensures count { IfOk result (λ d. length d.gates.items ≡ gates_of (plain_circuit blif.now)) }
 {
     let first = resolved.first;
     let mut drawing = first_drawing(alloc, first, blif.tables.len())?;
@@ -110,6 +111,8 @@ fn draw_table(
     requires room { first + length drawing.old.gates.items + table_nets (map plain_row rows.now) ≤ 2 ^ 32 }
     ensures adds { OnOk result (AddsStep first drawing.old.gates.items drawing.old.nets.items drawing.new.gates.items
         drawing.new.nets.items (rows_step slot reads.now (map plain_row rows.now))) }
+    ensures count { OnOk result (length drawing.new.gates.items
+        ≡ length drawing.old.gates.items + table_gates (length reads.now) (map plain_row rows.now)) }
     ensures few { OnOk result (length drawing.new.gates.items
         ≤ length drawing.old.gates.items + table_nets (map plain_row rows.now)) }
 {

@@ -1,9 +1,9 @@
 // Gates one after another, none of which carries a wire.
 
-ghost use Rattle.std.specs.Prelude.{◌≡◌, ◌+◌, ◌<◌, ◌≤◌, ◌^◌, true, false, not, ◌&&◌, ◌||◌, Option, Some, length};
+ghost use Rattle.std.specs.Prelude.{◌≡◌, ℕ, ◌+◌, ◌<◌, ◌≤◌, ◌^◌, true, false, not, ◌&&◌, ◌||◌, Option, Some, length};
 ghost use Rattle.std.specs.Prelude.{IfOk, OnOk};
 ghost use Rattle.net_ir.specs.Gates.{op_value, operand_end, value_in};
-ghost use Rattle.blif_net.specs.Drawings.{IsDrawing, Draws, is_low, said};
+ghost use Rattle.blif_net.specs.Drawings.{IsDrawing, Draws, Joins, is_low, said};
 
 use base_types::{NetId, NoMemory};
 use net_ir::{Gate, Op};
@@ -35,6 +35,8 @@ pub(crate) fn both(
     requires room { first + length gates.old.items < 2 ^ 32 }
     ensures draws { IfOk result (λ n. Draws first gates.old.items gates.new.items (Some n) true
         (λ values. said true all values && said true (Some net) values)) }
+    ensures joins { IfOk result (λ n. (before parts : ℕ) → Joins before (length gates.old.items) all parts
+        → Joins before (length gates.new.items) (Some n) (parts + 1)) }
     ensures few { OnOk result (length gates.new.items ≤ length gates.old.items + 1) }
 {
     match all {
@@ -56,6 +58,8 @@ pub(crate) fn either(
     requires room { first + length gates.old.items < 2 ^ 32 }
     ensures draws { IfOk result (λ n. Draws first gates.old.items gates.new.items (Some n) false
         (λ values. said false any values || said false (Some net) values)) }
+    ensures joins { IfOk result (λ n. (before parts : ℕ) → Joins before (length gates.old.items) any parts
+        → Joins before (length gates.new.items) (Some n) (parts + 1)) }
     ensures few { OnOk result (length gates.new.items ≤ length gates.old.items + 1) }
 {
     match any {

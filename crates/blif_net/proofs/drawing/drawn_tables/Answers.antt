@@ -1,7 +1,9 @@
 use Rattle.std.proofs.Common.{◌≡◌, ◌+◌, ◌<◌, ℕ, List, [], ◌∷◌, ◌++◌, length, map, take, get_or, All, sym, ap, subst, ◌∙◌, arith}
 use Rattle.std.specs.declared.alloc.Global.{Global}
 use Rattle.std.specs.declared.vec.Vec.{Vec}
-use Rattle.std.proofs.lemmas.List.{length-map, take_all}
+use Rattle.std.specs.List.{sum_by}
+use Rattle.std.proofs.lemmas.List.{get_or-map, length-map, take_all}
+use Rattle.std.proofs.lemmas.List.Sums.{sum_by_more}
 use Rattle.std.proofs.lemmas.List.Elements.{recursion_from_All}
 use Rattle.blif_text.specs.Plain.{plain_circuit, plain_table, plain_row}
 use Rattle.blif_text.proofs.Exports.{described-sound}
@@ -10,10 +12,11 @@ use Rattle.run_steps.specs.Steps.{Step}
 use Rattle.run_steps.proofs.Exports.{reads-within, parts-within}
 use Rattle.blif_run.specs.Loops.{equation_of, equations_of}
 use Rattle.blif_run.specs.Plans.{given_names}
+use Rattle.blif_run.specs.Truths.{no_table}
 use Rattle.blif_run.proofs.Exports.{sound-equations, tables-count}
-use Rattle.blif_net.specs.Sizes.{table_nets}
+use Rattle.blif_net.specs.Sizes.{table_gates, table_nets}
 use Rattle.blif_net.specs.Tables.{Settles, drawn_step, rows_step}
-use Rattle.blif_net.proofs.DrawnSizes.{given-few, next-made, next-room}
+use Rattle.blif_net.proofs.DrawnSizes.{gate_cost, given-few, next-made, next-room, order-gates, slots-width}
 use Rattle.blif_net.proofs.Slots.{steps-more, step-is, settles-as, table-rows, table-steps}
 use Rattle.blif_net.proofs.drawing.drawn_tables.Goals as goal
 
@@ -68,15 +71,23 @@ loop-table-preserved c =
     c.index-in-loop-table.ensures in
     let rows = table-rows tables t c.deref-in-loop-table.result.now c.index-in-loop-table.result.now (omega (arith, node, wide))
     c.deref-in-loop-table.ensures.value c.index-in-loop-table.ensures in
+    let width : length c.deref.result.now ≡ length (get_or circuit.tables t no_table).inputs =
+    ap length (c.deref.ensures.value ∙ ap (λ (s : Vec ℕ Global). s.items) c.index.ensures
+    ∙ sym (get_or-map (λ (s : Vec ℕ Global). s.items) reads t c.index.result.now [] (omega (arith, node, count, many))))
+    ∙ slots-width _ circuit.tables lists t node c.requires.resolved.reads_are in
+    let own_gates : table_gates (length c.deref.result.now) (map plain_row c.deref-in-loop-table.result.now) ≡ gate_cost circuit t =
+    ap (λ n. table_gates n (map plain_row c.deref-in-loop-table.result.now)) width
+    ∙ ap (table_gates (length (get_or circuit.tables t no_table).inputs)) rows in
     record {
       settles = subst (λ (l : List Step). Settles first (length tables) c.draw_table.new.drawing.gates.items c.draw_table.new.drawing.nets.items l)
           (ap (λ s. map f (take i order) ++ s ∷ []) one ∙ sym (steps-more f order i 0 (omega arith))) made;
+      count = omega (arith, c.in_ok-draw_table.ensures.count, c.loop-table.invariant.count, sum_by_more (gate_cost circuit) order i 0 (omega arith), own_gates);
       few = next-made circuit order i (length c.loop-table.drawing.gates.items) (length c.draw_table.new.drawing.gates.items) (omega arith)
           c.loop-table.invariant.few (omega (arith, c.in_ok-draw_table.ensures.few, ap table_nets rows));
     }
 
-pub returns : goal.returns
-returns c =
+pub returns-clause-settles : goal.returns-clause-settles
+returns-clause-settles c =
     let circuit = plain_circuit c.args.blif.now in
     let sound = described-sound c.requires.described.0 circuit c.requires.described.1 in
     let resolved = c.args.resolved.now in
@@ -98,6 +109,13 @@ returns c =
     ∙ table-steps circuit sound order (recursion_from_All (λ k. k < length circuit.tables) order nodes) in
     settles-as resolved.first (length (given_names circuit)) (length tables) (length (equations_of circuit)) c.loop-table.drawing.gates.items
     c.loop-table.drawing.nets.items _ _ c.requires.resolved.first_is count steps c.loop-table.invariant.settles
+
+pub returns-clause-count : goal.returns-clause-count
+returns-clause-count c =
+    let circuit = plain_circuit c.args.blif.now in
+    let order = c.args.order.now in
+    let all : take c.loop-table.table-index order ≡ order = take_all c.loop-table.table-index order (omega arith) in
+    c.loop-table.invariant.count ∙ ap (λ l. 1 + sum_by (gate_cost circuit) l) all ∙ order-gates circuit _ order c.requires.order
 
 pub first_drawing-requires-clause-few : goal.first_drawing-requires-clause-few
 first_drawing-requires-clause-few c = omega (arith, c.requires.resolved.first_is, given-few (plain_circuit c.args.blif.now) c.requires.few)

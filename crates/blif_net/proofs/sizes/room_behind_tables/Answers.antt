@@ -1,4 +1,4 @@
-use Rattle.std.proofs.Common.{List, map, sym, ap, subst, arith}
+use Rattle.std.proofs.Common.{map, sym, ap, subst, arith}
 use Rattle.std.specs.List.{sum_by}
 use Rattle.blif_text.specs.Circuits.{Table}
 use Rattle.blif_text.specs.Plain.{plain_row, plain_table}

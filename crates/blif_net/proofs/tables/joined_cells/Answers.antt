@@ -1,10 +1,13 @@
-use Rattle.std.proofs.Common.{◌≡◌, ◌+◌, true, false, ◌&&◌, Some, take, get_or, slice_index_or, sym, ap, ◌∙◌, arith, Bool, List}
-use Rattle.std.proofs.lemmas.List.{get_or-map, length-map}
+use Rattle.std.proofs.Common.{◌≡◌, ◌+◌, true, false, ◌&&◌, Some, length, take, get_or, slice_index_or, sym, ap, subst, ◌∙◌, arith, Bool, List}
+use Rattle.std.specs.List.{sum_by}
+use Rattle.std.proofs.lemmas.List.{get_or-map, length-map, take_all}
+use Rattle.std.proofs.lemmas.List.Sums.{sum_by_more}
 use Rattle.base_types.specs.declared.indices.NetId.{NetId}
 use Rattle.net_ir.specs.Gates.{value_in, gate_values}
 use Rattle.blif_text.specs.declared.circuit.Cell.{Cell}
 use Rattle.blif_text.specs.Runs.{cell_fits, row_fits}
-use Rattle.blif_net.specs.Drawings.{said, read_values}
+use Rattle.blif_net.specs.Drawings.{Joins, said, read_values}
+use Rattle.blif_net.specs.Sizes.{cell_parts}
 use Rattle.blif_net.proofs.Drawings.{draws-then, value-stays}
 use Rattle.blif_net.proofs.Rows.{row-more}
 use Rattle.blif_net.proofs.tables.joined_cells.Goals as goal
@@ -37,5 +40,13 @@ loop-k-preserved c =
           ∙ ap (λ x. row_fits (take k cells) (take k (read_values reads values)) && cell_fits cell x) here
           ∙ sym (row-more cells (read_values reads values) k zero (omega arith)
           (c.requires.width ∙ sym (length-map reads (λ (n : NetId). value_in values n.0)))));
+      joins = subst (λ n. Joins (length a) (length c.with_cell.new.gates.items) c.in_ok-all.all n)
+          (sym (sum_by_more cell_parts cells k zero (omega arith)))
+          (c.in_ok-all.ensures.joins (length a) (sum_by cell_parts (take k cells)) c.loop-k.invariant.joins);
       few = omega (arith, c.in_ok-all.ensures.few, c.loop-k.invariant.few);
     }
+
+pub returns-clause-joins : goal.returns-clause-joins
+returns-clause-joins c =
+    subst (λ l. Joins (length c.args.gates.now.items) (length c.loop-k.gates.items) c.loop-k.all (sum_by cell_parts l))
+    (take_all c.loop-k.k c.args.cells.now (omega arith)) c.loop-k.invariant.joins

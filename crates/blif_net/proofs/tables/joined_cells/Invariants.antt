@@ -1,10 +1,13 @@
 use Rattle.std.proofs.Common.{true, take, length, ◌≤◌, ◌+◌, ◌*◌}
 use Rattle.blif_text.specs.Runs.{row_fits}
-use Rattle.blif_net.specs.Drawings.{Draws, read_values}
+use Rattle.std.specs.List.{sum_by}
+use Rattle.blif_net.specs.Drawings.{Draws, Joins, read_values}
+use Rattle.blif_net.specs.Sizes.{cell_parts}
 use Rattle.blif_net.proofs.tables.joined_cells.Given as goal
 
 abbrev pub invariant-loop-k : goal.invariant-loop-k
 invariant-loop-k l = record {
   draws : Draws l.first l.fn.gates.items l.gates.items l.all true (λ values. row_fits (take l.k l.cells) (take l.k (read_values l.reads values)));
+  joins : Joins (length l.fn.gates.items) (length l.gates.items) l.all (sum_by cell_parts (take l.k l.cells));
   few : length l.gates.items ≤ length l.fn.gates.items + 2 * l.k;
 }

@@ -1,5 +1,5 @@
-use Rattle.std.proofs.Common.{◌≡◌, ℕ, ◌+◌, false, ◌||◌, Some, None, List, take, map, sym, ap, ◌∙◌, arith, Bool}
-use Rattle.std.specs.List.{list_any}
+use Rattle.std.proofs.Common.{◌≡◌, ℕ, ◌+◌, false, ◌||◌, Some, None, List, length, take, map, refl, sym, ap, subst, ◌∙◌, arith, Bool}
+use Rattle.std.specs.List.{list_any, sum_by}
 use Rattle.std.proofs.lemmas.List.{take_all}
 use Rattle.std.proofs.lemmas.Result.{IfOk-weaker}
 use Rattle.net_ir.specs.Gates.{value_in, gate_values, op_value}
@@ -7,9 +7,10 @@ use Rattle.net_ir.specs.declared.netlist.Op.TheVariants.{Const}
 use Rattle.blif_text.specs.declared.circuit.Cell.{Cell}
 use Rattle.blif_text.specs.Plain.{plain_row}
 use Rattle.blif_text.specs.Runs.{row_fits}
-use Rattle.blif_net.specs.Drawings.{Draws, said, read_values}
-use Rattle.blif_net.specs.Sizes.{row_nets}
+use Rattle.blif_net.specs.Drawings.{Draws, Joins, said, read_values}
+use Rattle.blif_net.specs.Sizes.{if_wide, row_gates, row_nets, table_gates}
 use Rattle.blif_net.proofs.Drawings.{draws-then, reads-stay}
+use Rattle.blif_net.proofs.GateCounts.{joined-count, joins-as, none-count}
 use Rattle.blif_net.proofs.Rows.{mapped-sum, mapped-within, rows-more}
 use Rattle.blif_net.proofs.tables.table_net.Goals as goal
 
@@ -25,6 +26,11 @@ loop-row-preserved c =
     let row = c.row-item.result in
     let some_fits : ℕ → List Bool → Bool =
     λ j values. list_any (λ (cells : List Cell). row_fits cells (read_values reads values)) (map plain_row (take j rows)) in
+    let drawn : List Cell → ℕ = λ cells. if_wide (length reads) cells (row_gates cells) in
+    let counted : List Cell → ℕ = λ cells. if_wide (length reads) cells 1 in
+    let plain = plain_row row in
+    let before = length a + sum_by drawn (map plain_row (take i rows)) in
+    let count = sum_by counted (map plain_row (take i rows)) in
     let more = mapped-sum row_nets plain_row c.args.rows.now c.loop-row.row-index c.row-item.result (omega arith) c.row-item.is in
     record {
       draws = draws-then first a b c.with_row.new.gates.items any c.in_ok-any.any false false (some_fits i)
@@ -36,6 +42,11 @@ loop-row-preserved c =
           ∙ ap (λ l. some_fits i values || row_fits row.cells.items l)
           (reads-stay first a b any false (some_fits i) c.loop-row.invariant.draws given wide reads c.requires.low)
           ∙ sym (rows-more rows (read_values reads values) i row (omega arith) c.row-item.is));
+      joins = joins-as (before + drawn plain) (length c.with_row.new.gates.items) (count + counted plain)
+          (length a + sum_by drawn (map plain_row (take (i + 1) rows))) (length c.with_row.new.gates.items) (sum_by counted (map plain_row (take (i + 1) rows))) c.in_ok-any.any
+          (omega (arith, mapped-sum drawn plain_row rows i row (omega arith) c.row-item.is)) refl
+          (sym (mapped-sum counted plain_row rows i row (omega arith) c.row-item.is))
+          (c.in_ok-any.ensures.joins before count c.loop-row.invariant.joins);
       few = omega (arith, more, c.in_ok-any.ensures.few, c.loop-row.invariant.few);
     }
 
@@ -66,3 +77,31 @@ pub with_row-requires-clause-room : goal.with_row-requires-clause-room
 with_row-requires-clause-room c =
     let within = mapped-within row_nets plain_row c.args.rows.now c.loop-row.row-index c.row-item.result (omega arith) c.row-item.is in
     omega (arith, within, c.requires.room, c.loop-row.invariant.few)
+
+pub returns-in-Some-clause-count : goal.returns-in-Some-clause-count
+returns-in-Some-clause-count c =
+    let a = length c.args.gates.now.items in
+    let b = length c.loop-row.gates.items in
+    let width = length c.args.reads.now in
+    let rows = c.args.rows.now in
+    let drawn : List Cell → ℕ = λ cells. if_wide width cells (row_gates cells) in
+    let counted : List Cell → ℕ = λ cells. if_wide width cells 1 in
+    let all : take c.loop-row.row-index rows ≡ rows = take_all c.loop-row.row-index rows (omega arith) in
+    let j = subst (λ l. Joins (a + sum_by drawn (map plain_row l)) b c.loop-row.any (sum_by counted (map plain_row l))) all c.loop-row.invariant.joins in
+    let some = rw c.in-Some.is at j in
+    omega (arith, joined-count (a + sum_by drawn (map plain_row rows)) b (sum_by counted (map plain_row rows)) c.in-Some.net some)
+
+pub returns-in-None-clause-count : goal.returns-in-None-clause-count
+returns-in-None-clause-count c =
+    let a = length c.args.gates.now.items in
+    let b = length c.loop-row.gates.items in
+    let width = length c.args.reads.now in
+    let rows = c.args.rows.now in
+    let drawn : List Cell → ℕ = λ cells. if_wide width cells (row_gates cells) in
+    let counted : List Cell → ℕ = λ cells. if_wide width cells 1 in
+    let all : take c.loop-row.row-index rows ≡ rows = take_all c.loop-row.row-index rows (omega arith) in
+    let j = subst (λ l. Joins (a + sum_by drawn (map plain_row l)) b c.loop-row.any (sum_by counted (map plain_row l))) all c.loop-row.invariant.joins in
+    let none = rw c.in-None.is at j in
+    let count = none-count (a + sum_by drawn (map plain_row rows)) b (sum_by counted (map plain_row rows)) none in
+    IfOk-weaker c.push_gate.result (λ n. length c.push_gate.new.gates.items ≡ b + 1)
+    (λ n. length c.push_gate.new.gates.items ≡ a + table_gates width (map plain_row rows)) (λ n one. omega (arith, one, count)) c.push_gate.ensures.one

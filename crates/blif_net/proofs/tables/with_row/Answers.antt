@@ -1,11 +1,13 @@
-use Rattle.std.proofs.Common.{◌≡◌, true, false, ◌||◌, Some, sym, ap, ◌∙◌, arith, Bool, List}
+use Rattle.std.proofs.Common.{◌≡◌, ◌+◌, true, false, ◌||◌, Some, length, refl, sym, ap, ◌∙◌, arith, Bool, List}
 use Rattle.std.proofs.lemmas.List.{length-map}
 use Rattle.base_facts.proofs.Tests.{or-false}
 use Rattle.base_types.specs.declared.indices.NetId.{NetId}
 use Rattle.net_ir.specs.Gates.{value_in, gate_values}
 use Rattle.blif_text.specs.Runs.{row_fits}
 use Rattle.blif_net.specs.Drawings.{said, read_values}
+use Rattle.blif_net.specs.Sizes.{if_wide, row_gates}
 use Rattle.blif_net.proofs.Drawings.{draws-then, draws-none, draws-value, said-stays}
+use Rattle.blif_net.proofs.GateCounts.{joins-as, joins-more, wide-all}
 use Rattle.blif_net.proofs.Rows.{row-wide}
 use Rattle.blif_net.proofs.tables.with_row.Goals as goal
 
@@ -41,3 +43,16 @@ returns-clause-draws c =
     (λ given wide.
     ap (λ x. x || value_in (gate_values given b) net.0) (said-stays first a b (Some net) true f one given wide any false c.requires.any)
     ∙ ap (λ x. said false any (gate_values given a) || x) (one.says given wide))
+
+pub returns-clause-joins : goal.returns-clause-joins
+returns-clause-joins c = λ before count j.
+    let cells = c.args.row.now.cells.items in
+    let width = length c.args.reads.now in
+    let same : length cells ≡ width = omega (arith, c.if-len-reads.false, c.len.ensures) in
+    let k = row_gates cells in
+    let drawn : length c.row_net.new.gates.items ≡ length c.args.gates.now.items + k = rw c.deref.ensures.value at c.in_ok-net.ensures.count in
+    let more = joins-as (before + k) (length c.args.gates.now.items + k) count (before + k) (length c.row_net.new.gates.items) count c.args.any refl
+    (sym drawn) refl (joins-more before (length c.args.gates.now.items) k count c.args.any j) in
+    joins-as (before + k) (length c.either.new.gates.items) (count + 1) (before + if_wide width cells k) (length c.either.new.gates.items)
+    (count + if_wide width cells 1) (Some c.in_ok-with.with) (ap (λ n. before + n) (sym (wide-all width k cells same))) refl
+    (ap (λ n. count + n) (sym (wide-all width 1 cells same))) (c.in_ok-with.ensures.joins (before + k) count more)
