@@ -43,7 +43,8 @@ loop-row-preserved c =
           (reads-stay first a b any false (some_fits i) c.loop-row.invariant.draws given wide reads c.requires.low)
           ∙ sym (rows-more rows (read_values reads values) i row (omega arith) c.row-item.is));
       joins = joins-as (before + drawn plain) (length c.with_row.new.gates.items) (count + counted plain)
-          (length a + sum_by drawn (map plain_row (take (i + 1) rows))) (length c.with_row.new.gates.items) (sum_by counted (map plain_row (take (i + 1) rows))) c.in_ok-any.any
+          (length a + sum_by drawn (map plain_row (take (i + 1) rows))) (length c.with_row.new.gates.items)
+          (sum_by counted (map plain_row (take (i + 1) rows))) c.in_ok-any.any
           (omega (arith, mapped-sum drawn plain_row rows i row (omega arith) c.row-item.is)) refl
           (sym (mapped-sum counted plain_row rows i row (omega arith) c.row-item.is))
           (c.in_ok-any.ensures.joins before count c.loop-row.invariant.joins);
