@@ -23,8 +23,8 @@ use std::alloc::Global;
 /// Does what the words after the program's name ask for, and says how it ended.
 ///
 /// `blif FILE` reads the source under that name and writes its BLIF text to `out`, `c FILE` its C text, `verilog FILE`
-/// its Verilog text, piece by piece, `c --guard FILE` its guarded C text, made whole, `grc FILE` the listing of its
-/// graph, and `check FILE` a line of counts. `run --via blif FILE TRACE`, or `--via c`, `--via guard` or
+/// its Verilog text, `c --guard FILE` its guarded C text, each piece by piece, `grc FILE` the listing of its graph, and
+/// `check FILE` a line of counts. `run --via blif FILE TRACE`, or `--via c`, `--via guard` or
 /// `--via verilog`, compiles the source, writes its text of that form into memory, reads it again and runs it over the
 /// trace: one line for each instant, right after its reaction. `exec --via blif TEXT TRACE`, or `--via c`,
 /// `--via guard` or `--via verilog`, runs a text by its own meaning. By a guarded text both write the number of
