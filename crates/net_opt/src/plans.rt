@@ -16,14 +16,17 @@ pub(crate) struct Plan {
     pub lefts: Vec<Edge>,
     pub rights: Vec<Edge>,
     pub root: Edge,
+    turn: usize,
 }
 
-/// A graph that computes one of these functions.
-pub(crate) fn planned(alloc: Global, functions: Between) -> Result<Plan, NoMemory> {
+/// A graph that computes one of these functions. Different turns prefer different variables where several ways cost the
+/// same.
+pub(crate) fn planned(alloc: Global, functions: Between, turn: usize) -> Result<Plan, NoMemory> {
     let mut plan = Plan {
         lefts: Vec::new(alloc),
         rights: Vec::new(alloc),
         root: TRUE,
+        turn,
     };
     plan.root = plan.edge_between(functions, VARIABLES + 1)?;
     Ok(plan)
@@ -65,7 +68,7 @@ impl Plan {
         if depth == 0 {
             return Ok(TRUE);
         }
-        let step = best_step(between);
+        let step = best_step(between, self.turn);
         let one = self.edge_between(step.one, depth - 1)?;
         if step.form == Form::Both {
             return self.both(step.literal, one);
@@ -149,9 +152,10 @@ fn plain_edge(between: Between) -> Option<Edge> {
 }
 
 // The step that leaves the least to do.
-fn best_step(between: Between) -> Step {
+fn best_step(between: Between, turn: usize) -> Step {
     let mut best = step_by_choice(between, 0, usize::MAX);
-    for variable in 0..VARIABLES {
+    for place in 0..VARIABLES {
+        let variable = place.saturating_add(turn) % VARIABLES;
         if depends_on(between, variable) {
             best = cheaper(best, step_by_choice(between, variable, 3));
             best = cheaper(best, step_by_difference(between, variable));
