@@ -5,5 +5,5 @@ mod NumberedNames
 mod NameLists
 mod Pieces
 mod Nets
-mod worked
+pub mod worked
 pub mod Exports

@@ -1,3 +1,4 @@
 -- Worked examples of the definitions: values by hand, or by an independent implementation. No law stands on them.
 mod WorkedNets
+pub mod PlainNets
 mod RunEquations

@@ -1,4 +1,4 @@
--- Inner: worked examples of the reading rules and of the words for languages, each by computing.
+-- Inner: written by hand: worked examples of the reading rules and of the words for languages, each by computing.
 use Rattle.std.proofs.Common.{◌≡◌, true, false, [], ◌∷◌, Option, Some, None, Ok, Err, refl}
 use Rattle.base_reader.specs.declared.statements.Token.{Token}
 use Rattle.base_reader.specs.declared.statements.Token.TheVariants as kinds

@@ -1,4 +1,4 @@
--- Inner: the worked example's answers and places, each by computing.
+-- Inner: written by hand: the worked example's answers and places, each by computing.
 use Rattle.std.proofs.Common.{◌≡◌, true, false, [], ◌∷◌, Ok, Err, refl}
 use Rattle.base_reader.specs.declared.statements.Token.TheVariants as kinds
 use Rattle.base_reader.specs.Readings.{whole}

@@ -1,4 +1,4 @@
--- Witnesses of the definitions that no call of this crate computes, relations, names and items, and of the draws.
+-- Written by hand: witnesses of the definitions that no call of this crate computes, relations, names and items, and of the draws.
 use Rattle.std.specs.Prelude.{◌≡◌, zero, suc, true, false, [], ◌∷◌}
 use Rattle.std.proofs.Common.{refl, arith}
 use Rattle.std.proofs.lemmas.Bool.{false≢true}

@@ -1,4 +1,5 @@
--- What outcomes say of sources, texts and traces, row by row, where bounds lie, and what is asked of files so that nothing is refused.
+-- Written by hand: what outcomes say of sources, texts and traces, row by row, where bounds lie, and what is asked of files so that nothing is
+-- refused.
 use Rattle.std.proofs.Common.{◌≡◌, ◌⊎◌, ◌+◌, ◌≤◌, ◌++◌, ℕ, List, [], ◌∷◌, length, map, Some, None, Option, Result, Ok, Err, codes, refl}
 use Rattle.std.proofs.Common.{arith, inl, inr}
 use Rattle.base_types.specs.Items.{Event, Reset}

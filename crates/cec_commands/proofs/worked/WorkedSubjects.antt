@@ -1,4 +1,4 @@
--- What a line speaks of, row by row: by each command the names of the files, the main module's name and the source.
+-- Written by hand: what a line speaks of, row by row: by each command the names of the files, the main module's name and the source.
 use Rattle.std.proofs.Common.{◌≡◌, ℕ, List, [], ◌∷◌, Option, Some, None, codes, refl, inl}
 use Rattle.cec_compile.specs.declared.forms.TextForm.{TextForm}
 use Rattle.cec_commands.specs.declared.outcome.Outcome.{Outcome}

@@ -1,4 +1,4 @@
--- Where the bounds of graphs and texts lie, and what each refusal says, row by row.
+-- Written by hand: where the bounds of graphs and texts lie, and what each refusal says, row by row.
 use Rattle.std.proofs.Common.{◌≡◌, ◌<◌, ◌≤◌, ℕ, List, [], length, map, None, Option, arith}
 use Rattle.est_kernel.specs.Plain.{Program}
 use Rattle.grc_graph.specs.GraphSizes.{graph_size}

@@ -1,4 +1,4 @@
--- Worked lists of words, with what an implementation of the same rules in another language reads in them.
+-- Written by hand, with values of the reference implementation: worked lists of words, with what the reference implementation reads in them.
 use Rattle.std.proofs.Common.{◌≡◌, [], ◌∷◌, codes, refl, Some, None, true, false}
 use Rattle.cec_words.specs.declared.asked.Via.TheVariants as vias
 use Rattle.cec_words.specs.declared.asked.Pick.TheVariants.{First, Last, Drawn}

@@ -1,4 +1,4 @@
--- A worked text: what its tokens spell, and the program that it describes; how deep pieces are nested, and what they mean.
+-- Written by hand: a worked text: what its tokens spell, and the program that it describes; how deep pieces are nested, and what they mean.
 use Rattle.std.proofs.Common.{◌≡◌, ◌<◌, ℕ, true, false, List, [], ◌∷◌, None, Some, map, codes, refl, arith, lit≤}
 use Rattle.base_types.specs.Items.{Event, Reset}
 use Rattle.csub_text.specs.Grammar.{WrittenAssign}

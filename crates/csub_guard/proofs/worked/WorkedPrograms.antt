@@ -1,5 +1,5 @@
--- Worked programs: the rules of places and of reads, one by one, and calls with their counts. The values are those of
--- an implementation in Python.
+-- Written by hand, with values of the reference implementation: worked programs: the rules of places and of reads, one by one, and calls with their
+-- counts. The values are those of the reference implementation.
 use Rattle.std.proofs.Common.{◌≡◌, Bool, true, false, List, [], ◌∷◌, map, codes, refl, Some, None, ℕ}
 use Rattle.base_types.specs.Items.{Event}
 use Rattle.csub_text.specs.Machine.{SeenCall}

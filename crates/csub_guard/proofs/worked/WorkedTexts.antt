@@ -1,4 +1,4 @@
--- A worked block: its tokens, and that they spell it.
+-- Written by hand: a worked block: its tokens, and that they spell it.
 use Rattle.std.proofs.Common.{◌≡◌, List, [], ◌∷◌, codes, refl, Some}
 use Rattle.csub_text.specs.Tokens.{Kind, If, Else, LeftParenthesis, RightParenthesis, LeftBrace, RightBrace, Equals, Semicolon, One, Named}
 use Rattle.csub_guard.specs.Grammar.{IfWritten, SpellsHalf, SpellsPiece}

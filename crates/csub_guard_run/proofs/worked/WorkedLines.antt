@@ -1,4 +1,5 @@
--- A worked program, its lines and the line of its count. The values are those of an implementation in Python.
+-- Written by hand, with values of the reference implementation: a worked program, its lines and the line of its count. The values are those of the
+-- reference implementation.
 use Rattle.std.proofs.Common.{◌≡◌, true, false, List, [], ◌∷◌, ◌++◌, map, codes, refl}
 use Rattle.std.specs.Prelude.{decimal}
 use Rattle.base_types.specs.Items.{Item, Event, Reset}

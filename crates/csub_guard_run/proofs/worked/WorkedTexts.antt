@@ -1,4 +1,5 @@
--- What the first fault of a text says, row by row, what it means that a text means a netlist, and how a run whose calls are counted ends.
+-- Written by hand: what the first fault of a text says, row by row, what it means that a text means a netlist, and how a run whose calls are counted
+-- ends.
 use Rattle.std.proofs.Common.{◌≡◌, ◌++◌, ℕ, List, [], ◌∷◌, length, map, None, Some, Ok, Err, refl, inl, inr, lit≤}
 use Rattle.base_types.specs.Items.{Item, EachEvent}
 use Rattle.base_types.specs.SinkChanges.{SinkChange}

@@ -1,4 +1,4 @@
--- What it means that a guarded text runs as a netlist does, field by field.
+-- Written by hand: what it means that a guarded text runs as a netlist does, field by field.
 use Rattle.std.proofs.Common.{◌≡◌, ◌-◌, ℕ, List, Option, length, map}
 use Rattle.base_types.specs.Items.{Item, EachEvent}
 use Rattle.base_types.specs.declared.indices.WireId.{WireId}

@@ -1,4 +1,4 @@
--- What a fault says of a text, row by row, and where the bound on texts lies.
+-- Written by hand: what a fault says of a text, row by row, and where the bound on texts lies.
 use Rattle.std.proofs.Common.{◌≡◌, ◌≤◌, ℕ, List, [], length, Some, sym, ◌∙◌, arith}
 use Rattle.net_expressions.specs.Lexemes.{IsFaultPlace}
 use Rattle.csub_text.specs.Grammar.{WrittenProgram}

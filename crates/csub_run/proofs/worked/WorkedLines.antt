@@ -1,4 +1,4 @@
--- A worked program and its lines. The values are those of an implementation in Python.
+-- Written by hand, with values of the reference implementation: a worked program and its lines. The values are those of the reference implementation.
 use Rattle.std.proofs.Common.{◌≡◌, true, false, List, [], ◌∷◌, map, codes, refl}
 use Rattle.base_types.specs.Items.{Item, Event, Reset}
 use Rattle.base_types.specs.Names.{is_same_name}

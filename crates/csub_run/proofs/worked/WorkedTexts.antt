@@ -1,4 +1,4 @@
--- What the first fault of a text says, row by row, and what it means that a text is written of a netlist.
+-- Written by hand: what the first fault of a text says, row by row, and what it means that a text is written of a netlist.
 use Rattle.std.proofs.Common.{◌≡◌, ℕ, List}
 use Rattle.net_ir.specs.Netlists.{Netlist}
 use Rattle.csub_text.specs.Names as names

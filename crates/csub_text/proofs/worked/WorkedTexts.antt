@@ -1,4 +1,4 @@
--- A worked text: its tokens, what they spell, and the program that it describes; and what describes none.
+-- Written by hand: a worked text: its tokens, what they spell, and the program that it describes; and what describes none.
 use Rattle.std.proofs.Common.{◌≡◌, ◌<◌, ℕ, true, false, List, [], ◌∷◌, Some, map, codes, refl, arith, lit≤}
 use Rattle.net_expressions.specs.Grammar.{Word, Bit, Not, Round}
 use Rattle.csub_text.specs.Trees.{Program, Name}

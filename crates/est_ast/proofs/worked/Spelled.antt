@@ -1,4 +1,4 @@
--- Tokens, trees and spellings, as worked examples write them.
+-- Written by hand: tokens, trees and spellings, as worked examples write them.
 use Rattle.std.specs.Prelude.{◌≡◌, ℕ, List, [], ◌∷◌, ◌++◌, Option, Some}
 use Rattle.std.proofs.Common.{refl}
 use Rattle.base_types.specs.declared.place.Span.{Span}

@@ -1,4 +1,5 @@
--- Inner: worked spellings, by an implementation of the grammar in another language: statements, each with its optional words left out and put in.
+-- Inner: written by hand, with values of the reference implementation: worked spellings, by the reference implementation: statements, each with its
+-- optional words left out and put in.
 use Rattle.std.specs.Prelude.{ℕ, List, [], ◌∷◌, codes}
 use Rattle.std.proofs.Common.{refl, inl, inr}
 use Rattle.est_ast.specs.declared.tokens.Kind.TheVariants as kinds

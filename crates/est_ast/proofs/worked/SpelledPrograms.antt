@@ -1,4 +1,5 @@
--- Inner: worked spellings, by an implementation of the grammar in another language: lists of statements, with and without a last `;`, and programs.
+-- Inner: written by hand, with values of the reference implementation: worked spellings, by the reference implementation: lists of statements, with
+-- and without a last `;`, and programs.
 use Rattle.std.specs.Prelude.{ℕ, List, [], ◌∷◌, codes}
 use Rattle.std.proofs.Common.{refl, inl, inr}
 use Rattle.est_ast.specs.declared.tokens.Kind.TheVariants as kinds

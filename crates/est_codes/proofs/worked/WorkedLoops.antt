@@ -1,4 +1,5 @@
--- Inner: a worked body with three instantaneous loops, two of which start at one place: the fault names the one of these that ends first.
+-- Inner: written by hand: a worked body with three instantaneous loops, two of which start at one place: the fault names the one of these that ends
+-- first.
 use Rattle.std.proofs.Common.{◌≡◌, ℕ, [], ◌∷◌, Some, refl, arith}
 use Rattle.std.proofs.lemmas.List.Elements.{All-nil, All-cons}
 use Rattle.base_types.specs.declared.place.Span.{Span}

@@ -1,4 +1,5 @@
--- What is just within the limits on size, height and traps is a program; one above each is refused, the size first and the traps last.
+-- Written by hand: what is just within the limits on size, height and traps is a program; one above each is refused, the size first and the traps
+-- last.
 use Rattle.std.specs.Prelude.{◌≡◌, nat_lt, if◌then◌else◌}
 use Rattle.std.proofs.Common.{ap, ◌∙◌}
 use Rattle.base_types.specs.declared.bounds.TheConstants.Limits.{KERNEL_NODES, KERNEL_HEIGHT, TRAPS}

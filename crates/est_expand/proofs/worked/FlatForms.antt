@@ -2,11 +2,16 @@
 use Rattle.std.proofs.Common.{ℕ, List, [], Result}
 use Rattle.std.specs.Prelude.{slice_index_or}
 use Rattle.base_types.specs.Relations.{Relation}
+use Rattle.est_ast.specs.FlatTrees as f
 use Rattle.est_ast.specs.FlatTrees.{Stmt, Flat}
 use Rattle.est_ast.specs.Trees.{At, Nothing, SourceProgram}
 use Rattle.est_names.proofs.worked.PlainTrees.{at, n, modul}
 use Rattle.est_expand.specs.Faults.{FlattenFault}
 use Rattle.est_expand.specs.Flattening.{flattened}
+
+-- a flat statement at its place
+abbrev pub fs : ℕ → ℕ → f.Form → f.Stmt
+fs start end form = f.At (at start end) form
 
 abbrev pub made : List ℕ → List (List ℕ) → ℕ → ℕ → ℕ → List Relation → Stmt → Flat
 made name signals inputs both outputs relations body = record {

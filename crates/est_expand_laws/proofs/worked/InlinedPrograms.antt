@@ -1,5 +1,5 @@
--- Inner: programs, what inlining makes of them, and the flat forms of that, which are those that an independent implementation in Python gives the
--- programs. The inlined trees are from a second such one. Generated.
+-- Inner: written by hand: programs, what inlining makes of them, and the flat forms of that. The flat forms are those that the reference
+-- implementation gives the programs. The inlined trees are from another implementation, which is not in the repository.
 use Rattle.std.proofs.Common.{◌≡◌, ℕ, List, [], ◌∷◌, Result, Ok, Err, codes, refl}
 use Rattle.std.specs.Prelude.{slice_index_or}
 use Rattle.base_types.specs.Relations as flat_relations

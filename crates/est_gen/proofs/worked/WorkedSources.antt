@@ -1,4 +1,4 @@
--- Worked events and sources, as an implementation of the same rules in another language gives them.
+-- Written by hand, with values of the reference implementation: worked events and sources, as the reference implementation gives them.
 use Rattle.std.proofs.Common.{◌≡◌, true, false, [], ◌∷◌, codes, refl}
 use Rattle.std.specs.Fmt.{digits}
 use Rattle.base_types.specs.Draws.{first_state, state_after}

@@ -1,5 +1,5 @@
--- Worked examples: programs of known meaning, run by the definitions alone. The answers come from the
--- programs' descriptions, not from the definitions.
+-- Written by hand: worked examples: programs of known meaning, run by the definitions alone. The answers come from the programs' descriptions, not
+-- from the definitions.
 use Rattle.std.specs.Prelude.{◌≡◌, ℕ, Bool, true, false, List, [], ◌∷◌, map, Option, Some, None}
 use Rattle.std.proofs.Common.{refl}
 use Rattle.base_types.specs.declared.place.Span.{Span}

@@ -1,4 +1,4 @@
--- Worked examples of the static tables: codes by preorder, sizes, relations, and what is well formed.
+-- Written by hand: worked examples of the static tables: codes by preorder, sizes, relations, and what is well formed.
 use Rattle.std.specs.Prelude.{◌≡◌, ℕ, ◌+◌, Bool, true, false, List, [], ◌∷◌, filter, map, nat_lt}
 use Rattle.std.proofs.Common.{refl, arith}
 use Rattle.std.proofs.lemmas.Bool.{false≢true}

@@ -1,5 +1,5 @@
--- Witnesses of the definitions that no call computes: the plain forms of Rust trees, what is well formed and
--- what is not, clause by clause, and which lists are the codes of a body.
+-- Written by hand: witnesses of the definitions that no call computes: the plain forms of Rust trees, what is well formed and what is not, clause by
+-- clause, and which lists are the codes of a body.
 use Rattle.std.specs.Prelude.{◌≡◌, zero, suc, ◌<◌, ◌≤◌, true, false, [], ◌∷◌, map, length, nat_lt, All, IsTrue}
 use Rattle.std.proofs.Common.{refl, arith, Box, Global}
 use Rattle.std.proofs.lemmas.Bool.{false≢true}

@@ -1,5 +1,5 @@
--- Inner: worked examples of the one spelling of a tree, from another implementation of the grammar. No
--- optional word and no optional `;` is in them.
+-- Inner: written by hand, with values of the reference implementation: worked examples of the one spelling of a tree, from the reference
+-- implementation. No optional word and no optional `;` is in them.
 use Rattle.std.specs.Prelude.{◌≡◌, ℕ, List, [], ◌∷◌, codes}
 use Rattle.std.proofs.Common.{refl}
 use Rattle.est_ast.specs.declared.tokens.Kind.{Kind}

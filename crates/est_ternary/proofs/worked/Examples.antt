@@ -1,4 +1,4 @@
--- Worked examples of the three-valued walk: small terms whose statuses depend on one another, by the definitions alone.
+-- Written by hand: worked examples of the three-valued walk: small terms whose statuses depend on one another, by the definitions alone.
 use Rattle.std.specs.Prelude.{◌≡◌, List, [], ◌∷◌, map}
 use Rattle.std.proofs.Common.{refl}
 use Rattle.est_kernel.specs.Terms.{Term, Sig, Not, Or, Nothing, Pause, Emit, Exit, Present, Suspend, Seq, Par, Trap, Local, Awake}

@@ -1,4 +1,4 @@
--- Worked coherence, row by row: what is asked of the wires of each form and of its parts, started and resumed.
+-- Written by hand: worked coherence, row by row: what is asked of the wires of each form and of its parts, started and resumed.
 use Rattle.std.proofs.Common.{◌≡◌, ℕ, Bool, true, not, ◌&&◌, refl}
 use Rattle.base_types.specs.declared.place.Span.{Span}
 use Rattle.est_kernel.specs.Terms.{Tick, Sig, Term, Nothing, Pause, Emit, Exit, Present, Suspend, Seq, Loop, Par, Trap, Local, Awake}

@@ -1,4 +1,4 @@
--- Worked listings. The texts are those of an independent implementation of the same rules in Python.
+-- Written by hand, with values of the reference implementation: worked listings. The texts are those of the reference implementation.
 use Rattle.std.proofs.Common.{◌≡◌, ℕ, ◌+◌, [], ◌∷◌, codes, refl}
 use Rattle.std.specs.List.{concat}
 use Rattle.std.specs.Fmt.{digits}

@@ -1,5 +1,5 @@
--- The shared wires of worked examples: how many starts are left, which statuses are one, and edges that close a walk
--- once wires are shared, where none does before.
+-- Written by hand: the shared wires of worked examples: how many starts are left, which statuses are one, and edges that close a walk once wires are
+-- shared, where none does before.
 use Rattle.std.specs.Prelude.{◌≡◌, Bool, true, false, ◌&&◌, List, [], ◌∷◌, filter, length, map, zip}
 use Rattle.std.specs.List.{list_all, list_any}
 use Rattle.std.proofs.Common.{refl}

@@ -1,4 +1,4 @@
--- What an optimized netlist keeps of the given one, field by field.
+-- Written by hand: what an optimized netlist keeps of the given one, field by field.
 use Rattle.std.proofs.Common.{◌≡◌, ◌≤◌, [], length}
 use Rattle.net_ir.specs.Gates.{carried}
 use Rattle.net_ir.specs.Netlists.{Netlist, output_names}

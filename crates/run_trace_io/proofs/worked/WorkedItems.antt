@@ -1,5 +1,5 @@
--- Worked traces item by item: resets, relations, and what a reader answers. Inputs are A, B and C; B is there whenever A is,
--- and A and C are never there at once.
+-- Written by hand: worked traces item by item: resets, relations, and what a reader answers. Inputs are A, B and C; B is there whenever A is, and A
+-- and C are never there at once.
 use Rattle.std.proofs.Common.{◌≡◌, ℕ, zero, suc, ◌<◌, ◌∙◌, Bool, true, false, List, [], ◌∷◌, Some, None, Ok, Err, codes, refl, sym, arith}
 use Rattle.std.specs.Prelude.{slice_index_or}
 use Rattle.std.proofs.lemmas.Bool.{false≢true}

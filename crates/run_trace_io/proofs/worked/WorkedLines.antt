@@ -1,4 +1,4 @@
--- Worked lines.
+-- Written by hand: worked lines.
 use Rattle.std.proofs.Common.{◌≡◌, true, false, [], ◌∷◌, codes, refl}
 use Rattle.run_trace_io.specs.declared.lines.Word.TheVariants.{Paused, Ended, Bare}
 use Rattle.run_trace_io.specs.Lines.{line}

@@ -1,4 +1,4 @@
--- Worked traces, with the groups that an implementation of the same rules in another language reads.
+-- Written by hand, with values of the reference implementation: worked traces, with the groups that the reference implementation reads.
 use Rattle.std.proofs.Common.{◌≡◌, true, false, [], ◌∷◌, codes, refl}
 use Rattle.run_trace_io.specs.declared.faults.TraceFault.TheVariants as faults
 use Rattle.run_trace_io.specs.Traces.{End, Reset, Instant, Refused, group_from}

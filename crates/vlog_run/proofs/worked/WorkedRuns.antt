@@ -1,5 +1,5 @@
--- Worked modules: their valuations over items, their lines, and a combinational cycle. The values are those of an
--- implementation in Python.
+-- Written by hand, with values of the reference implementation: worked modules: their valuations over items, their lines, and a combinational cycle.
+-- The values are those of the reference implementation.
 use Rattle.std.proofs.Common.{◌≡◌, ℕ, ◌+◌, ◌<◌, zero, suc, Bool, true, false, List, [], ◌∷◌, map, codes, refl, arith}
 use Rattle.base_types.specs.Items.{Item, Event, Reset}
 use Rattle.net_expressions.specs.Trees.{Expr, Exprs, Name, Const, Not, And, Or, NoExprs, MoreExprs}
