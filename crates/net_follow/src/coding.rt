@@ -7,13 +7,13 @@ ghost use Rattle.net_follow.specs.Literals.{IsSteady, holds, meets_clause};
 ghost use Rattle.net_follow.specs.Coding.{kind, coded_constant, coded_net, coded_literal, coded_clause};
 
 use crate::literals::{Clause, Literal, Side};
-use est_base::NoMemory;
+use base_types::NoMemory;
 use std::alloc::Global;
 
 // Nets with numbers below this one have variables.
 const NUMBERS: u32 = 0x400_0000;
 
-// What a net's variable has besides its number.
+// The place of a net's variable among the four of that net.
 fn kind(late: bool, side: Side) -> u32
     ensures { result ≡ kind late side }
 {

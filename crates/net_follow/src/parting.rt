@@ -2,7 +2,7 @@
 
 use crate::literals::{Equation, Literal, Side, opposite};
 use crate::replaying::Replay;
-use est_base::NoMemory;
+use base_types::NoMemory;
 use net_ir::Net;
 use std::alloc::Global;
 

@@ -1,7 +1,7 @@
 // Values of the nets of a netlist in 64 runs of one instant, the first of which is a counterexample.
 
 use crate::literals::{Literal, Side};
-use est_base::{NetId, NoMemory};
+use base_types::{NetId, NoMemory};
 use net_ir::{Net, Op};
 use std::alloc::Global;
 
@@ -59,7 +59,7 @@ impl Replay {
         variable < values.len() && values[variable]
     }
 
-    // Random values of an input: true in half, in an eighth, or in all but an eighth of the runs.
+    // Random values of an input: true in half, an eighth, or seven eighths of the runs.
     fn random_input(&mut self) -> u64 {
         let kind = self.random_word() & 3;
         let plain = self.random_word();

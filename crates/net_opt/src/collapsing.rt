@@ -4,7 +4,7 @@ use crate::building::{Built, place_of};
 use crate::diagrams::{ALWAYS, Diagram, Function, NEVER};
 use crate::edges::{Edge, TRUE, UNKNOWN, edge_at, is_marked, mark, negated, negated_if, straight};
 use crate::graphs::Graph;
-use est_base::NoMemory;
+use base_types::NoMemory;
 use net_ir::Net;
 use std::alloc::Global;
 

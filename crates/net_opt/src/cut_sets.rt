@@ -2,7 +2,7 @@
 
 use crate::cuts::{Cut, place_in};
 use crate::graphs::Graph;
-use est_base::NoMemory;
+use base_types::NoMemory;
 use std::alloc::Global;
 
 // How many nodes a set has at most.

@@ -1,7 +1,7 @@
 // Binary decision diagrams with negated edges (Bryant, "Graph-Based Algorithms for Boolean Function Manipulation",
 // 1986; Brace, Rudell and Bryant, "Efficient Implementation of a BDD Package", 1990).
 
-use est_base::NoMemory;
+use base_types::NoMemory;
 use std::alloc::Global;
 
 // How many nodes a diagram has at most.
