@@ -47,7 +47,7 @@ new-value V true n = number-value V n 3 (omega arith)
 
 -- ---- literals
 
-either-way : (b : Bool) → (b || not b || false) ≡ true
+either-way : (b : Bool) → (b || (not b || false)) ≡ true
 either-way true = refl
 either-way false = refl
 

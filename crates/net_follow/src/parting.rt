@@ -151,22 +151,21 @@ impl Parting {
             from,
             next,
         })?;
-        self.set_first(from, place);
+        set_first(&mut self.firsts, from, place);
         Ok(())
     }
 
-    fn set_first(&mut self, from: usize, place: usize) {
-        if from < self.firsts.len() {
-            self.firsts[from] = place;
-        }
-    }
-
     fn clear_heads(&mut self) {
-        for k in 0..self.heads.len() {
-            let from = self.heads[k].from;
-            self.set_first(from, NONE);
+        for head in &self.heads {
+            set_first(&mut self.firsts, head.from, NONE);
         }
         self.heads.clear();
+    }
+}
+
+fn set_first(firsts: &mut [usize], from: usize, place: usize) {
+    if from < firsts.len() {
+        firsts[from] = place;
     }
 }
 

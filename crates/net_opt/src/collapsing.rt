@@ -100,7 +100,7 @@ fn first_order(alloc: Global, built: &Built, roots: &[Edge]) -> Result<Vec<u32>,
             }
         }
     }
-    for node in 1..count {
+    for node in 1..levels.len() {
         if levels[node] == u32::MAX {
             levels[node] = next;
             next = next.saturating_add(1);
@@ -117,12 +117,12 @@ fn moved_order(
     seed: &mut u64,
 ) -> Result<Vec<u32>, NoMemory> {
     let mut moved = Vec::from_slice(alloc, levels)?;
-    let count = levels.len().saturating_sub(1).max(1);
-    let from = (drawn(seed) % count as u64) as u32;
+    let count = levels.len().saturating_sub(1);
+    let from = random_level(seed, count);
     let to = if trial % 3 == 0 {
-        (from + 1) % (count as u32).max(1)
+        small((from as usize).saturating_add(1) % count.max(1))
     } else {
-        (drawn(seed) % count as u64) as u32
+        random_level(seed, count)
     };
     for node in 1..moved.len() {
         let level = moved[node];
@@ -139,13 +139,14 @@ fn moved_order(
     Ok(moved)
 }
 
-fn drawn(seed: &mut u64) -> u64 {
+// A random number below this one. Marsaglia, "Xorshift RNGs", 2003.
+fn random_level(seed: &mut u64, count: usize) -> u32 {
     let mut word = *seed;
     word ^= word << 13;
     word ^= word >> 7;
     word ^= word << 17;
     *seed = word;
-    word >> 11
+    small((word >> 11) as usize % count.max(1))
 }
 
 // The diagrams of all marked nodes.
