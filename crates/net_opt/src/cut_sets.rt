@@ -95,6 +95,16 @@ impl CutSets {
             &[]
         }
     }
+
+    /// The set of a node at this place of its sets.
+    pub fn at(&self, node: usize, place: usize) -> LeafSet {
+        let sets = self.of(node);
+        if place < sets.len() {
+            sets[place]
+        } else {
+            single(node)
+        }
+    }
 }
 
 fn single(node: usize) -> LeafSet {

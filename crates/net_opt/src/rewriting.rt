@@ -8,7 +8,7 @@ use crate::edges::{
 };
 use crate::excluding::Exclusions;
 use crate::graphs::Graph;
-use crate::plans::{Plan, VARIABLES, planned};
+use crate::plans::{Plan, Plans, VARIABLES};
 use base_types::NoMemory;
 use net_ir::Net;
 use std::alloc::Global;
@@ -24,13 +24,13 @@ struct Rewriter {
     uses: Vec<usize>,
     sets: CutSets,
     changes: bool,
-    turn: usize,
+    plans: Plans,
 }
 
-// A graph that may stand for a pair, what its variables are, and how many nodes it spares.
+// A graph that may stand for a pair, by the place of its plan, what its variables are, and how many nodes it spares.
 #[derive(Drop)]
 struct Offer {
-    plan: Plan,
+    plan: usize,
     inputs: Vec<Edge>,
     gain: usize,
 }
@@ -85,7 +85,7 @@ pub(crate) fn rewritten(
         uses: Vec::new(alloc),
         sets: CutSets::new(alloc),
         changes,
-        turn,
+        plans: Plans::new(alloc, turn)?,
     };
     rewriter.note_new(alloc)?;
     for node in 0..count {
@@ -111,7 +111,7 @@ pub(crate) fn rewritten(
         uses: _,
         sets: _,
         changes: _,
-        turn: _,
+        plans: _,
     } = rewriter;
     Ok(Built { graph, edges })
 }
@@ -134,6 +134,7 @@ impl Rewriter {
         let left = self.image(pair.left);
         let right = self.image(pair.right);
         let fans = number_at(&self.fans, node);
+        self.plans.tidy();
         let plain = self.graph.both(left, right)?;
         self.note_new(alloc)?;
         self.take(alloc, plain, fans)?;
@@ -145,7 +146,7 @@ impl Rewriter {
         let Some(offer) = self.best_offer(alloc, exclusions, plain)? else {
             return Ok(plain);
         };
-        let made = negated_if(self.placed(alloc, &offer.plan, &offer.inputs)?, plain.negative);
+        let made = negated_if(self.placed(alloc, &offer)?, plain.negative);
         self.note_new(alloc)?;
         self.take(alloc, made, fans)?;
         self.release(alloc, plain, fans)?;
@@ -208,7 +209,7 @@ impl Rewriter {
 
     // The offer that spares most.
     fn best_offer(
-        &self,
+        &mut self,
         alloc: Global,
         exclusions: &Exclusions,
         edge: Edge,
@@ -224,8 +225,9 @@ impl Rewriter {
                 best = better(best, self.offer(alloc, exclusions, &cut)?);
             }
         }
-        for set in self.sets.of(node) {
-            if let Some(cut) = cut_of_set(alloc, &self.graph, node, *set)? {
+        for place in 0..self.sets.of(node).len() {
+            let set = self.sets.at(node, place);
+            if let Some(cut) = cut_of_set(alloc, &self.graph, node, set)? {
                 if cut.inside.len() > 1 {
                     best = better(best, self.offer(alloc, exclusions, &cut)?);
                 }
@@ -236,15 +238,16 @@ impl Rewriter {
 
     // The graph that a cut's function has, if it spares nodes, or, where changes are asked for, takes no more.
     fn offer(
-        &self,
+        &mut self,
         alloc: Global,
         exclusions: &Exclusions,
         cut: &Cut,
     ) -> Result<Option<Offer>, NoMemory> {
-        let plan = planned(alloc, cut.functions(alloc, &self.graph, exclusions)?, self.turn)?;
+        let functions = cut.functions(alloc, &self.graph, exclusions)?;
+        let plan = self.plans.place_of(alloc, functions)?;
         let spared = cut.spared(alloc, &self.graph, &self.uses)?;
         let inputs = inputs_of(alloc, &cut.leaves)?;
-        let cost = self.cost(alloc, &plan, &inputs, &spared)?;
+        let cost = self.cost(alloc, plan, &inputs, &spared)?;
         if cost < spared.len() || (self.changes && cost == spared.len()) {
             let gain = spared.len().saturating_sub(cost);
             return Ok(Some(Offer { plan, inputs, gain }));
@@ -256,10 +259,13 @@ impl Rewriter {
     fn cost(
         &self,
         alloc: Global,
-        plan: &Plan,
+        plan: usize,
         inputs: &[Edge],
         freed: &[usize],
     ) -> Result<usize, NoMemory> {
+        let Some(plan) = self.plans.at(plan) else {
+            return Ok(usize::MAX);
+        };
         let mut names = Vec::from_slice(alloc, inputs)?;
         let mut count: usize = 0;
         for k in 0..plan.lefts.len() {
@@ -285,16 +291,24 @@ impl Rewriter {
     }
 
     // The edge of a plan that is carried out.
-    fn placed(&mut self, alloc: Global, plan: &Plan, inputs: &[Edge]) -> Result<Edge, NoMemory> {
-        let mut names = Vec::from_slice(alloc, inputs)?;
-        for k in 0..plan.lefts.len() {
-            let left = named(&names, edge_at(&plan.lefts, k));
-            let right = named(&names, edge_at(&plan.rights, k));
-            let edge = self.graph.both(left, right)?;
-            names.push(edge)?;
-        }
-        Ok(named(&names, plan.root))
+    fn placed(&mut self, alloc: Global, offer: &Offer) -> Result<Edge, NoMemory> {
+        let Some(plan) = self.plans.at(offer.plan) else {
+            return Ok(UNKNOWN);
+        };
+        placed(alloc, &mut self.graph, plan, &offer.inputs)
     }
+}
+
+// The edge of a plan over these edges in a graph.
+fn placed(alloc: Global, graph: &mut Graph, plan: &Plan, inputs: &[Edge]) -> Result<Edge, NoMemory> {
+    let mut names = Vec::from_slice(alloc, inputs)?;
+    for k in 0..plan.lefts.len() {
+        let left = named(&names, edge_at(&plan.lefts, k));
+        let right = named(&names, edge_at(&plan.rights, k));
+        let edge = graph.both(left, right)?;
+        names.push(edge)?;
+    }
+    Ok(named(&names, plan.root))
 }
 
 // The edges of a plan's variables, after what is always true.
