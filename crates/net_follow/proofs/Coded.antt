@@ -1,8 +1,8 @@
 -- Clauses over variables say what clauses over nets say.
-use Rattle.std.proofs.Common.{◌≡◌, ℕ, zero, suc, ◌+◌, ◌*◌, ◌/◌, ◌%◌, ◌<◌, Bool, true, false, not, ◌&&◌, ◌||◌, List, [], ◌∷◌, ◌++◌, refl}
+use Rattle.std.proofs.Common.{◌≡◌, ℕ, ◌+◌, ◌*◌, ◌/◌, ◌<◌, Bool, true, false, not, ◌||◌, List, [], ◌∷◌, ◌++◌, refl}
 use Rattle.std.proofs.Common.{sym, ap, ◌∙◌, arith, map}
 use Rattle.std.specs.Prelude.{if◌then◌else◌}
-use Rattle.std.specs.List.{list_any, list_all}
+use Rattle.std.specs.List.{list_all}
 use Rattle.std.proofs.lemmas.Bool.{and_from}
 use Rattle.std.proofs.lemmas.Nat.{div-mul-add, mod-mul-add}
 use Rattle.std.proofs.lemmas.List.Folds.{list_all-append, list_any-append}
@@ -13,7 +13,7 @@ use Rattle.net_follow.specs.declared.literals.Side.TheVariants.{Always, Old, New
 use Rattle.net_follow.specs.declared.literals.Literal.{Literal}
 use Rattle.net_follow.specs.declared.literals.Clause.{Clause}
 use Rattle.net_follow.specs.Literals.{IsSteady, signed, holds, opposite, meets_clause}
-use Rattle.net_follow.specs.Coding.{kind, kind_value, valuation, coded_constant, coded_net, coded_by, coded_literal, coded_clause}
+use Rattle.net_follow.specs.Coding.{kind, kind_value, valuation, coded_constant, coded_by, coded_literal, coded_clause}
 
 -- ---- signs
 

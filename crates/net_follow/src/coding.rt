@@ -18,20 +18,8 @@ fn kind(late: bool, side: Side) -> u32
     ensures { result ≡ kind late side }
 {
     match side {
-        Side::Always | Side::Old => {
-            if late {
-                1
-            } else {
-                0
-            }
-        }
-        Side::New => {
-            if late {
-                3
-            } else {
-                2
-            }
-        }
+        Side::Always | Side::Old => { if late { 1 } else { 0 } }
+        Side::New => { if late { 3 } else { 2 } }
     }
 }
 

@@ -114,7 +114,11 @@ impl Parting {
             let left = if positive { head } else { opposite(head) };
             return Ok(Some(Equation { left, ..claim }));
         }
-        let literal = if positive { claim.out } else { opposite(claim.out) };
+        let literal = if positive {
+            claim.out
+        } else {
+            opposite(claim.out)
+        };
         self.add_head(from, word, literal)?;
         Ok(None)
     }

@@ -9,7 +9,7 @@ use crate::coding::{coded, is_always, opposites};
 use crate::literals::{Clause, Equation, constant, opposite};
 use base_types::NoMemory;
 use sat_kernel::{Kernel, Premise};
-use sat_search::{SearchOutcome, Search};
+use sat_search::{Search, SearchOutcome};
 use std::alloc::Global;
 
 // The effort of one question.

@@ -33,7 +33,11 @@ impl Replay {
             put(&mut self.words, place, word | given);
         }
         for place in net.inputs.len()..first_gate {
-            let word = if self.value(values, place) { u64::MAX } else { 0 };
+            let word = if self.value(values, place) {
+                u64::MAX
+            } else {
+                0
+            };
             put(&mut self.words, place, word);
         }
         for (k, gate) in net.gates.iter().enumerate() {
@@ -83,13 +87,7 @@ impl Replay {
 
 fn op_word(words: &[u64], op: Op) -> u64 {
     match op {
-        Op::Const(value) => {
-            if value {
-                u64::MAX
-            } else {
-                0
-            }
-        }
+        Op::Const(value) => { if value { u64::MAX } else { 0 } }
         Op::Copy(a) => net_word(words, a),
         Op::Not(a) => !net_word(words, a),
         Op::And(a, b) => net_word(words, a) & net_word(words, b),

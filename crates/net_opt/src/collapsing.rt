@@ -193,11 +193,19 @@ fn function_of(functions: &[Function], edge: Edge) -> Function {
     } else {
         NEVER
     };
-    if edge.negative { function.negated() } else { function }
+    if edge.negative {
+        function.negated()
+    } else {
+        function
+    }
 }
 
 fn small(number: usize) -> u32 {
-    if number < 0xffff_ffff { number as u32 } else { 0 }
+    if number < 0xffff_ffff {
+        number as u32
+    } else {
+        0
+    }
 }
 
 // How many nodes of the diagram the roots need.
@@ -250,13 +258,24 @@ fn graph_of(
     set(&mut names, 0, TRUE);
     for root in roots {
         let node = function_of(&diagrams.functions, *root).node();
-        add_nodes(alloc, &mut graph, &mut names, &leaves, &diagrams.diagram, node)?;
+        add_nodes(
+            alloc,
+            &mut graph,
+            &mut names,
+            &leaves,
+            &diagrams.diagram,
+            node,
+        )?;
     }
     let mut edges = Vec::new(alloc);
     for edge in &built.edges {
         let function = function_of(&diagrams.functions, *edge);
         let name = edge_of(&names, function);
-        edges.push(if built.graph.is_pair(edge.node) { name } else { *edge })?;
+        edges.push(if built.graph.is_pair(edge.node) {
+            name
+        } else {
+            *edge
+        })?;
     }
     Ok(Built { graph, edges })
 }

@@ -49,7 +49,12 @@ impl CutSets {
         Ok(())
     }
 
-    fn made_sets(&self, alloc: Global, graph: &Graph, node: usize) -> Result<Vec<LeafSet>, NoMemory> {
+    fn made_sets(
+        &self,
+        alloc: Global,
+        graph: &Graph,
+        node: usize,
+    ) -> Result<Vec<LeafSet>, NoMemory> {
         let pair = graph.pair(node);
         let mut made = Vec::new(alloc);
         for left in self.of(pair.left.node) {

@@ -146,7 +146,12 @@ impl Diagram {
     }
 
     /// What both functions say together, over so many levels at most.
-    pub fn both(&mut self, left: Function, right: Function, depth: u32) -> Result<Function, NoMemory> {
+    pub fn both(
+        &mut self,
+        left: Function,
+        right: Function,
+        depth: u32,
+    ) -> Result<Function, NoMemory> {
         if let Some(plain) = plain_both(left, right) {
             return Ok(plain);
         }
@@ -154,7 +159,11 @@ impl Diagram {
             self.is_full = true;
             return Ok(NEVER);
         }
-        let (left, right) = if left.0 < right.0 { (left, right) } else { (right, left) };
+        let (left, right) = if left.0 < right.0 {
+            (left, right)
+        } else {
+            (right, left)
+        };
         let place = mixed(7, left, right) & 16_383;
         if place < self.entries.len() {
             let entry = self.entries[place];
@@ -162,9 +171,20 @@ impl Diagram {
                 return Ok(entry.both);
             }
         }
-        let level = self.branch(left.node()).level.min(self.branch(right.node()).level);
-        let high = self.both(self.part(left, level, true), self.part(right, level, true), depth - 1)?;
-        let low = self.both(self.part(left, level, false), self.part(right, level, false), depth - 1)?;
+        let level = self
+            .branch(left.node())
+            .level
+            .min(self.branch(right.node()).level);
+        let high = self.both(
+            self.part(left, level, true),
+            self.part(right, level, true),
+            depth - 1,
+        )?;
+        let low = self.both(
+            self.part(left, level, false),
+            self.part(right, level, false),
+            depth - 1,
+        )?;
         let both = self.made(level, high, low)?;
         if place < self.entries.len() {
             self.entries[place] = Entry { left, right, both };
@@ -204,5 +224,9 @@ fn mixed(level: u32, left: Function, right: Function) -> usize {
 }
 
 fn number_in(list: &[u32], place: usize) -> u32 {
-    if place < list.len() { list[place] } else { NONE }
+    if place < list.len() {
+        list[place]
+    } else {
+        NONE
+    }
 }

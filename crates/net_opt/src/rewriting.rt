@@ -300,7 +300,12 @@ impl Rewriter {
 }
 
 // The edge of a plan over these edges in a graph.
-fn placed(alloc: Global, graph: &mut Graph, plan: &Plan, inputs: &[Edge]) -> Result<Edge, NoMemory> {
+fn placed(
+    alloc: Global,
+    graph: &mut Graph,
+    plan: &Plan,
+    inputs: &[Edge],
+) -> Result<Edge, NoMemory> {
     let mut names = Vec::from_slice(alloc, inputs)?;
     for k in 0..plan.lefts.len() {
         let left = named(&names, edge_at(&plan.lefts, k));
