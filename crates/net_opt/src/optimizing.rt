@@ -62,15 +62,19 @@ fn searched_net(alloc: Global, net: &Net) -> Result<Net, NoMemory>
 {
     let begun = begun_net(alloc, net)?;
     let exclusions = exclusions_of(alloc, &begun)?;
+    let mut later = no_exclusions(alloc);
     let ordered = ordered_net(alloc, net)?;
-    let merged = passed_net(alloc, ordered, &MERGING, &exclusions)?;
+    let merged = passed_net(alloc, ordered, &MERGING, &exclusions, &mut later)?;
     let other = changed_net(alloc, &merged, Change::Collapse, &exclusions)?;
-    let plain = passed_net(alloc, merged, &REWRITING, &exclusions)?;
+    let plain = passed_net(alloc, merged, &REWRITING, &exclusions, &mut later)?;
     let found = match other {
-        Some(made) => lighter_of(plain, passed_net(alloc, made, &REWRITING, &exclusions)?),
+        Some(made) => {
+            let remade = passed_net(alloc, made, &REWRITING, &exclusions, &mut later)?;
+            lighter_of(plain, remade)
+        }
         None => plain,
     };
-    let last = passed_net(alloc, found, &FINISHING, &exclusions)?;
+    let last = passed_net(alloc, found, &FINISHING, &exclusions, &mut later)?;
     Ok(lighter(net, begun, last))
 }
 
@@ -127,20 +131,21 @@ fn gate_weight(op: Op) -> usize {
     }
 }
 
-// What the passes make of a netlist, each a lighter one or none. What is excluded is known of the given one.
+// What the passes make of a netlist, each a lighter one or none. What is excluded is known of the given one, and later
+// of one with fewer latches.
 fn passed_net(
     alloc: Global,
     start: Net,
     passes: &[Pass],
     exclusions: &Exclusions,
+    later: &mut Exclusions,
 ) -> Result<Net, NoMemory>
     ensures { IfOk result (λ new. (given : Netlist) → Replaces given (netlist_of start)
         → Replaces given (netlist_of new)) }
 {
     let mut best = start;
-    let mut last = no_exclusions(alloc);
     'passes: for pass in passes {
-        let new = improved_at(alloc, &best, *pass, exclusions, &mut last)?;
+        let new = improved_at(alloc, &best, *pass, exclusions, later)?;
         best = chosen(best, new);
     }
     Ok(best)
