@@ -55,27 +55,47 @@ pub fn optimize(alloc: Global, net: &Net) -> Result<Net, NoMemory>
     }
 }
 
-// The lightest that the passes find. Nets are made one first. Then the graph is rewritten as it is, and, where there
-// are few inputs and latches, also as the functions of its roots make it.
+// The lightest that the passes find, where it is not larger.
 fn searched_net(alloc: Global, net: &Net) -> Result<Net, NoMemory>
     ensures { IfOk result (λ new. Optimizes (netlist_of net.now) (netlist_of new)) }
 {
     let begun = begun_net(alloc, net)?;
-    let exclusions = exclusions_of(alloc, &begun)?;
-    let mut later = no_exclusions(alloc);
+    let found = found_net(alloc, net)?;
+    Ok(lighter(net, begun, found))
+}
+
+// What the passes find: nets are made one, then the graph is rewritten.
+fn found_net(alloc: Global, net: &Net) -> Result<Net, NoMemory>
+    ensures { IfOk result (λ new. Replaces (netlist_of net.now) (netlist_of new)) }
+{
     let ordered = ordered_net(alloc, net)?;
+    let exclusions = exclusions_of(alloc, &ordered)?;
+    let mut later = no_exclusions(alloc);
     let merged = passed_net(alloc, ordered, &MERGING, &exclusions, &mut later)?;
-    let other = changed_net(alloc, &merged, Change::Collapse, &exclusions)?;
-    let plain = passed_net(alloc, merged, &REWRITING, &exclusions, &mut later)?;
-    let found = match other {
-        Some(made) => {
-            let remade = passed_net(alloc, made, &REWRITING, &exclusions, &mut later)?;
-            lighter_of(plain, remade)
+    let best = rewritten_net(alloc, merged, &exclusions, &mut later)?;
+    Ok(passed_net(alloc, best, &FINISHING, &exclusions, &mut later)?)
+}
+
+// A netlist that is rewritten as it is, or, where there are few inputs and latches, as the functions of its roots make
+// it, if that is lighter.
+fn rewritten_net(
+    alloc: Global,
+    merged: Net,
+    exclusions: &Exclusions,
+    later: &mut Exclusions,
+) -> Result<Net, NoMemory>
+    ensures { IfOk result (λ new. (given : Netlist) → Replaces given (netlist_of merged)
+        → Replaces given (netlist_of new)) }
+{
+    let made = changed_net(alloc, &merged, Change::Collapse, exclusions)?;
+    let plain = passed_net(alloc, merged, &REWRITING, exclusions, later)?;
+    match made {
+        Some(other) => {
+            let remade = passed_net(alloc, other, &REWRITING, exclusions, later)?;
+            Ok(lighter_of(plain, remade))
         }
-        None => plain,
-    };
-    let last = passed_net(alloc, found, &FINISHING, &exclusions, &mut later)?;
-    Ok(lighter(net, begun, last))
+        None => Ok(plain),
+    }
 }
 
 const MERGING: [Pass; 2] = [Pass::Merge, Pass::Merge];
