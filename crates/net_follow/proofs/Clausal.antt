@@ -1,17 +1,18 @@
 -- Equations as clauses, and what a prover assumes.
-use Rattle.std.specs.Prelude.{⊤}
-use Rattle.std.proofs.Common.{◌≡◌, ℕ, suc, Bool, true, false, not, ◌&&◌, ◌||◌, List, [], ◌∷◌, ◌++◌, refl, sym, ap, ◌∙◌, subst, arith, append_assoc, inl, inr}
+use Rattle.std.specs.Prelude.{map}
+use Rattle.std.proofs.Common.{◌≡◌, ℕ, suc, Bool, true, false, not, ◌&&◌, ◌||◌, List, [], ◌∷◌, ◌++◌, refl, sym, ap, ◌∙◌, subst, arith, inl, inr}
 use Rattle.std.proofs.lemmas.List.{get_or_append_left, length_push}
 use Rattle.std.proofs.lemmas.List.Elements.{All-push}
 use Rattle.net_follow.specs.declared.literals.Side.{Side}
-use Rattle.net_follow.specs.declared.literals.Literal.{Literal}
 use Rattle.net_follow.specs.declared.literals.Equation.{Equation}
 use Rattle.net_follow.specs.declared.literals.Clause.{Clause}
 use Rattle.net_follow.specs.declared.proving.Prover.{Prover}
-use Rattle.net_follow.specs.Literals.{IsSteady, holds, opposite, constant, AllHold, MeetsClauses, MeetsAll, Meets, meets_clause, from_parts, to_left, to_right}
-use Rattle.net_follow.specs.Knowledge.{Grows, Tries}
-use Rattle.net_follow.specs.Proving.{Models, KeepsProof, Shown, Sees, Denies, Denied, Begins, Noted, Entails}
-use Rattle.net_follow.proofs.Knowledge.{opposite-value, grows-when}
+use Rattle.net_follow.specs.Literals.{IsSteady, holds, opposite, constant, MeetsAll, Meets, meets_clause, from_parts, to_left, to_right}
+use Rattle.net_follow.specs.Coding.{coded_clause, valuation}
+use Rattle.net_follow.specs.Proving.{Models, KeepsProof, Shown, Begins, Noted, Entails}
+use Rattle.net_follow.proofs.Coded.{coded-value, opposite-value, model-more, opposites-twice}
+use Rattle.sat_kernel.specs.Clauses.{Follows, IsModel, clause_value, opposite as kernel_opposite}
+use Rattle.sat_kernel.specs.declared.literals.Literal as kernel
 
 -- ---- the clauses of an equation
 
@@ -72,54 +73,6 @@ met-from V e steady a b c =
     (sym (or-same (holds V (opposite e.out)) (holds V e.right) (holds V (constant false)) (not (holds V e.out)) (holds V e.right) false
     (opposite-value V e.out) refl (false-holds V steady)) ∙ c)
 
--- ---- a clause that is denied
-
-three : (a b c : Bool) → (not a ≡ true → not b ≡ true → not c ≡ true → ⊥) → (a || b || c) ≡ true
-three true b c never = refl
-three false true c never = refl
-three false false true never = refl
-three false false false never = absurd (never refl refl refl)
-
-all-denied : (V : Bool → Side → ℕ → Bool) (c : Clause) → (Denies c V → ⊥) → meets_clause V c ≡ true
-all-denied V c never = three (holds V c.first) (holds V c.second) (holds V c.third) (λ p q r. never (record {
-  first = opposite-value V c.first ∙ p;
-  second = opposite-value V c.second ∙ q;
-  third = opposite-value V c.third ∙ r;
-}))
-
--- denying it contradicts what is known
-pub denied-grows : (clauses : List Clause) (c : Clause) (old new : List Literal) → Grows (Denies c) old new true → Denied clauses c old new true
-denied-grows clauses c old new grows = record {
-  more = grows.more;
-  is = grows.is;
-  claims = λ h V steady all known. all-denied V c (λ denies. grows.clashes refl V steady denies known);
-}
-
--- what was tried behind the denial contradicts itself
-pub denied-tries : (clauses : List Clause) (c : Clause) (old mid new : List Literal) (some shown : Bool) → Grows (Denies c) old mid some
-    → Tries (λ V. MeetsClauses V clauses) mid new shown → Denied clauses c old new shown
-denied-tries clauses c old mid new some shown grows tries = record {
-  more = grows.more ++ tries.more;
-  is = tries.is ∙ ap (λ l. l ++ tries.more) grows.is ∙ append_assoc old grows.more tries.more;
-  claims = λ h V steady all known. all-denied V c (λ denies. tries.clashes h V steady all (grows.follows V steady denies known));
-}
-
--- the three literals are denied one after another
-pub grows-first : (c : Clause) (l : Literal) (old new : List Literal) (clash : Bool) → l ≡ opposite c.first
-    → Grows (λ V. holds V l ≡ true) old new clash → Grows (Denies c) old new clash
-grows-first c l old new clash is grows =
-    grows-when (Denies c) (λ V. holds V l ≡ true) old new clash (λ V steady denies all. ap (holds V) is ∙ denies.first) grows
-
-pub grows-second : (c : Clause) (l : Literal) (old new : List Literal) (clash : Bool) → l ≡ opposite c.second
-    → Grows (λ V. holds V l ≡ true) old new clash → Grows (Denies c) old new clash
-grows-second c l old new clash is grows =
-    grows-when (Denies c) (λ V. holds V l ≡ true) old new clash (λ V steady denies all. ap (holds V) is ∙ denies.second) grows
-
-pub grows-third : (c : Clause) (l : Literal) (old new : List Literal) (clash : Bool) → l ≡ opposite c.third
-    → Grows (λ V. holds V l ≡ true) old new clash → Grows (Denies c) old new clash
-grows-third c l old new clash is grows =
-    grows-when (Denies c) (λ V. holds V l ≡ true) old new clash (λ V steady denies all. ap (holds V) is ∙ denies.third) grows
-
 -- ---- provers
 
 pub keeps-twice : (One Other Given : (Bool → Side → ℕ → Bool) → Type 0) (old mid new : Prover)
@@ -129,14 +82,21 @@ keeps-twice One Other Given old mid new one other a b = record {
   stays = λ V given models. b.stays V (other V models.steady given) (a.stays V (one V models.steady given) models);
 }
 
--- a clause is added, and what it forces
-pub keeps-added : (c : Clause) (old new : Prover) (clash : Bool) → new.clauses.clauses.items ≡ old.clauses.clauses.items ++ c ∷ []
-    → Grows (λ V. meets_clause V c ≡ true) old.trail.known.items new.trail.known.items clash → KeepsProof (λ V. meets_clause V c ≡ true) old new
-keeps-added c old new clash is grows = record {
+-- what is assumed stays
+pub models-same : (V : Bool → Side → ℕ → Bool) (old new : Prover) → new.kernel.assumed ≡ old.kernel.assumed → Models V old → Models V new
+models-same V old new same m = record { steady = m.steady; meets = subst (IsModel (valuation V)) (sym same) m.meets }
+
+pub keeps-same : (Given : (Bool → Side → ℕ → Bool) → Type 0) (old new : Prover) → new.kernel.assumed ≡ old.kernel.assumed → KeepsProof Given old new
+keeps-same Given old new same = record { stays = λ V given models. models-same V old new same models }
+
+-- a clause is added
+pub keeps-added : (c : Clause) (literals : List kernel.Literal) (old new : Prover) → literals ≡ coded_clause c
+    → new.kernel.assumed ≡ old.kernel.assumed ++ literals ∷ [] → KeepsProof (λ V. meets_clause V c ≡ true) old new
+keeps-added c literals old new is grown = record {
   stays = λ V given models. record {
     steady = models.steady;
-    clauses = subst (MeetsClauses V) (sym is) (All-push (λ (x : Clause). meets_clause V x ≡ true) old.clauses.clauses.items c models.clauses given);
-    known = grows.follows V models.steady given models.known;
+    meets = subst (IsModel (valuation V)) (sym grown) (model-more (valuation V) old.kernel.assumed literals models.meets
+        (ap (clause_value (valuation V)) is ∙ coded-value V c models.steady ∙ given));
   };
 }
 
@@ -161,31 +121,21 @@ shown-not Claim old new = record {
   claims = λ h V models. false-shown (Claim V) h;
 }
 
-pub models-same : (V : Bool → Side → ℕ → Bool) (old new : Prover) → new.clauses.clauses.items ≡ old.clauses.clauses.items
-    → new.trail.known.items ≡ old.trail.known.items → Models V old → Models V new
-models-same V old new clauses known m = record {
-  steady = m.steady;
-  clauses = subst (MeetsClauses V) (sym clauses) m.clauses;
-  known = subst (AllHold V) (sym known) m.known;
-}
+-- a clause that is always true
+pub shown-always : (c : Clause) (p : Prover) → ((V : Bool → Side → ℕ → Bool) → IsSteady V → meets_clause V c ≡ true)
+    → Shown (λ V. meets_clause V c ≡ true) p p true
+shown-always c p always = record { stays = λ h V models. models; claims = λ h V models. always V models.steady }
 
--- a clause whose denial failed
-pub sees-denied : (c : Clause) (p : Prover) (tried : List Literal) (seen : Bool) → Denied p.clauses.clauses.items c p.trail.known.items tried seen
-    → Sees p c seen
-sees-denied c p tried seen denied = record { claims = λ h V m. denied.claims h V m.steady m.clauses m.known }
-
--- what is assumed and known is as before
-pub sees-same : (c : Clause) (old new : Prover) (seen : Bool) → new.clauses.clauses.items ≡ old.clauses.clauses.items
-    → new.trail.known.items ≡ old.trail.known.items → Sees new c seen → Sees old c seen
-sees-same c old new seen clauses known sees = record { claims = λ h V m. sees.claims h V (models-same V old new clauses known m) }
-
--- a clause that was seen to follow is added
-pub shown-added : (c : Clause) (old mid cut new : Prover) → KeepsProof (λ V. meets_clause V c ≡ true) cut new → KeepsProof (λ V. ⊤) old mid → Sees mid c true
-    → cut.clauses.clauses.items ≡ mid.clauses.clauses.items → cut.trail.known.items ≡ mid.trail.known.items
-    → Shown (λ V. meets_clause V c ≡ true) old new true
-shown-added c old mid cut new keeps settled sees clauses known = record {
-  stays = λ h V models. let m = settled.stays V tt models in keeps.stays V (sees.claims refl V m) (models-same V mid cut clauses known m);
-  claims = λ h V models. sees.claims refl V (settled.stays V tt models);
+-- a clause whose denial is refuted
+pub shown-refuted : (c : Clause) (literals denial : List kernel.Literal) (old new : Prover) (shown : Bool) → literals ≡ coded_clause c
+    → denial ≡ map kernel_opposite literals → new.kernel.assumed ≡ old.kernel.assumed
+    → (shown ≡ true → Follows new.kernel.assumed (map kernel_opposite denial)) → Shown (λ V. meets_clause V c ≡ true) old new shown
+shown-refuted c literals denial old new shown is denied same follows = record {
+  stays = λ h V models. models-same V old new same models;
+  claims = λ h V models.
+      let model = (models-same V old new same models).meets in
+      let twice : map kernel_opposite denial ≡ coded_clause c = ap (map kernel_opposite) denied ∙ opposites-twice literals ∙ is in
+      sym (coded-value V c models.steady) ∙ ap (clause_value (valuation V)) (sym twice) ∙ follows h (valuation V) model;
 }
 
 -- the three clauses of an equation are shown
@@ -234,12 +184,11 @@ entails-claimed assumed claims failing old new begins claimed none = record {
   entails = λ V steady all. claimed.meets none V (begins.models V steady all);
 }
 
-pub begins-none : (p : Prover) → p.clauses.clauses.items ≡ [] → p.trail.known.items ≡ [] → Begins [] p
-begins-none p clauses known = record {
+pub begins-none : (p : Prover) → p.kernel.assumed ≡ [] → Begins [] p
+begins-none p none = record {
   models = λ V steady all. record {
     steady = steady;
-    clauses = subst (MeetsClauses V) (sym clauses) (λ k d low. absurd (omega arith));
-    known = subst (AllHold V) (sym known) (λ k d low. absurd (omega arith));
+    meets = subst (IsModel (valuation V)) (sym none) refl;
   };
 }
 

@@ -1,4 +1,4 @@
-mod Knowledge
+mod Coded
 mod Clausal
 mod Meeting
 mod Listing

@@ -18,8 +18,8 @@ abbrev pub AlikeFrom : Netlist → Netlist → List Bool → List Bool → Type 
 AlikeFrom old new s t = (items : List Item) → EachEvent (IsWide old) items
     → map (shown new) (values_from new t items) ≡ map (shown old) (values_from old s items)
 
--- The new netlist follows the old one: over all items whose events have one value for each input both show the same,
--- and from states that match in this the machine of the one does step by step what that of the other does.
+-- The new netlist follows the old one: over all items whose events have one value for each input both show the same.
+-- `follows` says this in the words of machines, and adds nothing to `runs`: laws on machines take it as it is.
 pub record IsFollowed (old new : Netlist) : Type 0 where
   pub runs : (items : List Item) → EachEvent (IsWide old) items → net_run new items ≡ net_run old items
   pub follows : Follows (net_machine old) (net_machine new) (IsWide old) (ShowSame old new) (AlikeFrom old new)

@@ -1,5 +1,5 @@
 pub mod Literals
-pub mod Knowledge
+pub mod Coding
 pub mod Proving
 pub mod Frames
 pub mod Following

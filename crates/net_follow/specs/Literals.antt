@@ -42,13 +42,6 @@ Meets V e = holds V e.out ≡ (holds V e.left && holds V e.right)
 abbrev pub MeetsAll : (Bool → Side → ℕ → Bool) → List Equation → Type 0
 MeetsAll V es = All (λ e. Meets V e) es
 
--- what is known is true
-abbrev pub AllHold : (Bool → Side → ℕ → Bool) → List Literal → Type 0
-AllHold V known = All (λ l. holds V l ≡ true) known
-
-abbrev pub MeetsClauses : (Bool → Side → ℕ → Bool) → List Clause → Type 0
-MeetsClauses V cs = All (λ c. meets_clause V c ≡ true) cs
-
 -- the clauses of an equation, the one that says when it is true first
 abbrev pub from_parts : Equation → Clause
 from_parts e = record { first = e.out; second = opposite e.left; third = opposite e.right }

@@ -1,17 +1,16 @@
--- Inner: what a prover assumes and knows, and what follows from it.
+-- Inner: what a prover assumes, and what follows from it.
 use Rattle.std.specs.Prelude.{◌≡◌, ◌⊎◌, ℕ, Bool, true, List, [], ◌∷◌, ◌++◌}
+use Rattle.sat_kernel.specs.Clauses.{IsModel}
 use Rattle.net_follow.specs.declared.literals.Side.{Side}
-use Rattle.net_follow.specs.declared.literals.Literal.{Literal}
 use Rattle.net_follow.specs.declared.literals.Equation.{Equation}
-use Rattle.net_follow.specs.declared.literals.Clause.{Clause}
 use Rattle.net_follow.specs.declared.proving.Prover.{Prover}
-use Rattle.net_follow.specs.Literals.{IsSteady, holds, opposite, AllHold, MeetsClauses, Meets, MeetsAll, meets_clause}
+use Rattle.net_follow.specs.Literals.{IsSteady, Meets, MeetsAll}
+use Rattle.net_follow.specs.Coding.{valuation}
 
--- these values meet what is assumed and what is known
+-- these values meet what is assumed
 pub record Models (V : Bool → Side → ℕ → Bool) (p : Prover) : Type 0 where
   pub steady : IsSteady V
-  pub clauses : MeetsClauses V p.clauses.clauses.items
-  pub known : AllHold V p.trail.known.items
+  pub meets : IsModel (valuation V) p.kernel.assumed
 
 -- values that meet what was assumed, and the premise, meet what is assumed now
 pub record KeepsProof (Given : (Bool → Side → ℕ → Bool) → Type 0) (old new : Prover) : Type 0 where
@@ -21,23 +20,6 @@ pub record KeepsProof (Given : (Bool → Side → ℕ → Bool) → Type 0) (old
 pub record Shown (Claim : (Bool → Side → ℕ → Bool) → Type 0) (old new : Prover) (shown : Bool) : Type 0 where
   pub stays : shown ≡ true → (V : Bool → Side → ℕ → Bool) → Models V old → Models V new
   pub claims : shown ≡ true → (V : Bool → Side → ℕ → Bool) → Models V old → Claim V
-
--- where it is seen, the clause follows from what is assumed and known
-pub record Sees (p : Prover) (c : Clause) (seen : Bool) : Type 0 where
-  pub claims : seen ≡ true → (V : Bool → Side → ℕ → Bool) → Models V p → meets_clause V c ≡ true
-
--- each literal of the clause is false
-pub record Denies (c : Clause) (V : Bool → Side → ℕ → Bool) : Type 0 where
-  pub first : holds V (opposite c.first) ≡ true
-  pub second : holds V (opposite c.second) ≡ true
-  pub third : holds V (opposite c.third) ≡ true
-
--- the clause was denied, and where that failed it follows
-pub record Denied (clauses : List Clause) (clause : Clause) (old new : List Literal) (shown : Bool) : Type 0 where
-  pub more : List Literal
-  pub is : new ≡ old ++ more
-  pub claims : shown ≡ true → (V : Bool → Side → ℕ → Bool) → IsSteady V → MeetsClauses V clauses → AllHold V old
-      → meets_clause V clause ≡ true
 
 -- the prover assumes no more than these equations
 pub record Begins (assumed : List Equation) (p : Prover) : Type 0 where

@@ -7,14 +7,15 @@ ghost use Rattle.net_follow.specs.Proving.{Entails, Noted};
 ghost use Rattle.net_follow.specs.Inducing.{own_equations, is_late};
 
 use crate::frames::{push_gates, push_inits, push_links, push_moved};
-use crate::literals::{Equation, Literal, Side, constant, opposite};
+use crate::literals::{Equation, Side};
+use crate::parting::Parting;
 use crate::proving::{Prover, assuming};
 use base_types::NoMemory;
 use net_ir::Net;
 use std::alloc::Global;
 
-// With how many nets that were parted from one net before it a net is compared.
-const HEIRS: usize = 4;
+// How often what a claim was split to is claimed.
+const TRIES: usize = 16;
 
 /// Which instant equations are to hold in.
 #[derive(Clone, Copy)]
@@ -46,10 +47,11 @@ pub fn inductive_claims(
         → Entails (own_equations instant (netlist_of net.now) claims.now)
         (map (moved_equation (is_late instant)) claims.now)) }
 {
+    let late = is_late(instant);
     let assumed = known_equations(alloc, net, claims, instant)?;
     let mut moved = Vec::new(alloc);
-    push_moved(&mut moved, is_late(instant), claims)?;
-    parted_claims(alloc, net_count(net), &assumed, &moved)
+    push_moved(&mut moved, late, claims)?;
+    parted_claims(alloc, net, late, &assumed, &moved)
 }
 
 fn is_late(instant: Instant) -> bool
@@ -93,31 +95,31 @@ fn net_count(net: &Net) -> usize {
 // What is left of the claims, where these equations are known.
 fn parted_claims(
     alloc: Global,
-    nets: usize,
+    net: &Net,
+    late: bool,
     known: &[Equation],
     claims: &[Equation],
 ) -> Result<Parted, NoMemory>
     ensures { IfOk result (λ p. p.unshown.items ≡ [] → Entails known.now claims.now) }
 {
+    let nets = net_count(net);
     let mut prover = assuming(alloc, nets, known)?;
-    let mut parting = Parting {
-        shown: Vec::new(alloc),
-        heirs: vec![in alloc; constant(true); nets.saturating_add(1)]?,
-    };
+    let mut parting = Parting::new(alloc, nets, late, claims)?;
     let mut unshown = Vec::new(alloc);
     for (k, claim) in claims.iter().enumerate() {
-        part_at(&mut parting, &mut prover, &mut unshown, k, *claim)?;
+        part_at(net, &mut parting, &mut prover, &mut unshown, k, *claim)?;
     }
-    let Parting { shown, heirs: _ } = parting;
+    let Parting { shown, .. } = parting;
     Ok(Parted {
         claims: shown,
         unshown,
     })
 }
 
-// Claims an equation. Where it is not shown, its place is noted, and the net is compared with those that were parted
-// from the same before it.
+// Claims an equation. Where it is not shown, or was split before, its place is noted, and what it was split to is
+// claimed.
 fn part_at(
+    net: &Net,
     parting: &mut Parting,
     prover: &mut Prover,
     unshown: &mut Vec<usize>,
@@ -126,75 +128,34 @@ fn part_at(
 ) -> Result<(), NoMemory>
     ensures { OnOk result (Noted claim place unshown.old.items unshown.new.items prover.old prover.new) }
 {
-    if prover.follows(claim)? {
-        parting.shown.push(claim)?;
-        return Ok(());
+    if parting.is_whole(place) {
+        if prover.follows(claim)? {
+            parting.shown.push(claim)?;
+            return Ok(());
+        }
+        parting.split(net, &prover.values, place)?;
     }
     unshown.push(place)?;
-    parting.rejoin(prover, claim)?;
+    rejoin(net, parting, prover, place)?;
     Ok(())
 }
 
-// The claims that were shown, and for each net, by its place behind what is always true, the first one that was parted
-// from it, or behind it from the same; it is always true where there is none.
-#[derive(Drop)]
-struct Parting {
-    shown: Vec<Equation>,
-    heirs: Vec<Literal>,
-}
-
-impl Parting {
-    // Claims that a net that does not have the value of this one has that of one that was parted from it before.
-    fn rejoin(&mut self, prover: &mut Prover, claim: Equation) -> Result<(), NoMemory> {
-        let mut now = claim;
-        for _heir in 0..HEIRS {
-            let place = place_of(now.left);
-            let heir = self.heir(place);
-            if heir.side == Side::Always {
-                self.add_heir(place, now);
-                return Ok(());
-            }
-            now = Equation {
-                left: if now.left.positive {
-                    heir
-                } else {
-                    opposite(heir)
-                },
-                ..now
-            };
-            if prover.follows(now)? {
-                self.shown.push(now)?;
-                return Ok(());
-            }
+// Claims what a claim was split to, and splits it again where that is not shown.
+fn rejoin(
+    net: &Net,
+    parting: &mut Parting,
+    prover: &mut Prover,
+    place: usize,
+) -> Result<(), NoMemory> {
+    for _ in 0..TRIES {
+        let Some(now) = parting.claim(place) else {
+            return Ok(());
+        };
+        if prover.follows(now)? {
+            parting.shown.push(now)?;
+            return Ok(());
         }
-        Ok(())
+        parting.split(net, &prover.values, place)?;
     }
-
-    fn heir(&self, place: usize) -> Literal {
-        if place < self.heirs.len() {
-            self.heirs[place]
-        } else {
-            constant(true)
-        }
-    }
-
-    // The net is the first one that was parted from what it was claimed to be.
-    fn add_heir(&mut self, place: usize, claim: Equation) {
-        if place < self.heirs.len() {
-            self.heirs[place] = if claim.left.positive {
-                claim.out
-            } else {
-                opposite(claim.out)
-            };
-        }
-    }
-}
-
-// The place of a net behind what is always true.
-fn place_of(literal: Literal) -> usize {
-    if literal.side == Side::Always {
-        0
-    } else {
-        literal.number as usize + 1
-    }
+    Ok(())
 }

@@ -1,112 +1,65 @@
 // Equations that follow from others.
 
-ghost use Rattle.std.specs.Prelude.{⊤, ◌≡◌, [], true, IfOk, OnOk};
+ghost use Rattle.std.specs.Prelude.{◌≡◌, [], true, map, IfOk, OnOk};
+ghost use Rattle.sat_kernel.specs.Clauses.{Follows, opposite};
 ghost use Rattle.net_follow.specs.Literals.{meets_clause, Meets, from_parts, to_left, to_right};
-ghost use Rattle.net_follow.specs.Proving.{KeepsProof, Shown, Sees, Denies, Denied, Begins, Noted, Entails};
-ghost use Rattle.net_follow.specs.Knowledge.{Grows};
+ghost use Rattle.net_follow.specs.Proving.{KeepsProof, Shown, Begins, Noted, Entails};
 
-use crate::clauses::Clauses;
+use crate::coding::{coded, is_always, opposites};
 use crate::literals::{Clause, Equation, constant, opposite};
-use crate::refuting::{look_at, propagate, refutes};
-use crate::trails::Trail;
 use base_types::NoMemory;
+use sat_kernel::{Kernel, Premise};
+use sat_search::{Search, SearchOutcome};
 use std::alloc::Global;
 
-// How many literals are tried in one another.
-const DEPTH: usize = 40;
+// The effort of one question.
+const EFFORT: u64 = 2_000_000;
 
-// How much is done to show a clause: how many clauses are looked at of each literal, behind each one that is tried, and
-// in all; and how often one is tried.
-#[derive(Clone, Copy)]
-struct Effort {
-    reach: u64,
-    allowance: u64,
-    fuel: u64,
-    tries: u64,
+// The effort of all questions over so many nets.
+fn patience(nets: usize) -> u64 {
+    (nets as u64)
+        .saturating_mul(20_000)
+        .saturating_add(50_000_000)
 }
 
-const LITTLE: Effort = Effort {
-    reach: 4,
-    allowance: 30,
-    fuel: 60,
-    tries: 1,
-};
-
-const SOME: Effort = Effort {
-    reach: 12,
-    allowance: 400,
-    fuel: 3_200,
-    tries: 8,
-};
-
-const MORE: Effort = Effort {
-    reach: 30,
-    allowance: 1_500,
-    fuel: 4_000,
-    tries: 8,
-};
-
-const MUCH: Effort = Effort {
-    reach: u64::MAX,
-    allowance: 6_000,
-    fuel: 12_000,
-    tries: 40,
-};
-
-// The greatest effort over so many nets: behind each literal that is tried all that it forces can be looked at.
-fn most(nets: u64) -> Effort {
-    let allowance = nets.saturating_mul(12).max(240_000);
-    Effort {
-        reach: u64::MAX,
-        allowance,
-        fuel: allowance.saturating_mul(10),
-        tries: 40,
-    }
-}
-
-// How many clauses may be looked at in vain over so many nets before the greatest effort is spared; and as many more
-// before only less effort is made. Where nets are few, a check is short, and more may be in vain. What is looked at
-// with success is given back.
-fn patience(nets: u64) -> u64 {
-    let few = 30_000_000_u64.saturating_sub(nets.saturating_mul(4_000));
-    nets.saturating_mul(200).max(few)
-}
-
-/// What is assumed, and what is known by it. All that is known up to `settled` has been followed up. `most` is the
-/// greatest effort, which is made while there is more `patience` than `spared`.
+/// What is assumed, in a kernel, and a search over it. Both have the same clauses.
 #[derive(Drop)]
 pub(crate) struct Prover {
-    pub clauses: Clauses,
-    pub trail: Trail,
-    settled: usize,
-    most: Effort,
-    spared: u64,
+    alloc: Global,
+    pub kernel: Kernel,
+    search: Search,
+    count: usize,
     patience: u64,
+    /// The values of the variables in the last counterexample.
+    pub values: Vec<bool>,
 }
 
 impl Prover {
     // Nothing is assumed, over this many nets in one instant of one netlist.
     fn new(alloc: Global, nets: usize) -> Result<Prover, NoMemory>
-        ensures clauses { IfOk result (λ p. p.clauses.clauses.items ≡ []) }
-        ensures known { IfOk result (λ p. p.trail.known.items ≡ []) }
+        ensures { IfOk result (λ p. p.kernel.assumed ≡ []) }
     {
-        let spared = patience(nets as u64);
+        let variables = nets.saturating_add(1).saturating_mul(4);
         Ok(Prover {
-            clauses: Clauses::new(alloc, nets)?,
-            trail: Trail::new(alloc, nets)?,
-            settled: 0,
-            most: most(nets as u64),
-            spared,
-            patience: spared.saturating_mul(2),
+            alloc,
+            kernel: Kernel::new(alloc, variables, Vec::new(alloc))?,
+            search: Search::new(alloc),
+            count: 0,
+            patience: patience(nets),
+            values: Vec::new(alloc),
         })
     }
 
-    // Assumes a clause.
+    // Assumes a clause. One over nets of too large numbers is left out.
     fn add(&mut self, clause: Clause) -> Result<(), NoMemory>
         ensures { OnOk result (KeepsProof (λ V. meets_clause V clause ≡ true) self.old self.new) }
     {
-        self.clauses.add(clause)?;
-        let _clash = look_at(&mut self.trail, clause)?;
+        let Some(literals) = coded(self.alloc, clause)? else {
+            return Ok(());
+        };
+        self.search.add(&literals, Premise::Assumed(self.count))?;
+        self.kernel.assume(literals)?;
+        self.count = self.count.saturating_add(1);
         Ok(())
     }
 
@@ -120,91 +73,47 @@ impl Prover {
         Ok(())
     }
 
-    // Follows up what is known.
-    fn settle(&mut self) -> Result<(), NoMemory>
-        ensures clauses { OnOk result (self.new.clauses ≡ self.old.clauses) }
-        ensures keeps { OnOk result (KeepsProof (λ V. ⊤) self.old self.new) }
-    {
-        self.trail.effort = u64::MAX;
-        self.trail.reach = u64::MAX;
-        let _clash = propagate(&self.clauses, &mut self.trail, self.settled)?;
-        self.settled = self.trail.known.len();
-        Ok(())
-    }
-
-    // Whether a clause follows; if so, it is assumed from then on.
+    // Reports whether a clause follows, as far as the effort shows.
     fn shows(&mut self, clause: Clause) -> Result<bool, NoMemory>
         ensures { IfOk result (Shown (λ V. meets_clause V clause ≡ true) self.old self.new) }
     {
-        self.settle()?;
-        if !self.sees(clause)? {
+        if is_always(clause) {
+            return Ok(true);
+        }
+        let Some(literals) = coded(self.alloc, clause)? else {
             return Ok(false);
-        }
-        self.add(clause)?;
-        Ok(true)
-    }
-
-    // Whether a clause follows, by little effort or by more.
-    fn sees(&mut self, clause: Clause) -> Result<bool, NoMemory>
-        ensures clauses { OnOk result (self.new.clauses ≡ self.old.clauses) }
-        ensures known { OnOk result (self.new.trail.known.items ≡ self.old.trail.known.items) }
-        ensures sees { IfOk result (Sees self.old clause) }
-    {
-        if self.sees_by(clause, LITTLE)? {
-            return Ok(true);
-        }
-        if self.sees_by(clause, SOME)? {
-            return Ok(true);
-        }
-        if self.sees_by(clause, MORE)? {
-            return Ok(true);
-        }
-        self.sees_at_last(clause)
-    }
-
-    // Whether a clause follows, by the effort for which there is patience; where that does not show it, there is less.
-    fn sees_at_last(&mut self, clause: Clause) -> Result<bool, NoMemory>
-        ensures clauses { OnOk result (self.new.clauses ≡ self.old.clauses) }
-        ensures known { OnOk result (self.new.trail.known.items ≡ self.old.trail.known.items) }
-        ensures sees { IfOk result (Sees self.old clause) }
-    {
-        if self.patience == 0 {
-            return Ok(false);
-        }
-        let effort = if self.patience > self.spared {
-            self.most
-        } else {
-            MUCH
         };
-        let seen = self.sees_by(clause, effort)?;
-        let spent = effort.fuel.saturating_sub(self.trail.fuel);
-        self.patience = if seen {
-            self.patience
-                .saturating_add(spent)
-                .min(self.spared.saturating_mul(2))
-        } else {
-            self.patience.saturating_sub(spent)
-        };
-        Ok(seen)
+        let denial = opposites(self.alloc, &literals)?;
+        Ok(self.refutes(&denial)?)
     }
 
-    // Whether a clause follows, as far as this effort shows.
-    fn sees_by(&mut self, clause: Clause, effort: Effort) -> Result<bool, NoMemory>
-        ensures clauses { OnOk result (self.new.clauses ≡ self.old.clauses) }
-        ensures known { OnOk result (self.new.trail.known.items ≡ self.old.trail.known.items) }
-        ensures sees { IfOk result (Sees self.old clause) }
+    // Reports whether one of the literals is false wherever all that is assumed holds.
+    fn refutes(&mut self, literals: &[sat_kernel::Literal]) -> Result<bool, NoMemory>
+        ensures assumed { OnOk result (self.new.kernel.assumed ≡ self.old.kernel.assumed) }
+        ensures follows { IfOk result (λ refuted. refuted ≡ true
+            → Follows self.new.kernel.assumed (map opposite literals.now)) }
     {
-        let mark = self.trail.known.len();
-        self.trail.tries = effort.tries;
-        self.trail.allowance = effort.allowance;
-        self.trail.fuel = effort.fuel;
-        self.trail.reach = effort.reach;
-        let seen = denial_fails(&self.clauses, &mut self.trail, clause)?;
-        self.trail.known.truncate(mark);
-        Ok(seen)
+        let effort = EFFORT.min(self.patience);
+        let outcome = self.search.solve(&mut self.kernel, literals, effort)?;
+        let spent = effort.saturating_sub(self.search.effort_left());
+        self.patience = self.patience.saturating_sub(spent);
+        match outcome {
+            SearchOutcome::Unsatisfiable(refutation) => {
+                self.search.add(&refutation.clause, refutation.premise)?;
+                Ok(true)
+            }
+            SearchOutcome::Satisfiable(values) => {
+                self.values = values;
+                Ok(false)
+            }
+            SearchOutcome::Contradicting(_) | SearchOutcome::Unknown => {
+                self.values.clear();
+                Ok(false)
+            }
+        }
     }
 
-    /// Whether an equation follows; if so, it is assumed from then on.
+    /// Reports whether an equation follows.
     pub fn follows(&mut self, equation: Equation) -> Result<bool, NoMemory>
         ensures { IfOk result (Shown (λ V. Meets V equation) self.old self.new) }
     {
@@ -217,7 +126,7 @@ impl Prover {
         Ok(self.shows(to_right(equation))?)
     }
 
-    // Whether an equation follows; it is assumed from then on in any case.
+    // Reports whether an equation follows. If not, it is assumed from then on.
     fn claim(&mut self, equation: Equation) -> Result<bool, NoMemory>
         ensures { IfOk result (Shown (λ V. Meets V equation) self.old self.new) }
     {
@@ -228,31 +137,6 @@ impl Prover {
         Ok(false)
     }
 }
-
-// Whether a clause cannot be false.
-fn denial_fails(clauses: &Clauses, trail: &mut Trail, clause: Clause) -> Result<bool, NoMemory>
-    ensures { IfOk result (Denied clauses.now.clauses.items clause trail.old.known.items trail.new.known.items) }
-{
-    let mark = trail.known.len();
-    if denies(trail, clause)? {
-        return Ok(true);
-    }
-    Ok(refutes(clauses, trail, mark, mark, DEPTH)?)
-}
-
-// Learns that each literal of a clause is false, and tells whether that contradicts what is known.
-fn denies(trail: &mut Trail, clause: Clause) -> Result<bool, NoMemory>
-    ensures { IfOk result (Grows (Denies clause) trail.old.known.items trail.new.known.items) }
-{
-    if trail.learn(opposite(clause.first))? {
-        return Ok(true);
-    }
-    if trail.learn(opposite(clause.second))? {
-        return Ok(true);
-    }
-    Ok(trail.learn(opposite(clause.third))?)
-}
-
 // The clauses of an equation.
 fn from_parts(equation: Equation) -> Clause
     ensures { result ≡ from_parts equation }

@@ -15,7 +15,7 @@ use crate::simulating::histories;
 use crate::trying::{Change, tried_classes};
 use base_types::NoMemory;
 use net_follow::{Instant, inductive_claims};
-use net_ir::Net;
+use net_ir::{Net, Op};
 use net_simp::simplify;
 use std::alloc::Global;
 
@@ -24,21 +24,16 @@ const ROUNDS: usize = 100;
 
 const TRIALS: usize = 20;
 
-// How many passes there are at most.
-const PASSES: usize = 12;
-
-// How many passes in a row may bring nothing.
-const IDLE: usize = 5;
-
 // How often a pass that rewrites does so.
-const REWRITES: usize = 5;
+const REWRITES: usize = 12;
 
-// Of how many gates and latches a netlist is small; what a latch may cost to go then; and what it weighs.
-const SMALL: usize = 600;
-
-const WORTH: usize = 12;
+// How many pairs more a latch may cost that a gate tells.
+const WORTH: usize = 0;
 
 const LATCH_WEIGHT: usize = 10;
+
+// What a gate of two nets weighs; a negation weighs one.
+const PAIR_WEIGHT: usize = 4;
 
 /// A netlist that does what the given one does, with no more gates and no more latches: the same inputs and outputs, in
 /// the same order, and over every list of items, resets included, the same outputs and `paused`. Latches and gates go
@@ -60,33 +55,64 @@ pub fn optimize(alloc: Global, net: &Net) -> Result<Net, NoMemory>
     }
 }
 
-// The lightest that the passes find, where the netlist is small on several ways.
+// The lightest that the passes find, where it is not larger.
 fn searched_net(alloc: Global, net: &Net) -> Result<Net, NoMemory>
     ensures { IfOk result (λ new. Optimizes (netlist_of net.now) (netlist_of new)) }
 {
-    let mut best = begun_net(alloc, net)?;
-    let exclusions = exclusions_of(alloc, &best)?;
-    let ways: usize = if size_of(net) > SMALL { 1 } else { WAYS };
-    'ways: for number in 0..ways {
-        let other = passed_net(alloc, net, way_of(number), &exclusions)?;
-        best = lighter(net, best, other);
+    let begun = begun_net(alloc, net)?;
+    let found = found_net(alloc, net)?;
+    Ok(lighter(net, begun, found))
+}
+
+// What the passes find: nets are made one, then the graph is rewritten.
+fn found_net(alloc: Global, net: &Net) -> Result<Net, NoMemory>
+    ensures { IfOk result (λ new. Replaces (netlist_of net.now) (netlist_of new)) }
+{
+    let ordered = ordered_net(alloc, net)?;
+    let exclusions = exclusions_of(alloc, &ordered)?;
+    let mut later = no_exclusions(alloc);
+    let merged = passed_net(alloc, ordered, &MERGING, &exclusions, &mut later)?;
+    let best = rewritten_net(alloc, merged, &exclusions, &mut later)?;
+    Ok(passed_net(alloc, best, &FINISHING, &exclusions, &mut later)?)
+}
+
+// A netlist that is rewritten as it is, or, where there are few inputs and latches, as the functions of its roots make
+// it, if that is lighter.
+fn rewritten_net(
+    alloc: Global,
+    merged: Net,
+    exclusions: &Exclusions,
+    later: &mut Exclusions,
+) -> Result<Net, NoMemory>
+    ensures { IfOk result (λ new. (given : Netlist) → Replaces given (netlist_of merged)
+        → Replaces given (netlist_of new)) }
+{
+    let made = changed_net(alloc, &merged, Change::Collapse, exclusions)?;
+    let plain = passed_net(alloc, merged, &REWRITING, exclusions, later)?;
+    match made {
+        Some(other) => {
+            let remade = passed_net(alloc, other, &REWRITING, exclusions, later)?;
+            Ok(lighter_of(plain, remade))
+        }
+        None => Ok(plain),
     }
-    Ok(best)
 }
 
-// How the passes go: whether the gates are brought in order first, and how many pairs a latch may cost to go.
-#[derive(Clone, Copy)]
-struct Way {
-    ordered: bool,
-    worth: usize,
-}
+const MERGING: [Pass; 2] = [Pass::Merge, Pass::Merge];
 
-const WAYS: usize = 4;
+const REWRITING: [Pass; 4] = [Pass::Balance, Pass::Rewrite, Pass::Balance, Pass::Rewrite];
 
-fn way_of(number: usize) -> Way {
-    Way {
-        ordered: number < 2,
-        worth: if number % 2 == 0 { 0 } else { WORTH },
+const FINISHING: [Pass; 3] = [Pass::Merge, Pass::Balance, Pass::Rewrite];
+
+// The netlist that weighs less.
+fn lighter_of(one: Net, other: Net) -> Net
+    ensures { (given : Netlist) → Replaces given (netlist_of one) → Replaces given (netlist_of other)
+        → Replaces given (netlist_of result) }
+{
+    if weight(&other) < weight(&one) {
+        other
+    } else {
+        one
     }
 }
 
@@ -110,40 +136,46 @@ fn lighter(net: &Net, best: Net, other: Net) -> Net
 }
 
 fn weight(net: &Net) -> usize {
-    net.latches
-        .len()
-        .saturating_mul(LATCH_WEIGHT)
-        .saturating_add(net.gates.len())
+    let mut weight = net.latches.len().saturating_mul(LATCH_WEIGHT * PAIR_WEIGHT);
+    for gate in &net.gates {
+        weight = weight.saturating_add(gate_weight(gate.op));
+    }
+    weight
 }
 
-// What the passes make of it, each a smaller netlist or none. What is excluded is known of the given one.
-fn passed_net(alloc: Global, net: &Net, way: Way, exclusions: &Exclusions) -> Result<Net, NoMemory>
-    ensures { IfOk result (λ new. Replaces (netlist_of net.now) (netlist_of new)) }
+fn gate_weight(op: Op) -> usize {
+    match op {
+        Op::Const(_) => 0,
+        Op::Copy(_) | Op::Not(_) => 1,
+        Op::And(_, _) | Op::Or(_, _) => PAIR_WEIGHT,
+    }
+}
+
+// What the passes make of a netlist, each a lighter one or none. What is excluded is known of the given one, and later
+// of one with fewer latches.
+fn passed_net(
+    alloc: Global,
+    start: Net,
+    passes: &[Pass],
+    exclusions: &Exclusions,
+    later: &mut Exclusions,
+) -> Result<Net, NoMemory>
+    ensures { IfOk result (λ new. (given : Netlist) → Replaces given (netlist_of start)
+        → Replaces given (netlist_of new)) }
 {
-    let mut best = ordered_net(alloc, net, way)?;
-    let mut last = no_exclusions(alloc);
-    let mut idle: usize = 0;
-    'passes: for place in 0..PASSES {
-        let size = size_of(&best);
-        let pass = pass_at(place, way.worth);
-        let new = improved_at(alloc, &best, pass, exclusions, &mut last)?;
+    let mut best = start;
+    'passes: for pass in passes {
+        let new = improved_at(alloc, &best, *pass, exclusions, later)?;
         best = chosen(best, new);
-        idle = idle_passes(idle, size, size_of(&best));
-        if idle >= IDLE {
-            return Ok(best);
-        }
     }
     Ok(best)
 }
 
-// The netlist that the passes begin with.
-fn ordered_net(alloc: Global, net: &Net, way: Way) -> Result<Net, NoMemory>
+// The netlist that the passes begin with: its gates stand in the order of need.
+fn ordered_net(alloc: Global, net: &Net) -> Result<Net, NoMemory>
     ensures { IfOk result (λ new. Replaces (netlist_of net.now) (netlist_of new)) }
 {
     let begun = begun_net(alloc, net)?;
-    if !way.ordered {
-        return Ok(begun);
-    }
     match changed_net(alloc, &begun, Change::Order, &no_exclusions(alloc))? {
         Some(new) => Ok(new),
         None => Ok(begun),
@@ -164,43 +196,17 @@ fn begun_net(alloc: Global, net: &Net) -> Result<Net, NoMemory>
 // What a pass does.
 #[derive(Clone, Copy)]
 enum Pass {
-    // Nets that are equal or opposite become one, and latches go that gates tell at this price.
-    Merge(usize),
+    // Nets that are equal or opposite become one, and latches go that gates tell.
+    Merge,
     // What many nets say together is balanced by depth.
     Balance,
     // Parts are replaced by smaller ones that compute the same.
     Rewrite,
 }
 
-// The pass of a place: nets are made one twice at first; then chains are balanced, parts are rewritten, and nets are
-// made one again, in turn.
-fn pass_at(place: usize, worth: usize) -> Pass {
-    if place % 3 == 2 {
-        Pass::Balance
-    } else if place > 0 && place % 3 == 0 {
-        Pass::Rewrite
-    } else {
-        Pass::Merge(worth)
-    }
-}
-
-// The gates and the latches together.
-fn size_of(net: &Net) -> usize {
-    net.gates.len().saturating_add(net.latches.len())
-}
-
-// How many passes in a row brought nothing, behind one that found this size in place of the other.
-fn idle_passes(idle: usize, before: usize, now: usize) -> usize {
-    if now < before {
-        0
-    } else {
-        idle.saturating_add(1)
-    }
-}
-
 // The new netlist, if there is one.
 fn chosen(best: Net, new: Option<Net>) -> Net
-    requires { IfSome new (λ n. Optimizes (netlist_of best) (netlist_of n)) }
+    requires { IfSome new (λ n. Replaces (netlist_of best) (netlist_of n)) }
     ensures { (given : Netlist) → Replaces given (netlist_of best) → Replaces given (netlist_of result) }
 {
     match new {
@@ -218,7 +224,7 @@ fn improved_at(
     first: &Exclusions,
     last: &mut Exclusions,
 ) -> Result<Option<Net>, NoMemory>
-    ensures { IfOk result (λ o. IfSome o (λ new. Optimizes (netlist_of net.now) (netlist_of new))) }
+    ensures { IfOk result (λ o. IfSome o (λ new. Replaces (netlist_of net.now) (netlist_of new))) }
 {
     if let Pass::Balance = pass {
         return improved(alloc, net, pass, &no_exclusions(alloc));
@@ -232,22 +238,19 @@ fn improved_at(
     improved(alloc, net, pass, last)
 }
 
-// What a pass makes of a netlist, where that has no more gates and no more latches.
+// What a pass makes of a netlist, where that weighs no more.
 fn improved(
     alloc: Global,
     net: &Net,
     pass: Pass,
     exclusions: &Exclusions,
 ) -> Result<Option<Net>, NoMemory>
-    ensures { IfOk result (λ o. IfSome o (λ new. Optimizes (netlist_of net.now) (netlist_of new))) }
+    ensures { IfOk result (λ o. IfSome o (λ new. Replaces (netlist_of net.now) (netlist_of new))) }
 {
     let Some(new) = passed(alloc, net, pass, exclusions)? else {
         return Ok(None);
     };
-    if new.gates.len() > net.gates.len() {
-        return Ok(None);
-    }
-    if new.latches.len() > net.latches.len() {
+    if weight(&new) > weight(net) {
         return Ok(None);
     }
     Ok(Some(new))
@@ -263,7 +266,7 @@ fn passed(
     ensures { IfOk result (λ o. IfSome o (λ new. Replaces (netlist_of net.now) (netlist_of new))) }
 {
     match pass {
-        Pass::Merge(worth) => merged_net(alloc, net, worth, exclusions),
+        Pass::Merge => merged_net(alloc, net, WORTH, exclusions),
         Pass::Balance => changed_net(alloc, net, Change::Balance, exclusions),
         Pass::Rewrite => changed_net(alloc, net, Change::Rewrite(REWRITES), exclusions),
     }

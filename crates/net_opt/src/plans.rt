@@ -16,17 +16,94 @@ pub(crate) struct Plan {
     pub lefts: Vec<Edge>,
     pub rights: Vec<Edge>,
     pub root: Edge,
+    turn: usize,
 }
 
-/// A graph that computes one of these functions.
-pub(crate) fn planned(alloc: Global, functions: Between) -> Result<Plan, NoMemory> {
+// A graph that computes one of these functions. Different turns prefer different variables where several ways cost the
+// same.
+fn planned(alloc: Global, functions: Between, turn: usize) -> Result<Plan, NoMemory> {
     let mut plan = Plan {
         lefts: Vec::new(alloc),
         rights: Vec::new(alloc),
         root: TRUE,
+        turn,
     };
     plan.root = plan.edge_between(functions, VARIABLES + 1)?;
     Ok(plan)
+}
+
+// A power of two: how many plans can be found again at one time.
+const SLOTS: usize = 4_096;
+
+// Beyond this count plans are made anew.
+const MOST: usize = 20_000;
+
+// What a plan was made for, and its place.
+#[derive(Clone, Copy)]
+struct Slot {
+    functions: Between,
+    place: usize,
+}
+
+/// Plans by the functions that they were made for, so that most are made once.
+#[derive(Drop)]
+pub(crate) struct Plans {
+    plans: Vec<Plan>,
+    slots: Vec<Slot>,
+    turn: usize,
+}
+
+impl Plans {
+    pub fn new(alloc: Global, turn: usize) -> Result<Plans, NoMemory> {
+        let none = Slot {
+            functions: Between { low: 0, high: 0 },
+            place: usize::MAX,
+        };
+        Ok(Plans {
+            plans: Vec::new(alloc),
+            slots: vec![in alloc; none; SLOTS]?,
+            turn,
+        })
+    }
+
+    /// Forgets all plans where there are many. Places are of no use after that.
+    pub fn tidy(&mut self) {
+        if self.plans.len() > MOST {
+            self.plans.clear();
+        }
+    }
+
+    /// The place of a plan for these functions.
+    pub fn place_of(&mut self, alloc: Global, functions: Between) -> Result<usize, NoMemory> {
+        let number = slot_number(functions);
+        if number < self.slots.len() {
+            let slot = self.slots[number];
+            if slot.functions == functions && slot.place < self.plans.len() {
+                return Ok(slot.place);
+            }
+        }
+        let place = self.plans.len();
+        self.plans.push(planned(alloc, functions, self.turn)?)?;
+        if number < self.slots.len() {
+            self.slots[number] = Slot { functions, place };
+        }
+        Ok(place)
+    }
+
+    /// The plan at a place.
+    pub fn at(&self, place: usize) -> Option<&Plan> {
+        if place < self.plans.len() {
+            Some(&self.plans[place])
+        } else {
+            None
+        }
+    }
+}
+
+fn slot_number(functions: Between) -> usize {
+    let mut word = functions.low.wrapping_mul(0x9e37_79b9_7f4a_7c15);
+    word = (word ^ functions.high).wrapping_mul(0xbf58_476d_1ce4_e5b9);
+    ((word >> 40) & 0xfff) as usize
 }
 
 // How a function is made of simpler ones, where the literal is that of a variable.
@@ -65,7 +142,7 @@ impl Plan {
         if depth == 0 {
             return Ok(TRUE);
         }
-        let step = best_step(between);
+        let step = best_step(between, self.turn);
         let one = self.edge_between(step.one, depth - 1)?;
         if step.form == Form::Both {
             return self.both(step.literal, one);
@@ -149,9 +226,10 @@ fn plain_edge(between: Between) -> Option<Edge> {
 }
 
 // The step that leaves the least to do.
-fn best_step(between: Between) -> Step {
+fn best_step(between: Between, turn: usize) -> Step {
     let mut best = step_by_choice(between, 0, usize::MAX);
-    for variable in 0..VARIABLES {
+    for place in 0..VARIABLES {
+        let variable = place.saturating_add(turn) % VARIABLES;
         if depends_on(between, variable) {
             best = cheaper(best, step_by_choice(between, variable, 3));
             best = cheaper(best, step_by_difference(between, variable));

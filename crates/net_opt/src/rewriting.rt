@@ -1,28 +1,36 @@
 // Graphs in which parts are replaced by smaller ones that compute the same.
 
 use crate::building::{Built, reader_counts};
+use crate::cut_sets::{CutSets, cut_of_set};
 use crate::cuts::{Cut, Style, cut_of, place_in};
-use crate::edges::{Edge, TRUE, UNKNOWN, edge_at, is_marked, named, straight};
+use crate::edges::{
+    Edge, TRUE, UNKNOWN, edge_at, is_marked, named, negated_if, number_at, straight,
+};
 use crate::excluding::Exclusions;
 use crate::graphs::Graph;
-use crate::plans::{Plan, VARIABLES, planned};
+use crate::plans::{Plan, Plans, VARIABLES};
 use base_types::NoMemory;
 use net_ir::Net;
 use std::alloc::Global;
 
-// A new graph, with the edge of each node of the old one.
+// A new graph, with the edge of each node of the old one. `uses` counts what needs a node of the new graph: nodes that
+// are needed themselves, and nodes of the old graph and roots that are still to come. `fans` counts what needs a node
+// of the old one.
 #[derive(Drop)]
 struct Rewriter {
     graph: Graph,
     edges: Vec<Edge>,
     fans: Vec<usize>,
+    uses: Vec<usize>,
+    sets: CutSets,
     changes: bool,
+    plans: Plans,
 }
 
-// A graph that may stand for a pair, what its variables are, and how many nodes it spares.
+// A graph that may stand for a pair, by the place of its plan, what its variables are, and how many nodes it spares.
 #[derive(Drop)]
 struct Offer {
-    plan: Plan,
+    plan: usize,
     inputs: Vec<Edge>,
     gain: usize,
 }
@@ -67,16 +75,23 @@ pub(crate) fn rewritten(
     marks: &[bool],
     exclusions: &Exclusions,
     changes: bool,
+    turn: usize,
 ) -> Result<Built, NoMemory> {
     let count = built.graph.count();
     let mut rewriter = Rewriter {
         graph: Graph::new(alloc, built.graph.leaves, count)?,
         edges: Vec::new(alloc),
         fans: reader_counts(alloc, net, built, marks)?,
+        uses: Vec::new(alloc),
+        sets: CutSets::new(alloc),
         changes,
+        plans: Plans::new(alloc, turn)?,
     };
+    rewriter.note_new(alloc)?;
     for node in 0..count {
         let edge = if !built.graph.is_pair(node) {
+            let fans = number_at(&rewriter.fans, node);
+            rewriter.take(alloc, straight(node), fans)?;
             straight(node)
         } else if is_marked(marks, node) {
             rewriter.pair_edge(alloc, &built.graph, exclusions, node)?
@@ -93,7 +108,10 @@ pub(crate) fn rewritten(
         graph,
         edges: _,
         fans: _,
+        uses: _,
+        sets: _,
         changes: _,
+        plans: _,
     } = rewriter;
     Ok(Built { graph, edges })
 }
@@ -115,25 +133,104 @@ impl Rewriter {
         let pair = old.pair(node);
         let left = self.image(pair.left);
         let right = self.image(pair.right);
-        match self.best_offer(alloc, old, exclusions, node)? {
-            Some(offer) => self.placed(alloc, &offer.plan, &offer.inputs),
-            None => self.graph.both(left, right),
+        let fans = number_at(&self.fans, node);
+        self.plans.tidy();
+        let plain = self.graph.both(left, right)?;
+        self.note_new(alloc)?;
+        self.take(alloc, plain, fans)?;
+        self.release(alloc, left, 1)?;
+        self.release(alloc, right, 1)?;
+        if number_at(&self.uses, plain.node) != fans {
+            return Ok(plain);
         }
+        let Some(offer) = self.best_offer(alloc, exclusions, plain)? else {
+            return Ok(plain);
+        };
+        let made = negated_if(self.placed(alloc, &offer)?, plain.negative);
+        self.note_new(alloc)?;
+        self.take(alloc, made, fans)?;
+        self.release(alloc, plain, fans)?;
+        Ok(made)
+    }
+
+    // Counts and cut sets of the nodes that are new in the graph.
+    fn note_new(&mut self, alloc: Global) -> Result<(), NoMemory> {
+        for node in self.uses.len()..self.graph.count() {
+            self.uses.push(0)?;
+            self.sets.add_node(alloc, &self.graph, node)?;
+        }
+        Ok(())
+    }
+
+    // A node is needed so many times more.
+    fn take(&mut self, alloc: Global, edge: Edge, times: usize) -> Result<(), NoMemory> {
+        let mut stack = Vec::new(alloc);
+        let mut times = times;
+        stack.push(edge.node)?;
+        for _step in 0..usize::MAX {
+            let Some(node) = stack.pop() else {
+                return Ok(());
+            };
+            if node < self.uses.len() && times > 0 {
+                let before = self.uses[node];
+                self.uses[node] = before.saturating_add(times);
+                if before == 0 && self.graph.is_pair(node) {
+                    let pair = self.graph.pair(node);
+                    stack.push(pair.left.node)?;
+                    stack.push(pair.right.node)?;
+                }
+            }
+            times = 1;
+        }
+        Ok(())
+    }
+
+    // A node is needed so many times less.
+    fn release(&mut self, alloc: Global, edge: Edge, times: usize) -> Result<(), NoMemory> {
+        let mut stack = Vec::new(alloc);
+        let mut times = times;
+        stack.push(edge.node)?;
+        for _step in 0..usize::MAX {
+            let Some(node) = stack.pop() else {
+                return Ok(());
+            };
+            if node < self.uses.len() && self.uses[node] > 0 {
+                self.uses[node] = self.uses[node].saturating_sub(times);
+                if self.uses[node] == 0 && self.graph.is_pair(node) {
+                    let pair = self.graph.pair(node);
+                    stack.push(pair.left.node)?;
+                    stack.push(pair.right.node)?;
+                }
+            }
+            times = 1;
+        }
+        Ok(())
     }
 
     // The offer that spares most.
     fn best_offer(
-        &self,
+        &mut self,
         alloc: Global,
-        old: &Graph,
         exclusions: &Exclusions,
-        node: usize,
+        edge: Edge,
     ) -> Result<Option<Offer>, NoMemory> {
         let mut best: Option<Offer> = None;
+        let node = edge.node;
+        if !self.graph.is_pair(node) {
+            return Ok(None);
+        }
         for number in 0..STYLES {
-            let cut = cut_of(alloc, old, node, &self.fans, style_of(number))?;
+            let cut = cut_of(alloc, &self.graph, node, &self.uses, style_of(number))?;
             if cut.inside.len() > 1 {
-                best = better(best, self.offer(alloc, old, exclusions, &cut)?);
+                best = better(best, self.offer(alloc, exclusions, &cut)?);
+            }
+        }
+        for place in 0..self.sets.of(node).len() {
+            let set = self.sets.at(node, place);
+            if let Some(cut) = cut_of_set(alloc, &self.graph, node, set)? {
+                if cut.inside.len() > 1 {
+                    best = better(best, self.offer(alloc, exclusions, &cut)?);
+                }
             }
         }
         Ok(best)
@@ -141,17 +238,16 @@ impl Rewriter {
 
     // The graph that a cut's function has, if it spares nodes, or, where changes are asked for, takes no more.
     fn offer(
-        &self,
+        &mut self,
         alloc: Global,
-        old: &Graph,
         exclusions: &Exclusions,
         cut: &Cut,
     ) -> Result<Option<Offer>, NoMemory> {
-        let plan = planned(alloc, cut.functions(alloc, old, exclusions)?)?;
-        let spared = cut.spared(alloc, old, &self.fans)?;
-        let freed = self.images(alloc, &spared)?;
-        let inputs = self.images_of(alloc, &cut.leaves)?;
-        let cost = self.cost(alloc, &plan, &inputs, &freed)?;
+        let functions = cut.functions(alloc, &self.graph, exclusions)?;
+        let plan = self.plans.place_of(alloc, functions)?;
+        let spared = cut.spared(alloc, &self.graph, &self.uses)?;
+        let inputs = inputs_of(alloc, &cut.leaves)?;
+        let cost = self.cost(alloc, plan, &inputs, &spared)?;
         if cost < spared.len() || (self.changes && cost == spared.len()) {
             let gain = spared.len().saturating_sub(cost);
             return Ok(Some(Offer { plan, inputs, gain }));
@@ -159,35 +255,17 @@ impl Rewriter {
         Ok(None)
     }
 
-    fn images(&self, alloc: Global, nodes: &[usize]) -> Result<Vec<usize>, NoMemory> {
-        let mut images = Vec::new(alloc);
-        for node in nodes {
-            images.push(self.image(straight(*node)).node)?;
-        }
-        Ok(images)
-    }
-
-    fn images_of(&self, alloc: Global, leaves: &[usize]) -> Result<Vec<Edge>, NoMemory> {
-        let mut images = Vec::new(alloc);
-        images.push(TRUE)?;
-        for k in 0..VARIABLES {
-            images.push(if k < leaves.len() {
-                self.image(straight(leaves[k]))
-            } else {
-                TRUE
-            })?;
-        }
-        Ok(images)
-    }
-
     // How many nodes a plan adds, or keeps of those that would be freed.
     fn cost(
         &self,
         alloc: Global,
-        plan: &Plan,
+        plan: usize,
         inputs: &[Edge],
         freed: &[usize],
     ) -> Result<usize, NoMemory> {
+        let Some(plan) = self.plans.at(plan) else {
+            return Ok(usize::MAX);
+        };
         let mut names = Vec::from_slice(alloc, inputs)?;
         let mut count: usize = 0;
         for k in 0..plan.lefts.len() {
@@ -198,7 +276,7 @@ impl Rewriter {
             } else {
                 self.graph.found(left, right).unwrap_or(UNKNOWN)
             };
-            if there == UNKNOWN || place_in(freed, there.node) < freed.len() {
+            if there == UNKNOWN || self.is_spared(freed, there.node) {
                 count = count.saturating_add(1);
             }
             names.push(there)?;
@@ -206,15 +284,48 @@ impl Rewriter {
         Ok(count)
     }
 
-    // The edge of a plan that is carried out.
-    fn placed(&mut self, alloc: Global, plan: &Plan, inputs: &[Edge]) -> Result<Edge, NoMemory> {
-        let mut names = Vec::from_slice(alloc, inputs)?;
-        for k in 0..plan.lefts.len() {
-            let left = named(&names, edge_at(&plan.lefts, k));
-            let right = named(&names, edge_at(&plan.rights, k));
-            let edge = self.graph.both(left, right)?;
-            names.push(edge)?;
-        }
-        Ok(named(&names, plan.root))
+    // Reports whether a pair is not needed, or would not be.
+    fn is_spared(&self, freed: &[usize], node: usize) -> bool {
+        self.graph.is_pair(node)
+            && (number_at(&self.uses, node) == 0 || place_in(freed, node) < freed.len())
     }
+
+    // The edge of a plan that is carried out.
+    fn placed(&mut self, alloc: Global, offer: &Offer) -> Result<Edge, NoMemory> {
+        let Some(plan) = self.plans.at(offer.plan) else {
+            return Ok(UNKNOWN);
+        };
+        placed(alloc, &mut self.graph, plan, &offer.inputs)
+    }
+}
+
+// The edge of a plan over these edges in a graph.
+fn placed(
+    alloc: Global,
+    graph: &mut Graph,
+    plan: &Plan,
+    inputs: &[Edge],
+) -> Result<Edge, NoMemory> {
+    let mut names = Vec::from_slice(alloc, inputs)?;
+    for k in 0..plan.lefts.len() {
+        let left = named(&names, edge_at(&plan.lefts, k));
+        let right = named(&names, edge_at(&plan.rights, k));
+        let edge = graph.both(left, right)?;
+        names.push(edge)?;
+    }
+    Ok(named(&names, plan.root))
+}
+
+// The edges of a plan's variables, after what is always true.
+fn inputs_of(alloc: Global, leaves: &[usize]) -> Result<Vec<Edge>, NoMemory> {
+    let mut inputs = Vec::new(alloc);
+    inputs.push(TRUE)?;
+    for k in 0..VARIABLES {
+        inputs.push(if k < leaves.len() {
+            straight(leaves[k])
+        } else {
+            TRUE
+        })?;
+    }
+    Ok(inputs)
 }

@@ -43,7 +43,7 @@ fn cofactor(table: u64, variable: usize, value: bool) -> u64 {
 }
 
 /// Functions between two others: those that are true where `low` is, and false where `high` is not.
-#[derive(Clone, Copy)]
+#[derive(Clone, Copy, PartialEq)]
 pub(crate) struct Between {
     pub low: u64,
     pub high: u64,
@@ -67,21 +67,34 @@ pub(crate) fn restricted(between: Between, variable: usize, value: bool) -> Betw
     }
 }
 
-/// Those that do not depend on a variable: perhaps none.
-fn freed_of(between: Between, variable: usize) -> Between {
-    Between {
-        low: cofactor(between.low, variable, false) | cofactor(between.low, variable, true),
-        high: cofactor(between.high, variable, false) & cofactor(between.high, variable, true),
+// Whether a function depends on a variable.
+fn varies(table: u64, variable: usize) -> bool {
+    ((table >> step_of(variable)) ^ table) & !variable_table(variable) != 0
+}
+
+// Those that do not depend on a variable, where there are such.
+fn freed_of(between: Between, variable: usize) -> Option<Between> {
+    let mask = variable_table(variable);
+    let step = step_of(variable);
+    let low = (between.low | between.low >> step) & !mask;
+    let high = between.high & (between.high >> step) & !mask;
+    if low & !high != 0 {
+        return None;
     }
+    Some(Between {
+        low: low | low << step,
+        high: high | high << step,
+    })
 }
 
 /// Those that depend on fewer variables, where there are such.
 pub(crate) fn narrowed(between: Between) -> Between {
     let mut narrow = between;
     for variable in 0..6 {
-        let freed = freed_of(narrow, variable);
-        if is_possible(freed) {
-            narrow = freed;
+        if depends_on(narrow, variable) {
+            if let Some(freed) = freed_of(narrow, variable) {
+                narrow = freed;
+            }
         }
     }
     narrow
@@ -89,9 +102,7 @@ pub(crate) fn narrowed(between: Between) -> Between {
 
 /// Whether some of them depend on a variable.
 pub(crate) fn depends_on(between: Between, variable: usize) -> bool {
-    let low = restricted(between, variable, false);
-    let high = restricted(between, variable, true);
-    low.low != high.low || low.high != high.high
+    varies(between.low, variable) || varies(between.high, variable)
 }
 
 /// On how many variables they depend.

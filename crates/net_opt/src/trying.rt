@@ -8,6 +8,7 @@ use crate::assembling::assembled_net;
 use crate::balancing::balanced;
 use crate::building::{Built, built_graph, marked_nodes};
 use crate::classes::{Classes, equation, literal};
+use crate::collapsing::collapsed;
 use crate::copying::{in_order_of_need, places_in_order, without_told};
 use crate::edges::{Edge, TRUE, edge_at, is_marked, mark, negated_if, number_at, straight};
 use crate::emitting::{Emitted, emitted_parts, parts_of};
@@ -50,6 +51,8 @@ pub(crate) enum Change {
     Balance,
     // parts are rewritten so many times
     Rewrite(usize),
+    // the functions of the roots are made anew
+    Collapse,
 }
 
 /// The netlist in which the classes' nets are one, changed so, if it can be shown to follow.
@@ -97,6 +100,13 @@ fn changed(
             balanced(alloc, net, &built, &marks)
         }
         Change::Rewrite(times) => remade(alloc, net, built, exclusions, times),
+        Change::Collapse => {
+            let marks = marked_nodes(alloc, net, &built)?;
+            match collapsed(alloc, net, &built, &marks)? {
+                Some(new) => Ok(new),
+                None => Ok(built),
+            }
+        }
     }
 }
 
@@ -111,7 +121,9 @@ fn remade(
     let mut now = built;
     for pass in 0..times {
         let marks = marked_nodes(alloc, net, &now)?;
-        now = rewritten(alloc, net, &now, &marks, exclusions, pass % 2 == 1)?;
+        now = rewritten(alloc, net, &now, &marks, exclusions, pass > 0, pass)?;
+        let marks = marked_nodes(alloc, net, &now)?;
+        now = balanced(alloc, net, &now, &marks)?;
     }
     Ok(now)
 }

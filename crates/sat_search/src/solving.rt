@@ -11,6 +11,9 @@ use sat_kernel::{Kernel, Literal, Premise};
 use sat_trail::{LiteralId, Reason, Stored, Truth, at, put};
 use std::alloc::Global;
 
+// The effort of a first look at a question.
+const RUSH: u64 = 400;
+
 // What to do where propagation has ended without a conflict.
 #[derive(Clone, Copy)]
 enum Step {
@@ -88,6 +91,11 @@ impl Search {
         if let Some(clause) = self.broken {
             return Ok(self.refute(kernel, assumptions, clause)?);
         }
+        if self.trail.level() == 0 {
+            if let Some(outcome) = self.rush(kernel, assumptions)? {
+                return Ok(outcome);
+            }
+        }
         'rounds: for _ in 0..u64::MAX {
             self.restarts.begin();
             if let Some(outcome) = self.run(kernel, assumptions)? {
@@ -96,6 +104,56 @@ impl Search {
             self.restart(kernel, assumptions.len())?;
         }
         Ok(SearchOutcome::Unknown)
+    }
+
+    // Assumes all at one level, and propagates a little: where a contradiction is near, it is found before what one
+    // assumption forces elsewhere.
+    fn rush(
+        &mut self,
+        kernel: &mut Kernel,
+        assumptions: &[Literal],
+    ) -> Result<Option<SearchOutcome>, NoMemory>
+        ensures assumed { kernel.new.assumed ≡ kernel.old.assumed }
+        ensures answer { IfOk result (λ o. IfSome o (IsAnswer kernel.new assumptions.now)) }
+    {
+        if let Some(conflict) = self.propagate()? {
+            self.broken = Some(conflict);
+            return Ok(Some(self.refute(kernel, assumptions, conflict)?));
+        }
+        if !self.fix_units(kernel)? {
+            return Ok(Some(SearchOutcome::Unknown));
+        }
+        let found = self.near_conflict(assumptions)?;
+        let Some(conflict) = found else {
+            self.backtrack(0)?;
+            return Ok(None);
+        };
+        self.evidence
+            .explain_conflict(&self.trail, &self.store, &self.units, &[], conflict)?;
+        let clause = opposites(self.alloc, &self.evidence.core)?;
+        let outcome = self.refuted(kernel, assumptions, clause)?;
+        self.backtrack(0)?;
+        Ok(Some(outcome))
+    }
+
+    // Opens a level with all assumptions, and returns a clause that becomes false by a little propagation.
+    fn near_conflict(&mut self, assumptions: &[Literal]) -> Result<Option<u32>, NoMemory> {
+        self.trail.open_level()?;
+        for assumption in assumptions {
+            let literal = LiteralId::of(*assumption);
+            if self.trail.is_false(literal) {
+                return Ok(None);
+            }
+            if self.trail.is_open(literal) {
+                self.trail.assign(literal, Reason::Decision)?;
+            }
+        }
+        let given = self.effort.min(RUSH);
+        let rest = self.effort.saturating_sub(given);
+        self.effort = given;
+        let conflict = self.propagate()?;
+        self.effort = self.effort.saturating_add(rest);
+        Ok(conflict)
     }
 
     // Searches until a restart is due.
@@ -116,6 +174,9 @@ impl Search {
                     return Ok(Some(outcome));
                 }
             } else {
+                if self.effort == 0 {
+                    return Ok(Some(SearchOutcome::Unknown));
+                }
                 if self.restarts.is_due() {
                     return Ok(None);
                 }
@@ -450,6 +511,15 @@ fn blamed(alloc: Global, literal: LiteralId, core: &[LiteralId]) -> Result<Vec<L
             return Ok(clause);
         }
         clause.push(other.opposite().literal())?;
+    }
+    Ok(clause)
+}
+
+// The clause of the negations of decisions.
+fn opposites(alloc: Global, core: &[LiteralId]) -> Result<Vec<Literal>, NoMemory> {
+    let mut clause = Vec::with_capacity(alloc, core.len())?;
+    for literal in core {
+        clause.push(literal.opposite().literal())?;
     }
     Ok(clause)
 }

@@ -7,7 +7,7 @@ use base_types::NoMemory;
 use std::alloc::Global;
 
 /// Assigns all literals that are forced, until all literals of a clause are false: it returns that clause's number.
-/// Each watch in a list that is visited takes one from the effort.
+/// Each watch in a list that is visited takes one from the effort. At zero it stops.
 pub fn propagate(
     alloc: Global,
     trail: &mut Trail,
@@ -15,6 +15,9 @@ pub fn propagate(
     effort: &mut u64,
 ) -> Result<Option<u32>, NoMemory> {
     for _ in 0..trail.variables().saturating_add(1) {
+        if *effort == 0 {
+            return Ok(None);
+        }
         let Some(literal) = trail.take_next() else {
             return Ok(None);
         };

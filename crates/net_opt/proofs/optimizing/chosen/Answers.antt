@@ -8,4 +8,4 @@ pub returns-in-Some : goal.returns-in-Some
 returns-in-Some c =
     let better = rw c.in-Some.is at c.requires in
     λ (given : Netlist) (so_far : Replaces given (netlist_of c.args.best)).
-    replaces-twice given (netlist_of c.args.best) (netlist_of c.in-Some.net) so_far better.replaces
+    replaces-twice given (netlist_of c.args.best) (netlist_of c.in-Some.net) so_far better

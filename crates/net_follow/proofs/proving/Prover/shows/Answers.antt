@@ -1,13 +1,15 @@
-use Rattle.std.proofs.Common.{Bool, ap, subst}
-use Rattle.net_follow.specs.declared.clauses.Clauses.{Clauses}
-use Rattle.net_follow.specs.Proving.{Sees}
-use Rattle.net_follow.proofs.Clausal.{shown-added}
+use Rattle.std.proofs.Common.{List, map, ap, subst, ◌∙◌}
+use Rattle.sat_kernel.specs.Clauses.{Follows, opposite}
+use Rattle.sat_kernel.specs.declared.literals.Literal.{Literal}
+use Rattle.net_follow.proofs.Clausal.{shown-refuted}
 use Rattle.net_follow.proofs.proving.Prover.shows.Goals as goal
 
 pub returns : goal.returns
 returns c =
-    let mid = c.settle.new.self in
-    let cut = c.sees.new.self in
-    let sees = subst (λ (b : Bool). Sees mid c.args.clause b) c.if-not-branch.false c.in_ok-sees.ensures.sees in
-    shown-added c.args.clause c.args.self.now mid cut _ c.in_ok-add.ensures c.in_ok-settle.ensures.keeps sees
-    (ap (λ (k : Clauses). k.clauses.items) c.in_ok-sees.ensures.clauses) c.in_ok-sees.ensures.known
+    let literals = c.in-Some.literals.items in
+    let denial = c.in_ok-denial.denial.items in
+    let new = c.refutes.new.self in
+    let coded = rw c.in-Some.is at c.in_ok-literals.ensures in
+    let denied = c.in_ok-denial.ensures ∙ ap (map opposite) c.deref.ensures.value in
+    shown-refuted c.args.clause literals denial c.args.self.now new c.in_ok-refutes.field-0 coded denied c.in_ok-refutes.ensures.assumed
+    (λ refuted. subst (λ (d : List Literal). Follows new.kernel.assumed (map opposite d)) c.deref-2.ensures.value (c.in_ok-refutes.ensures.follows refuted))
