@@ -10,6 +10,7 @@ use std::rt::Env;
 
 // The status and the line where the words of the command line cannot be read.
 const NO_WORDS: u8 = 13;
+
 const NO_WORDS_LINE: &[u8] = b"cec: cannot read the words: one is not UTF-8, or memory ran out\n";
 
 fn main(rt: HostRuntime) -> ExitCode {

@@ -10,7 +10,9 @@ use std::rt::Env;
 
 // The status and the line where the words of the command line cannot be read.
 const NO_WORDS: u8 = 13;
-const NO_WORDS_LINE: &[u8] = b"cec-opt: cannot read the words: one is not UTF-8, or memory ran out\n";
+
+const NO_WORDS_LINE: &[u8] =
+    b"cec-opt: cannot read the words: one is not UTF-8, or memory ran out\n";
 
 fn main(rt: HostRuntime) -> ExitCode {
     let mut err = WriterSink::new(rt.stderr());
