@@ -1,5 +1,5 @@
 -- To believe: the line that is written about an outcome.
-use Rattle.std.specs.Prelude.{ℕ, List, [], ◌++◌, Option, Some, codes, decimal}
+use Rattle.std.specs.Prelude.{ℕ, List, [], ◌++◌, Option, Some, None, codes, decimal}
 use Rattle.blif_net.specs.declared.fault.CircuitFault.{CircuitFault}
 use Rattle.blif_net.specs.declared.fault.CircuitFault.TheVariants.{NoPause, Model, Input, Output, Again, Loop}
 use Rattle.blif_net.specs.declared.fault.CircuitFault.TheVariants.{TooManyNets}
