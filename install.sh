@@ -88,7 +88,7 @@ fi
 for page in LICENSE README.md; do
     install -m 644 "$top/$page" "$root/share/doc/cec/$page"
 done
-for page in "$top"/docs/*.md; do
+for page in "$top"/docs/*.md "$top"/docs/*.svg; do
     install -m 644 "$page" "$root/share/doc/cec/docs/"
 done
 cp -R "$top/examples" "$root/share/doc/cec/"
