@@ -3,10 +3,10 @@ _cec_opt() {
     local now=${COMP_WORDS[COMP_CWORD]} file
     COMPREPLY=()
     if [ "$COMP_CWORD" -eq 1 ]; then
-        mapfile -t COMPREPLY < <(compgen -W "blif c verilog check --help" -- "$now")
+        mapfile -t COMPREPLY < <(compgen -W "blif c verilog check --help --version" -- "$now")
         return
     fi
-    [ "$COMP_CWORD" -eq 2 ] && [ "${COMP_WORDS[1]}" != --help ] || return
+    [ "$COMP_CWORD" -eq 2 ] && [[ ${COMP_WORDS[1]} != --help && ${COMP_WORDS[1]} != --version ]] || return
     while IFS= read -r file; do
         if [ -d "$file" ]; then
             COMPREPLY+=("$file/")
