@@ -40,7 +40,7 @@ def main(argv: list[str]) -> int:
             text = registry.text(crate, name)
             if not words.check:
                 path.write_text(text)
-            elif path.is_file() and MARK not in path.read_text().partition("\n")[0]:
+            elif path.is_file() and MARK not in path.read_text().partition("\n")[0].lower():
                 older += 1
             elif not path.is_file() or path.read_text() != text:
                 print("worked: %s is not what `reference/worked %s` writes" % (path.relative_to(TOP), crate))
