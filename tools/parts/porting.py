@@ -63,8 +63,8 @@ ROWS = {
     "run constant": Row("run M [signal A/X; constant 5/LIMIT]", "run M [signal A/X]", "only signals are renamed"),
     "pre": Row(
         "present pre(S) then p end",
-        "signal WAS in loop present S then pause; emit WAS else pause end end || present WAS then p end end",
-        "a branch remembers S for one instant as WAS",
+        "signal WAS in loop present S then pause; emit WAS else pause end end || q end",
+        "q is the whole body of the module, with `present WAS then p end` in it; the first branch remembers S for one instant",
     ),
     "sensor": Row("sensor TEMPERATURE : integer", "", "an input `TOO_HOT`, which the program around sets before each reaction"),
     "if": Row("if ?TEMPERATURE > 90 then p end", "", "`present TOO_HOT then p end`, with an input that the program around sets"),
