@@ -220,7 +220,7 @@ def public_words():
 
 
 def words_have_one_meaning():
-    """No public word has meanings in two crates, but for target languages and the words that checks/shared_words.txt lists
+    """No public word has meanings in two crates, except for target languages and the words that checks/shared_words.txt lists
     with a reason, each of which must still be needed."""
     listed = set()
     for line in (TOP / "checks" / "shared_words.txt").read_text().splitlines():

@@ -1,4 +1,4 @@
--- Worked examples of the definitions: values by hand. No law stands on them.
+-- Worked examples of the definitions: values by hand. No law depends on them.
 mod WorkedLines
 mod WorkedOutcomes
 mod WorkedAnswers

@@ -1,3 +1,3 @@
--- Worked examples of the definitions: values by hand. No law stands on them.
+-- Worked examples of the definitions: values by hand. No law depends on them.
 mod WorkedOwners
 mod WorkedResting

@@ -1,2 +1,2 @@
--- Worked examples of the definitions: values by hand. No law stands on them.
+-- Worked examples of the definitions: values by hand. No law depends on them.
 mod WorkedRuns

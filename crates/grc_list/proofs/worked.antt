@@ -1,2 +1,2 @@
--- Worked examples of the definitions: values by hand, or by an independent implementation. No law stands on them.
+-- Worked examples of the definitions: values by hand, or by an independent implementation. No law depends on them.
 mod WorkedListings

@@ -1,4 +1,4 @@
--- Worked examples of the definitions: values by hand, or by an independent implementation. No law stands on them.
+-- Worked examples of the definitions: values by hand, or by an independent implementation. No law depends on them.
 mod Examples
 mod DrawnKernels
 mod DrawnReactions

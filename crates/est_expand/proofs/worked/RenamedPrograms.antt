@@ -1,4 +1,4 @@
--- Inner: written by hand: worked programs that are the same but for the names of what they bind, and names that would be captured.
+-- Inner: written by hand: worked programs that are the same except for the names that they bind, and names that would be captured.
 use Rattle.std.proofs.Common.{◌≡◌, ℕ, true, false, List, [], ◌∷◌, codes, refl, subst}
 use Rattle.est_ast.specs.Trees.{Stmt, At, Emit, Signal, Run, Seq, MoreStmts, NoStmts, Output, Module, SourceProgram}
 use Rattle.est_names.proofs.worked.PlainTrees.{at, n, modul, as_}
