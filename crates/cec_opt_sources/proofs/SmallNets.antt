@@ -11,7 +11,8 @@ use Rattle.cec_compile.specs.declared.compiler.Compiled.{Compiled}
 use Rattle.cec_compile.specs.Compiling.{StandsForNet}
 use Rattle.cec_compile.specs.NetMeaning.{NetKeeps}
 use Rattle.cec_compile.proofs.Exports.{given-few, inputs_wide, widths, text_keeps, c_text_keeps, verilog_text_keeps}
-use Rattle.cec_opt_sources.specs.SmallTexts.{StandsForSmallNet, StandsForSmallBlif, StandsForSmallC, StandsForSmallVerilog, IsSmallSourceNet}
+use Rattle.cec_opt_sources.specs.declared.texts.SmallSource.{SmallSource}
+use Rattle.cec_opt_sources.specs.SmallTexts.{StandsForSmallNet, StandsForSmallBlif, StandsForSmallC, StandsForSmallVerilog, IsSmallSource}
 
 optimized_keeps : (net new : Netlist) (p : Program) → given_count p ≡ length net.inputs → Optimizes net new → NetKeeps net p → NetKeeps new p
 optimized_keeps net new p wide o keeps = record {
@@ -23,54 +24,56 @@ optimized_keeps net new p wide o keeps = record {
       (found.0, found.1, o.replaces.followed.runs items (widths p (length net.inputs) wide items fits) ∙ found.2);
 }
 
-pub small_stands : (bytes : List ℕ) (main : Option (List ℕ)) (net : Netlist) → IsSmallSourceNet bytes main net → StandsForSmallNet bytes main net
-small_stands bytes main net small =
-    let s = small.compiled in
+pub small_stands : (bytes : List ℕ) (main : Option (List ℕ)) (small : SmallSource) → IsSmallSource bytes main small
+    → StandsForSmallNet bytes main (netlist_of small.net)
+small_stands bytes main small is =
+    let s = is.compiled in
     record {
       program = s.program;
       source = s.source;
       compiles = s.compiled.compiles;
-      keeps = optimized_keeps (netlist_of small.made.net) net s.program (inputs_wide small.made s.program s.compiled) small.optimizes s.compiled.keeps;
+      keeps = optimized_keeps (netlist_of small.compiled.net) (netlist_of small.net) s.program
+          (inputs_wide small.compiled s.program s.compiled) is.optimizes s.compiled.keeps;
     }
 
 few : (bytes : List ℕ) (main : Option (List ℕ)) (made : Compiled) → (s : StandsForNet bytes main made) → given_count s.program ≤ length s.program.signals
 few bytes main made s = given-few s.program s.compiled.formed
 
-pub blif_stands : (bytes : List ℕ) (main : Option (List ℕ)) (net : Netlist) (written : List ℕ) → IsSmallSourceNet bytes main net → Means written net
-    → StandsForSmallBlif bytes main written
+pub blif_stands : (bytes : List ℕ) (main : Option (List ℕ)) (small : SmallSource) (written : List ℕ) → IsSmallSource bytes main small
+    → Means written (netlist_of small.net) → StandsForSmallBlif bytes main written
 unfolding small_stands
-blif_stands bytes main net written small means =
-    let s = small.compiled in
-    let stands = small_stands bytes main net small in
+blif_stands bytes main small written is means =
+    let s = is.compiled in
+    let stands = small_stands bytes main small is in
     record {
       program = s.program;
       source = s.source;
       compiles = s.compiled.compiles;
-      keeps = text_keeps written net s.program (few bytes main small.made s) stands.keeps means;
+      keeps = text_keeps written (netlist_of small.net) s.program (few bytes main small.compiled s) stands.keeps means;
     }
 
-pub c_stands : (bytes : List ℕ) (main : Option (List ℕ)) (net : Netlist) (written : List ℕ) → IsSmallSourceNet bytes main net → c_texts.Means written net
-    → StandsForSmallC bytes main written
+pub c_stands : (bytes : List ℕ) (main : Option (List ℕ)) (small : SmallSource) (written : List ℕ) → IsSmallSource bytes main small
+    → c_texts.Means written (netlist_of small.net) → StandsForSmallC bytes main written
 unfolding small_stands
-c_stands bytes main net written small means =
-    let s = small.compiled in
-    let stands = small_stands bytes main net small in
+c_stands bytes main small written is means =
+    let s = is.compiled in
+    let stands = small_stands bytes main small is in
     record {
       program = s.program;
       source = s.source;
       compiles = s.compiled.compiles;
-      keeps = c_text_keeps written net s.program (few bytes main small.made s) stands.keeps means;
+      keeps = c_text_keeps written (netlist_of small.net) s.program (few bytes main small.compiled s) stands.keeps means;
     }
 
-pub verilog_stands : (bytes : List ℕ) (main : Option (List ℕ)) (net : Netlist) (written : List ℕ) → IsSmallSourceNet bytes main net
-    → vlog_texts.Means written net → StandsForSmallVerilog bytes main written
+pub verilog_stands : (bytes : List ℕ) (main : Option (List ℕ)) (small : SmallSource) (written : List ℕ) → IsSmallSource bytes main small
+    → vlog_texts.Means written (netlist_of small.net) → StandsForSmallVerilog bytes main written
 unfolding small_stands
-verilog_stands bytes main net written small means =
-    let s = small.compiled in
-    let stands = small_stands bytes main net small in
+verilog_stands bytes main small written is means =
+    let s = is.compiled in
+    let stands = small_stands bytes main small is in
     record {
       program = s.program;
       source = s.source;
       compiles = s.compiled.compiles;
-      keeps = verilog_text_keeps written net s.program (few bytes main small.made s) stands.keeps means;
+      keeps = verilog_text_keeps written (netlist_of small.net) s.program (few bytes main small.compiled s) stands.keeps means;
     }

@@ -14,7 +14,7 @@ use Rattle.cec_compile.specs.Compiling.{StandsForNet}
 use Rattle.cec_compile.specs.Meaning.{TextKeeps, CTextKeeps, VerilogTextKeeps}
 use Rattle.cec_compile.specs.NetMeaning.{NetKeeps}
 use Rattle.cec_compile.specs.Refusals.{Compiles}
-use Rattle.cec_compile.specs.declared.compiler.Compiled.{Compiled}
+use Rattle.cec_opt_sources.specs.declared.texts.SmallSource.{SmallSource}
 
 -- The bytes stand for the program of the netlist, or of the text in BLIF, C or Verilog, which keeps what the program
 -- means.
@@ -43,27 +43,26 @@ pub record StandsForSmallVerilog (text : List ℕ) (main : Option (List ℕ)) (w
   pub compiles : Compiles program
   pub keeps : VerilogTextKeeps written program
 
--- The netlist is that of the compiled program, optimized: it has its interface, follows it, has no more gates and no
--- more latches, nothing is left to simplify, and something shows each latch and each gate.
-pub record IsSmallSourceNet (bytes : List ℕ) (main : Option (List ℕ)) (net : Netlist) : Type 0 where
-  pub made : Compiled
-  pub compiled : StandsForNet bytes main made
-  pub optimizes : Optimizes (netlist_of made.net) net
-  pub simple : IsSimple net
-  pub shown : EachIsShown net
+-- The source is compiled, and the netlist is that of the compiled program, optimized: it has its interface, follows it,
+-- has no more gates and no more latches, nothing is left to simplify, and something shows each latch and each gate.
+pub record IsSmallSource (bytes : List ℕ) (main : Option (List ℕ)) (small : SmallSource) : Type 0 where
+  pub compiled : StandsForNet bytes main small.compiled
+  pub optimizes : Optimizes (netlist_of small.compiled.net) (netlist_of small.net)
+  pub simple : IsSimple (netlist_of small.net)
+  pub shown : EachIsShown (netlist_of small.net)
 
 -- The text is that of such a netlist: it has a table for each gate, in the order of the gates.
 pub record IsSmallBlifOf (bytes : List ℕ) (main : Option (List ℕ)) (written : List ℕ) : Type 0 where
-  pub net : Netlist
-  pub small : IsSmallSourceNet bytes main net
-  pub text : written ≡ blif_texts.written net
+  pub small : SmallSource
+  pub is : IsSmallSource bytes main small
+  pub text : written ≡ blif_texts.written (netlist_of small.net)
 
 pub record IsSmallCOf (bytes : List ℕ) (main : Option (List ℕ)) (written : List ℕ) : Type 0 where
-  pub net : Netlist
-  pub small : IsSmallSourceNet bytes main net
-  pub text : written ≡ c_texts.written net
+  pub small : SmallSource
+  pub is : IsSmallSource bytes main small
+  pub text : written ≡ c_texts.written (netlist_of small.net)
 
 pub record IsSmallVerilogOf (bytes : List ℕ) (main : Option (List ℕ)) (written : List ℕ) : Type 0 where
-  pub net : Netlist
-  pub small : IsSmallSourceNet bytes main net
-  pub text : written ≡ vlog_texts.written net
+  pub small : SmallSource
+  pub is : IsSmallSource bytes main small
+  pub text : written ≡ vlog_texts.written (netlist_of small.net)

@@ -7,4 +7,4 @@
 
 mod texts;
 
-pub use texts::{small_blif_of, small_c_of, small_net, small_verilog_of};
+pub use texts::{SmallSource, small_blif_of, small_c_of, small_net, small_verilog_of};

@@ -4,12 +4,12 @@ ghost use Rattle.std.specs.Prelude.{◌≤◌, length, IfOk, IfErr, option_map};
 ghost use Rattle.net_ir.specs.Runs.{netlist_of};
 ghost use Rattle.cec_compile.specs.Refusals.{IsRefused};
 ghost use Rattle.cec_opt_sources.specs.SmallTexts.{StandsForSmallNet, StandsForSmallBlif, StandsForSmallC};
-ghost use Rattle.cec_opt_sources.specs.SmallTexts.{StandsForSmallVerilog, IsSmallSourceNet, IsSmallBlifOf, IsSmallCOf};
+ghost use Rattle.cec_opt_sources.specs.SmallTexts.{StandsForSmallVerilog, IsSmallSource, IsSmallBlifOf, IsSmallCOf};
 ghost use Rattle.cec_opt_sources.specs.SmallTexts.{IsSmallVerilogOf};
 
 use base_types::Limits;
 use blif_text::write_blif;
-use cec_compile::{Refusal, compile};
+use cec_compile::{Compiled, Refusal, compile};
 use csub_text::write_c;
 use grc_order::Picker;
 use net_ir::Net;
@@ -36,8 +36,8 @@ pub fn small_blif_of<P: Picker>(
         (option_map (λ m. m.now) main.entry) written.items) }
     ensures refuses { IfErr result (IsRefused text.now (option_map (λ m. m.now) main.entry)) }
 {
-    let net = small_net(alloc, text, main, picker)?;
-    let written = write_blif(alloc, &net)?;
+    let small = small_net(alloc, text, main, picker)?;
+    let written = write_blif(alloc, &small.net)?;
     Ok(written)
 }
 
@@ -55,8 +55,8 @@ pub fn small_c_of<P: Picker>(
         (option_map (λ m. m.now) main.entry) written.items) }
     ensures refuses { IfErr result (IsRefused text.now (option_map (λ m. m.now) main.entry)) }
 {
-    let net = small_net(alloc, text, main, picker)?;
-    let written = write_c(alloc, &net)?;
+    let small = small_net(alloc, text, main, picker)?;
+    let written = write_c(alloc, &small.net)?;
     Ok(written)
 }
 
@@ -74,27 +74,34 @@ pub fn small_verilog_of<P: Picker>(
         (option_map (λ m. m.now) main.entry) written.items) }
     ensures refuses { IfErr result (IsRefused text.now (option_map (λ m. m.now) main.entry)) }
 {
-    let net = small_net(alloc, text, main, picker)?;
-    let written = write_verilog(alloc, &net)?;
+    let small = small_net(alloc, text, main, picker)?;
+    let written = write_verilog(alloc, &small.net)?;
     Ok(written)
 }
 
-/// The netlist of a source, optimized: it keeps what the source's program means (`NetKeeps`), and has no more gates and
-/// no more latches than the netlist of `cec_compile::compile`. It refuses what `compile` refuses.
+/// A source compiled, and the optimized netlist of it.
+#[derive(Drop)]
+pub struct SmallSource {
+    pub compiled: Compiled,
+    pub net: Net,
+}
+
+/// A source compiled, and its netlist optimized. The optimized netlist keeps what the source's program means
+/// (`NetKeeps`), and has no more gates and no more latches than the netlist of the compiled source beside it. It refuses
+/// what `compile` refuses.
 pub fn small_net<P: Picker>(
     alloc: Global,
     text: &[u8],
     main: Option<&[u8]>,
     picker: &mut P,
-) -> Result<Net, Refusal>
+) -> Result<SmallSource, Refusal>
     requires { length text.now ≤ Limits.SOURCE_BYTES }
-    ensures compiles { IfOk result (λ net. StandsForSmallNet text.now
-        (option_map (λ m. m.now) main.entry) (netlist_of net)) }
-    ensures made { IfOk result (λ net. IsSmallSourceNet text.now
-        (option_map (λ m. m.now) main.entry) (netlist_of net)) }
+    ensures compiles { IfOk result (λ s. StandsForSmallNet text.now
+        (option_map (λ m. m.now) main.entry) (netlist_of s.net)) }
+    ensures made { IfOk result (IsSmallSource text.now (option_map (λ m. m.now) main.entry)) }
     ensures refuses { IfErr result (IsRefused text.now (option_map (λ m. m.now) main.entry)) }
 {
     let compiled = compile(alloc, text, main, picker)?;
     let net = optimize(alloc, &compiled.net)?;
-    Ok(net)
+    Ok(SmallSource { compiled, net })
 }

@@ -1,11 +1,9 @@
 use Rattle.std.specs.Prelude.{option_map}
-use Rattle.net_ir.specs.Runs.{netlist_of}
 use Rattle.cec_opt_sources.proofs.SmallNets.{small_stands}
 use Rattle.cec_opt_sources.proofs.texts.small_net.Goals as goal
 
 pub returns-clause-made : goal.returns-clause-made
 returns-clause-made g c = record {
-  made = c.in_ok-compiled.compiled;
   compiled = c.in_ok-compiled.ensures.compiles;
   optimizes = c.in_ok-net.ensures.optimizes;
   simple = c.in_ok-net.ensures.simple;
@@ -14,4 +12,5 @@ returns-clause-made g c = record {
 
 pub returns-clause-compiles : goal.returns-clause-compiles
 returns-clause-compiles g c =
-    small_stands c.args.text.now (option_map (λ m. m.now) c.args.main) (netlist_of c.in_ok-net.net) (returns-clause-made g c)
+    small_stands c.args.text.now (option_map (λ m. m.now) c.args.main)
+    (record { compiled = c.in_ok-compiled.compiled; net = c.in_ok-net.net }) (returns-clause-made g c)

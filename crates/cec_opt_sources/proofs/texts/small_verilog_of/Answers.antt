@@ -1,16 +1,15 @@
 use Rattle.std.specs.Prelude.{option_map}
-use Rattle.net_ir.specs.Runs.{netlist_of}
 use Rattle.cec_opt_sources.proofs.SmallNets.{verilog_stands}
 use Rattle.cec_opt_sources.proofs.texts.small_verilog_of.Goals as goal
 
 pub returns-clause-compiles : goal.returns-clause-compiles
 returns-clause-compiles g c =
-    verilog_stands c.args.text.now (option_map (λ m. m.now) c.args.main) (netlist_of c.in_ok-net.net) c.in_ok-written.written.items
-    c.in_ok-net.ensures.made c.in_ok-written.ensures.means
+    verilog_stands c.args.text.now (option_map (λ m. m.now) c.args.main) c.in_ok-small.small c.in_ok-written.written.items
+    c.in_ok-small.ensures.made c.in_ok-written.ensures.means
 
 pub returns-clause-made : goal.returns-clause-made
 returns-clause-made g c = record {
-  net = netlist_of c.in_ok-net.net;
-  small = c.in_ok-net.ensures.made;
+  small = c.in_ok-small.small;
+  is = c.in_ok-small.ensures.made;
   text = c.in_ok-written.ensures.text;
 }
