@@ -264,6 +264,49 @@ def functions_have_callers():
     return found + [f"checks/uncalled.txt: {word} has a caller, or is gone" for word in sorted(listed.keys() - uncalled)]
 
 
+# The libraries that the product uses.
+LIBRARIES = ("indexmap", "itoa", "smallvec", "thiserror")
+
+# A public type whose name says that it is a fault, with what it derives.
+FAULT = re.compile(r"((?:#\[[^\n]*\]\n)*)pub (?:enum|struct) (\w*(?:Fault|Error|Refusal|NoMemory|Stop))\b")
+
+# Such types without messages of their own, and why.
+WITHOUT_MESSAGE = {
+    "base_types::Stop": "either a fault of a type parameter, which has the message, or out of memory",
+    "csub_guard_read::NameFault": "stays in its crate",
+    "vlog_read::NameFault": "stays in its crate",
+}
+
+
+def libraries_are_used():
+    """Each of the libraries is listed by a crate and named in its code."""
+    found = []
+    listed = {}
+    for line in (TOP / "crates.txt").read_text().splitlines():
+        name, colon, below = line.split("#")[0].partition(":")
+        if colon:
+            listed[name] = [it for it in below.split() if it in LIBRARIES]
+    for library in LIBRARIES:
+        if not any(library in below for below in listed.values()):
+            found.append(f"no crate uses {library}")
+    for name, below in listed.items():
+        code = "".join(it.read_text() for it in (TOP / "crates" / name / "src").rglob("*.rt"))
+        found += [f"{name} lists {library} and does not use it" for library in below if f"use {library}::" not in code]
+    return found
+
+
+def faults_have_messages():
+    """Each public fault type derives its messages by thiserror, or is listed above with a reason that still holds."""
+    bare = set()
+    for name in crates():
+        for path in (TOP / "crates" / name / "src").rglob("*.rt"):
+            for attributes, fault in FAULT.findall(path.read_text()):
+                if not re.search(r"derive\([^)]*\bError\b", attributes):
+                    bare.add(f"{name}::{fault}")
+    found = [f"{word} derives no messages" for word in sorted(bare - WITHOUT_MESSAGE.keys())]
+    return found + [f"{word} is listed without need" for word in sorted(WITHOUT_MESSAGE.keys() - bare)]
+
+
 def lemmas_are_said_once():
     """No two files of proofs have a lemma of the same type: see checks/lemmas.py."""
     return [", ".join(them) for them in lemmas.twice(TOP)]
@@ -385,6 +428,8 @@ CHECKS = [
     ("pages name crates that are there", pages_name_crates_that_are, "git"),
     ("one word has one meaning", words_have_one_meaning, None),
     ("public functions have callers", functions_have_callers, None),
+    ("libraries are used", libraries_are_used, None),
+    ("faults have messages", faults_have_messages, None),
     ("every edit is named in words", edits_are_named, None),
     ("every edit has its text", edits_apply, None),
     ("no handle is allowed", handles_are_none, None),

@@ -19,17 +19,22 @@ use blif_text::Blif;
 use net_ir::{Net, look_at_wires};
 use run_over_traces::{Interface, Language};
 use std::alloc::Global;
+use thiserror::Error;
 
 /// The first fault of a BLIF text that must be run.
-#[derive(Debug, Drop)]
+#[derive(Debug, Drop, Error)]
 pub enum BlifTextFault {
     /// The first line, counted from 1, that is no line of the profile in its place.
+    #[error("line {0} is not in the profile")]
     Line(u32),
     /// The first name that is driven a second time.
+    #[error("a name has two drivers")]
     TwoDrivers(Text),
     /// The first name that is used and not driven.
+    #[error("a name has no driver")]
     NoDriver(Text),
     /// The text has none of these faults, and its tables have this combinational cycle.
+    #[error("the tables have a cycle")]
     Loop(Vec<Text>),
 }
 

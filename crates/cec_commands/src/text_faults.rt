@@ -8,18 +8,23 @@ ghost use Rattle.cec_commands.specs.declared.text_faults.TextFault.TheVariants.{
 use blif_run::BlifTextFault as CircuitFault;
 use csub_guard_run::GuardedTextFault as GuardedFault;
 use csub_run::CTextFault as ProgramFault;
+use thiserror::Error;
 use vlog_run::VerilogTextFault as ModuleFault;
 
 /// The first fault of a text that must be run, by its language.
-#[derive(Debug, Drop)]
+#[derive(Debug, Drop, Error)]
 pub enum TextFault {
     /// Of a BLIF text.
+    #[error(transparent)]
     Blif(CircuitFault),
     /// Of a text of the C subset.
+    #[error(transparent)]
     C(ProgramFault),
     /// Of a guarded text.
+    #[error(transparent)]
     Guard(GuardedFault),
     /// Of a text of structural Verilog.
+    #[error(transparent)]
     Verilog(ModuleFault),
 }
 

@@ -58,7 +58,7 @@ pub struct Graphed {
 #[derive(Drop)]
 pub struct Compiled {
     pub graph: Graph,
-    /// The wires of the program's own graph that each shared wire stands for. None where the graph is the program's own.
+    /// The wires of the program's own graph that each shared wire stands for; none where the graph is that one.
     pub members: Option<Members>,
     pub order: Order,
     pub net: Net,
@@ -223,7 +223,8 @@ fn shared_where_possible(alloc: Global, found: Graphed) -> Result<Sharing, NoMem
     ensures program { IfOk result (λ s. program_of s.ranked.graph.program ≡ program_of found.graph.program) }
     ensures ranked { IfOk result (λ s. IsRanked s.ranked (program_of found.graph.program)) }
     ensures shares { IfOk result (λ s. SharesWires (program_of found.graph.program) (is_shared s.ranked.graph)) }
-    ensures members { IfOk result (λ s. AreMembers (program_of found.graph.program) (is_shared s.ranked.graph) s.members) }
+    ensures members { IfOk result (λ s. AreMembers (program_of found.graph.program)
+        (is_shared s.ranked.graph) s.members) }
 {
     shared_ranks_go_up();
     shared_orders_are_reading_orders();

@@ -27,7 +27,7 @@ impl Members {
         self.count
     }
 
-    /// The members of the shared wire with this number: wires of the program's own graph, ascending. It takes no memory.
+    /// The members of the shared wire with this number: wires of the program's graph, ascending. It takes no memory.
     pub fn of(&self, w: WireId) -> &[WireId]
         requires { w.0 < self.now.count }
         ensures { result.now ≡ member_run self.now.list.items self.now.firsts.items w.0 }

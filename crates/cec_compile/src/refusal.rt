@@ -10,6 +10,7 @@ use est_front::{Fault, Quantity};
 use grc_build::BuildFault;
 use grc_layout::CopyFault;
 use std::alloc::AllocError;
+use thiserror::Error;
 
 /// What passes its limit; `base_types::Limits` has the numbers.
 #[derive(Clone, Copy, Debug, PartialEq, Eq)]
@@ -39,15 +40,19 @@ pub enum Limit {
 }
 
 /// Why a source has no text.
-#[derive(Debug, Drop)]
+#[derive(Debug, Drop, Error)]
 pub enum Refusal {
     /// The source's first static fault.
+    #[error(transparent)]
     Static(Fault),
     /// The dependency relation has this cycle.
+    #[error("the dependencies have a cycle")]
     Cyclic(Cycle),
     /// The quantity passes its limit.
+    #[error("a limit is passed")]
     Limit(Limit),
     /// Running out of memory.
+    #[error("no memory")]
     NoMemory,
 }
 

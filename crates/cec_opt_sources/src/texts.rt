@@ -87,8 +87,8 @@ pub struct SmallSource {
 }
 
 /// A source compiled, and its netlist optimized. The optimized netlist keeps what the source's program means
-/// (`NetKeeps`), and has no more gates and no more latches than the netlist of the compiled source beside it. It refuses
-/// what `compile` refuses.
+/// (`NetKeeps`), and has no more gates and no more latches than that of the compiled source. It refuses what `compile`
+/// refuses.
 pub fn small_net<P: Picker>(
     alloc: Global,
     text: &[u8],

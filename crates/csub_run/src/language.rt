@@ -16,17 +16,22 @@ use csub_text::CProgram;
 use net_ir::Net;
 use run_over_traces::{Interface, Language};
 use std::alloc::Global;
+use thiserror::Error;
 
 /// The first fault of a text of the C subset.
-#[derive(Debug, Drop)]
+#[derive(Debug, Drop, Error)]
 pub enum CTextFault {
     /// At this byte stands the first token that no text of the C subset passes, or here the text ends too early.
+    #[error("byte {0} cannot stand here")]
     Syntax(u32),
     /// The first name that is declared a second time.
+    #[error("a name is declared twice")]
     Twice(Text),
     /// The first name that is used and not declared, or is assigned and is an input.
+    #[error("a name is not declared")]
     Undeclared(Text),
     /// The first local that is read before it is assigned.
+    #[error("a local is read before it is assigned")]
     Unset(Text),
 }
 

@@ -8,6 +8,7 @@ ghost use Rattle.est_gen.specs.Sources.{waited_name};
 
 use base_types::{Draw, Limits, NoMemory, put};
 use std::alloc::Global;
+use thiserror::Error;
 
 /// A generated source, and the draws that go on after it.
 #[derive(Drop)]
@@ -17,11 +18,13 @@ pub struct Generated {
 }
 
 /// Why no source is generated.
-#[derive(Clone, Copy, Debug, PartialEq)]
+#[derive(Clone, Copy, Debug, Error, PartialEq)]
 pub enum GenFault {
     /// No branch, or more than `Limits::BRANCHES`.
+    #[error("the number of branches is not in range")]
     BadBranches,
     /// Memory was wanted and not found.
+    #[error("no memory")]
     NoMemory,
 }
 

@@ -1,7 +1,6 @@
 -- When instances are too many: with more of them behind, and after some that were appended.
-use Rattle.std.proofs.Common.{◌≡◌, ℕ, ◌+◌, ◌<◌, ◌≤◌, List, [], ◌∷◌, ◌++◌, length, map, drop, refl, sym, ap, ◌∙◌, arith, append_assoc, length-append}
+use Rattle.std.proofs.Common.{◌≡◌, ◌+◌, List, [], ◌∷◌, ◌++◌, length, map, ap, ◌∙◌, arith, append_assoc, length-append}
 use Rattle.std.proofs.lemmas.List.{length-map}
-use Rattle.grc_graph.specs.Layers.{Liveness}
 use Rattle.grc_graph.specs.Instances as plain
 use Rattle.grc_graph.specs.Instances.{instances, instances_at}
 use Rattle.grc_graph.specs.PlainInstances.{instance_of}

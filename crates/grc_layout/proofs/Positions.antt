@@ -1,5 +1,5 @@
 -- In which layers the parts of a statement are live, from the positions that the walk gives them.
-use Rattle.std.proofs.Common.{◌≡◌, ℕ, ◌+◌, ◌≤◌, ◌<◌, Bool, true, false, ◌&&◌, ◌||◌, List, [], ◌∷◌, ◌++◌, length, map, drop, refl, sym, ap, ◌∙◌, subst, arith}
+use Rattle.std.proofs.Common.{◌≡◌, ℕ, ◌+◌, ◌≤◌, Bool, true, false, ◌&&◌, ◌||◌, List, [], ◌∷◌, ◌++◌, length, map, drop, refl, sym, ap, ◌∙◌, subst, arith}
 use Rattle.std.specs.Prelude.{if◌then◌else◌}
 use Rattle.std.proofs.lemmas.List.{drop-append-le}
 use Rattle.std.proofs.lemmas.List.{map-append}
@@ -8,9 +8,9 @@ use Rattle.std.proofs.Math.Seq.{drop-append_seam}
 use Rattle.est_kernel.specs.declared.code_lists.Codes.{Codes}
 use Rattle.est_kernel.specs.Terms.{Term, Nothing, Pause, Emit, Exit, Present, Suspend, Seq, Loop, Par, Trap, Local, Awake}
 use Rattle.est_kernel.specs.StaticCodes.{has_code, started_codes, resumed_codes}
-use Rattle.grc_graph.specs.CodeTables.{HasCodesAt, CodesFrom, set_at}
+use Rattle.grc_graph.specs.CodeTables.{CodesFrom, set_at}
 use Rattle.grc_graph.proofs.Exports.{codes_at}
-use Rattle.grc_graph.specs.Layers.{Layer, Resumed, Started, Liveness, body_liveness, root_if, can_pass, part_liveness, second_liveness, loop_liveness}
+use Rattle.grc_graph.specs.Layers.{Resumed, Started, Liveness, body_liveness, root_if, part_liveness, second_liveness, loop_liveness}
 use Rattle.grc_graph.specs.Instances as plain
 use Rattle.grc_graph.specs.Instances.{instances, instances_at, body_instances}
 use Rattle.grc_graph.specs.declared.instances.Instance.{Instance}

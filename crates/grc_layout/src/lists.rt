@@ -10,13 +10,17 @@ ghost use Rattle.grc_layout.specs.Copying.{starts, resumed_instances, liveness_o
 use crate::refusal::CopyFault;
 use base_types::{Limits, NoMemory, PathId};
 use grc_graph::{Instance, Layer};
+use smallvec::SmallVec;
+
+/// The roots of starts. A statement has few: most are in the value itself, and need no memory.
+pub(crate) type Roots = SmallVec<u32, 8>;
 
 /// The live instances so far, and the roots of the starts of the statement at hand and of those
 /// around it, the outermost first.
 #[derive(Drop)]
 pub(crate) struct Lists {
     pub live: Vec<Instance>,
-    pub roots: Vec<u32>,
+    pub roots: Roots,
 }
 
 /// Where the walk stands: at the statement with this number, which is live resumed or not, and is
@@ -89,7 +93,7 @@ fn push_instance(live: &mut Vec<Instance>, instance: Instance) -> Result<(), Cop
 }
 
 /// Appends the root where the condition holds.
-pub(crate) fn push_root(roots: &mut Vec<u32>, holds: bool, root: u32) -> Result<(), NoMemory>
+pub(crate) fn push_root(roots: &mut Roots, holds: bool, root: u32) -> Result<(), NoMemory>
     ensures { IfOk result (λ u. roots.new.items ≡ roots.old.items ++ root_if holds root) }
 {
     if holds {

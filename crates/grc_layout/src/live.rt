@@ -17,6 +17,7 @@ use crate::lists::{Lists, Position, copy_instances, push_root, second_base};
 use crate::refusal::CopyFault;
 use est_kernel::{Codes, Kernel};
 use grc_graph::{Instances, has_some_code, resumed_codes, started_codes};
+use smallvec::SmallVec;
 use std::alloc::Global;
 
 /// The live instances of the body, in the order of the graph; `codes` are the body's static codes.
@@ -30,7 +31,7 @@ pub fn copies(alloc: Global, body: &Kernel, codes: &Codes) -> Result<Instances, 
 {
     let mut lists = Lists {
         live: Vec::new(alloc),
-        roots: Vec::new(alloc),
+        roots: SmallVec::new(alloc),
     };
     push_root(&mut lists.roots, true, 0)?;
     let at = Position {

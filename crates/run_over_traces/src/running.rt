@@ -17,6 +17,7 @@ use crate::machine::Runner;
 use base_types::{InputRelation, NoMemory, Sink, SinkFault, Text};
 use run_trace_io::{Item, TraceError, TraceFault, TraceReader, reaction_line};
 use std::alloc::Global;
+use thiserror::Error;
 
 /// What a trace and the lines are read and written by.
 #[derive(Debug, Drop)]
@@ -30,13 +31,16 @@ pub struct Interface {
 }
 
 /// Why a run over a trace was not done.
-#[derive(Debug, Drop)]
+#[derive(Debug, Drop, Error)]
 pub enum RunFault {
     /// The trace has this first fault. The lines of the instants before it were written.
+    #[error(transparent)]
     Trace(TraceFault),
     /// A line was not written.
+    #[error("a line was not written")]
     Write,
     /// Running out of memory.
+    #[error("no memory")]
     NoMemory,
 }
 

@@ -16,25 +16,33 @@ use base_types::{Limits, NoMemory, Stop, Text};
 use net_ir::{Net, look_at_wires};
 use run_over_traces::{Interface, Language};
 use std::alloc::Global;
+use thiserror::Error;
 use vlog_read::{VlogFault, read_verilog};
 use vlog_text::Module;
 
 /// The first fault of a Verilog text that must be run.
-#[derive(Debug, Drop)]
+#[derive(Debug, Drop, Error)]
 pub enum VerilogTextFault {
     /// At this byte stands the first token that no text of the subset passes, or here the text ends too early.
+    #[error("byte {0} cannot stand here")]
     Syntax(u32),
     /// The first name that is declared a second time.
+    #[error("a name is declared twice")]
     Twice(Text),
     /// The first port that is wrong: `VlogFault` has the kinds, in their order.
+    #[error("a port is wrong")]
     Port(Text),
     /// The first name that is used and not declared, that is used and the clock, or that is kept and no reg.
+    #[error("a name is not declared")]
     Undeclared(Text),
     /// The first name that is driven a second time.
+    #[error("a name is driven twice")]
     TwoDrivers(Text),
     /// The first declared reg, wire or output without its drivers.
+    #[error("a name is not driven")]
     NoDriver(Text),
     /// The text has none of these faults, and its assignments have this combinational cycle.
+    #[error("the assignments have a cycle")]
     Loop(Vec<Text>),
 }
 

@@ -1,9 +1,6 @@
-use Rattle.std.proofs.Common.{◌≡◌, ◌+◌, ◌++◌, [], length, map, ap, refl, ◌∙◌, sym, subst, arith}
+use Rattle.std.proofs.Common.{length, ap, refl, ◌∙◌, arith}
 use Rattle.est_kernel.specs.Plain.{term_of}
-use Rattle.est_kernel.specs.Preorder.{statement_count}
 use Rattle.est_kernel.specs.StaticCodes.{has_code}
-use Rattle.grc_graph.specs.SelectionTrees.{body_tree, body_leaves, resumes, tree_nodes, leaf_paths}
-use Rattle.grc_graph.specs.TreeForms.{tree_node}
 use Rattle.grc_graph.proofs.Exports.{codes_of_body, codes_at, statement_count-le, tree_nests, tree_numbers}
 use Rattle.grc_layout.proofs.Growth.{body_grown}
 use Rattle.grc_layout.proofs.tree.select.Goals as goal
