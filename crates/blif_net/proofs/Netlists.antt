@@ -17,7 +17,7 @@ use Rattle.net_ir.specs.declared.netlist.Latch.{Latch}
 use Rattle.net_ir.specs.declared.netlist.NetOut.{NetOut}
 use Rattle.net_ir.specs.Gates.{gate_values, value_in, ReadsLower}
 use Rattle.net_ir.specs.NameLists.{is_among}
-use Rattle.net_ir.specs.Netlists.{Netlist, IsNet, net_count}
+use Rattle.net_ir.specs.Netlists.{Netlist, IsNet, first_gate, net_count}
 use Rattle.net_ir.specs.Runs.{net_machine, next_latches}
 use Rattle.net_ir.proofs.Exports.{all_differ-append, found-low, found-at}
 use Rattle.blif_text.specs.Circuits.{Circuit, CircuitLatch, Table}
@@ -35,6 +35,7 @@ use Rattle.blif_run.specs.Loops.{equations_of}
 use Rattle.blif_run.specs.Plans.{given_names, all_names}
 use Rattle.blif_run.proofs.Exports.{names-are, given-count, sound-equations, IsOnly, only-instant}
 use Rattle.blif_net.specs.declared.assembling.Named.{Named}
+use Rattle.blif_net.specs.Depths.{HasDepth, gate_depths, greatest}
 use Rattle.blif_net.specs.Sizes.{gates_of}
 use Rattle.blif_net.specs.Conversions.{FitsCircuit, ShowsCircuit, SameLatches, IsNetOf}
 use Rattle.blif_net.specs.Drawings.{IsDrawing, read_values}
@@ -182,7 +183,8 @@ named-net c sound fit gates nets named n d each low =
 module _ (c : Circuit) (sound : IsSound c) (fit : IsFit c) (order : List ℕ)
     (is : IsEvaluationOrder (length (equations_of c)) (equation_edges (given_names c) (equations_of c)) order) (gates : List Gate) (nets : List NetId)
     (s : Settles (length (given_names c)) (length (equations_of c)) gates nets (ordered_steps (given_names c) (equations_of c) order))
-    (drawn : length gates ≡ gates_of c) (named : Named) (n : IsNamed c nets named) where
+    (drawn : length gates ≡ gates_of c)
+    (deep : HasDepth c (greatest (gate_depths (replicate (length (given_names c)) 0) gates))) (named : Named) (n : IsNamed c nets named) where
   abbrev net : Netlist
   net = net_with named gates
 
@@ -298,9 +300,15 @@ module _ (c : Circuit) (sound : IsSound c) (fit : IsFit c) (order : List ℕ)
     outputs = words;
     silent = s.drawing.silent;
     gates = drawn;
+    deep = subst (λ first. HasDepth c (greatest (gate_depths (replicate first 0) gates))) (sym first-is) deep;
     follows = net-follows;
   }
     where
+      first-is : first_gate net ≡ length (given_names c)
+      first-is =
+          let inputs : length named.names.inputs.items ≡ length c.inputs = ap length n.inputs in
+          let latches : length named.latches.items ≡ length c.latches = ap length n.latches ∙ length-map c.latches (latch_named (driven_names c) nets) in
+          omega (arith, inputs, latches, given-count c)
       words : output_words net ≡ c.outputs
       words =
           ap (λ l. l ++ paused_word ∷ []) (ap (λ ins. map (λ (o : NetOut). output_word ins o.name) named.outputs.items) n.inputs ∙ n.words)

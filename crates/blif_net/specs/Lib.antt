@@ -5,3 +5,4 @@ pub mod Interfaces
 pub mod Checking
 pub mod Conversions
 pub mod Tables
+pub mod Depths

@@ -1,6 +1,6 @@
 -- Inner: the nets of the names of a circuit, as its tables are drawn one after another, and the netlist of them.
 use Rattle.std.specs.Prelude.{◌≡◌, ℕ, ◌+◌, ◌<◌, Bool, false, List, [], ◌∷◌, ◌++◌, length, map, replicate}
-use Rattle.std.specs.Prelude.{slice_index_or, All, IsTrue}
+use Rattle.std.specs.Prelude.{slice_index_or, slice_set, max, All, IsTrue}
 use Rattle.std.specs.List.{list_any}
 use Rattle.base_types.specs.declared.indices.NetId.{NetId}
 use Rattle.base_types.specs.Names.{is_name}
@@ -17,7 +17,8 @@ use Rattle.blif_run.specs.Truths.{no_table}
 use Rattle.run_steps.specs.Slots.{slot_in, value_at}
 use Rattle.run_steps.specs.Steps.{Step, settled}
 use Rattle.blif_net.specs.declared.assembling.Named.{Named}
-use Rattle.blif_net.specs.Drawings.{IsDrawing, read_values}
+use Rattle.blif_net.specs.Depths.{gate_depths, greatest, table_depth}
+use Rattle.blif_net.specs.Drawings.{IsDrawing, read_depths, read_values}
 
 -- the step of a table whose output and inputs have these slots
 abbrev pub rows_step : ℕ → List ℕ → List (List Cell) → Step
@@ -79,3 +80,28 @@ pub record IsAssembled (c : Circuit) (gates : List Gate) (nets : List NetId) (ne
   pub named : Named
   pub are_named : IsNamed c nets named
   pub net_is : net ≡ net_with named gates
+
+-- ---- depths
+
+-- the depths of the nets of slots, where those before the first gate are given
+abbrev pub slot_depths : List NetId → List Gate → List ℕ → List ℕ
+slot_depths nets gates given = read_depths nets (gate_depths given gates)
+
+-- the depth of a table whose inputs have these slots, by the depths of all slots
+abbrev pub slots_depth : List ℕ → List (List Cell) → List ℕ → ℕ
+slots_depth reads rows depths = table_depth rows (map (λ s. slice_index_or depths s 0) reads)
+
+-- The net of a slot has this depth, by the depths of the slots so far, and no gate more is deeper.
+pub record AddsDepth (first : ℕ) (gates : List Gate) (nets : List NetId) (more : List Gate) (new : List NetId)
+    (slot : ℕ) (depth : List ℕ → ℕ) : Type 0 where
+  pub deep : (given : List ℕ) → length given ≡ first
+      → slot_depths new more given ≡ slice_set (slot_depths nets gates given) slot (depth (slot_depths nets gates given))
+  pub top : (given : List ℕ) → length given ≡ first
+      → greatest (gate_depths given more)
+      ≡ max (greatest (gate_depths given gates)) (depth (slot_depths nets gates given))
+
+-- before the first table no net of a slot is deep
+pub record BeginsFlat (first count : ℕ) (gates : List Gate) (nets : List NetId) : Type 0 where
+  pub each : length nets ≡ first + count
+  pub flat : (s : ℕ) → slice_index_or (slot_depths nets gates (replicate first 0)) s 0 ≡ 0
+  pub top : greatest (gate_depths (replicate first 0) gates) ≡ 0

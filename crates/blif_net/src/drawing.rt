@@ -1,16 +1,17 @@
 // The gates of a circuit's tables, drawn one after another.
 
 ghost use Rattle.std.specs.Prelude.{◌≡◌, ℕ, ◌+◌, ◌<◌, ◌≤◌, ◌^◌, [], None, false, length, map, min, slice_index_or, All};
-ghost use Rattle.std.specs.Prelude.{IfOk, OnOk};
+ghost use Rattle.std.specs.Prelude.{IfOk, OnOk, replicate};
 ghost use Rattle.base_types.specs.declared.indices.NetId.{NetId};
 ghost use Rattle.blif_text.specs.Plain.{plain_circuit, plain_row};
 ghost use Rattle.blif_run.specs.Loops.{IsDescribed, equations_of};
 ghost use Rattle.blif_run.specs.Plans.{given_names};
 ghost use Rattle.run_steps.specs.Order.{IsEvaluationOrder};
 ghost use Rattle.run_steps.specs.Solvers.{IsResolved, equation_edges, ordered_steps};
+ghost use Rattle.blif_net.specs.Depths.{HasDepth, gate_depths, greatest};
 ghost use Rattle.blif_net.specs.Drawings.{IsDrawing};
 ghost use Rattle.blif_net.specs.Sizes.{gates_of, nets_at_most, table_gates, table_nets};
-ghost use Rattle.blif_net.specs.Tables.{Settles, AddsStep, rows_step};
+ghost use Rattle.blif_net.specs.Tables.{Settles, AddsDepth, AddsStep, BeginsFlat, rows_step, slots_depth};
 
 use crate::tables::table_net;
 use base_types::{NetId, NoMemory};
@@ -44,6 +45,8 @@ pub(crate) fn drawn_tables(
         (length (equations_of (plain_circuit blif.now))) d.gates.items d.nets.items
         (ordered_steps (given_names (plain_circuit blif.now)) (equations_of (plain_circuit blif.now)) order.now)) }
     ensures count { IfOk result (λ d. length d.gates.items ≡ gates_of (plain_circuit blif.now)) }
+    ensures deep { IfOk result (λ d. HasDepth (plain_circuit blif.now)
+        (greatest (gate_depths (replicate (length (given_names (plain_circuit blif.now))) 0) d.gates.items))) }
 {
     let first = resolved.first;
     let mut drawing = first_drawing(alloc, first, blif.tables.len())?;
@@ -66,6 +69,7 @@ fn first_drawing(alloc: Global, first: usize, count: usize) -> Result<Drawing, N
     requires few { first < 2 ^ 32 }
     ensures settles { IfOk result (λ d. Settles first count d.gates.items d.nets.items []) }
     ensures one { IfOk result (λ d. length d.gates.items ≡ 1) }
+    ensures deep { IfOk result (λ d. BeginsFlat first count d.gates.items d.nets.items) }
 {
     let nets = first_nets(alloc, first, count)?;
     let gates = vec![in alloc; never()]?;
@@ -111,6 +115,8 @@ fn draw_table(
     requires room { first + length drawing.old.gates.items + table_nets (map plain_row rows.now) ≤ 2 ^ 32 }
     ensures adds { OnOk result (AddsStep first drawing.old.gates.items drawing.old.nets.items drawing.new.gates.items
         drawing.new.nets.items (rows_step slot reads.now (map plain_row rows.now))) }
+    ensures deep { OnOk result (AddsDepth first drawing.old.gates.items drawing.old.nets.items drawing.new.gates.items
+        drawing.new.nets.items slot (slots_depth reads.now (map plain_row rows.now))) }
     ensures count { OnOk result (length drawing.new.gates.items
         ≡ length drawing.old.gates.items + table_gates (length reads.now) (map plain_row rows.now)) }
     ensures few { OnOk result (length drawing.new.gates.items

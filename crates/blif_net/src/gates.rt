@@ -1,9 +1,10 @@
 // Gates one after another, none of which carries a wire.
 
 ghost use Rattle.std.specs.Prelude.{◌≡◌, ℕ, ◌+◌, ◌<◌, ◌≤◌, ◌^◌, true, false, not, ◌&&◌, ◌||◌, Option, Some, length};
-ghost use Rattle.std.specs.Prelude.{IfOk, OnOk};
+ghost use Rattle.std.specs.Prelude.{IfOk, OnOk, slice_index_or};
 ghost use Rattle.net_ir.specs.Gates.{op_value, operand_end, value_in};
-ghost use Rattle.blif_net.specs.Drawings.{IsDrawing, Draws, Joins, is_low, said};
+ghost use Rattle.blif_net.specs.Depths.{joined_depth, op_depth};
+ghost use Rattle.blif_net.specs.Drawings.{IsDrawing, Deepens, Draws, Joins, depth_at, is_low, said};
 
 use base_types::{NetId, NoMemory};
 use net_ir::{Gate, Op};
@@ -15,6 +16,8 @@ pub(crate) fn push_gate(first: usize, gates: &mut Vec<Gate>, op: Op) -> Result<N
     requires room { first + length gates.old.items < 2 ^ 32 }
     ensures draws { IfOk result (λ n. Draws first gates.old.items gates.new.items (Some n) false
         (λ values. op_value (value_in values) op)) }
+    ensures deep { IfOk result (λ n. Deepens first gates.old.items gates.new.items (Some n)
+        (λ depths. Some (op_depth (λ k. slice_index_or depths k 0) op))) }
     ensures one { OnOk result (length gates.new.items ≡ length gates.old.items + 1) }
 {
     let number = first + gates.len();
@@ -35,6 +38,8 @@ pub(crate) fn both(
     requires room { first + length gates.old.items < 2 ^ 32 }
     ensures draws { IfOk result (λ n. Draws first gates.old.items gates.new.items (Some n) true
         (λ values. said true all values && said true (Some net) values)) }
+    ensures deep { IfOk result (λ n. Deepens first gates.old.items gates.new.items (Some n)
+        (λ depths. joined_depth (depth_at all depths) (slice_index_or depths net.0 0))) }
     ensures joins { IfOk result (λ n. (before parts : ℕ) → Joins before (length gates.old.items) all parts
         → Joins before (length gates.new.items) (Some n) (parts + 1)) }
     ensures few { OnOk result (length gates.new.items ≤ length gates.old.items + 1) }
@@ -58,6 +63,8 @@ pub(crate) fn either(
     requires room { first + length gates.old.items < 2 ^ 32 }
     ensures draws { IfOk result (λ n. Draws first gates.old.items gates.new.items (Some n) false
         (λ values. said false any values || said false (Some net) values)) }
+    ensures deep { IfOk result (λ n. Deepens first gates.old.items gates.new.items (Some n)
+        (λ depths. joined_depth (depth_at any depths) (slice_index_or depths net.0 0))) }
     ensures joins { IfOk result (λ n. (before parts : ℕ) → Joins before (length gates.old.items) any parts
         → Joins before (length gates.new.items) (Some n) (parts + 1)) }
     ensures few { OnOk result (length gates.new.items ≤ length gates.old.items + 1) }

@@ -1,11 +1,12 @@
 // Gates that compute tables.
 
-ghost use Rattle.std.specs.Prelude.{◌≡◌, ℕ, ◌+◌, ◌*◌, ◌<◌, ◌≤◌, ◌^◌, ◌&&◌, ◌||◌, true, false, Some, map, length};
-ghost use Rattle.std.specs.Prelude.{All, IfOk, OnOk};
+ghost use Rattle.std.specs.Prelude.{◌≡◌, ℕ, ◌+◌, ◌*◌, ◌<◌, ◌≤◌, ◌^◌, ◌&&◌, ◌||◌, true, false, Some, None, map, length};
+ghost use Rattle.std.specs.Prelude.{All, IfOk, OnOk, slice_index_or};
 ghost use Rattle.std.specs.List.{list_any, sum_by};
 ghost use Rattle.blif_text.specs.Plain.{plain_row};
 ghost use Rattle.blif_text.specs.Runs.{cell_fits, row_fits};
-ghost use Rattle.blif_net.specs.Drawings.{IsDrawing, Draws, Joins, is_low, said, read_values};
+ghost use Rattle.blif_net.specs.Depths.{cell_depth, cells_depth, row_depth, row_joined, table_depth};
+ghost use Rattle.blif_net.specs.Drawings.{IsDrawing, Deepens, Draws, Joins, depth_at, is_low, said, read_depths, read_values};
 ghost use Rattle.blif_net.specs.Sizes.{cell_parts, if_wide, row_gates, row_nets, table_gates, table_nets};
 
 use crate::gates::{both, either, push_gate};
@@ -25,6 +26,8 @@ pub(crate) fn table_net(
     requires room { first + length gates.old.items + table_nets (map plain_row rows.now) ≤ 2 ^ 32 }
     ensures draws { IfOk result (λ n. Draws first gates.old.items gates.new.items (Some n) false
         (λ values. list_any (λ row. row_fits row (read_values reads.now values)) (map plain_row rows.now))) }
+    ensures deep { IfOk result (λ n. Deepens first gates.old.items gates.new.items (Some n)
+        (λ depths. Some (table_depth (map plain_row rows.now) (read_depths reads.now depths)))) }
     ensures count { OnOk result (length gates.new.items
         ≡ length gates.old.items + table_gates (length reads.now) (map plain_row rows.now)) }
     ensures few { OnOk result (length gates.new.items ≤ length gates.old.items + table_nets (map plain_row rows.now)) }
@@ -53,6 +56,8 @@ fn with_row(
     requires room { first + length gates.old.items + row_nets row.now.cells.items ≤ 2 ^ 32 }
     ensures draws { IfOk result (λ o. Draws first gates.old.items gates.new.items o false
         (λ values. said false any values || row_fits row.now.cells.items (read_values reads.now values))) }
+    ensures deep { IfOk result (λ o. Deepens first gates.old.items gates.new.items o
+        (λ depths. row_joined (read_depths reads.now depths) (depth_at any depths) row.now.cells.items)) }
     ensures joins { IfOk result (λ o. (before count : ℕ) → Joins before (length gates.old.items) any count
         → Joins (before + if_wide (length reads.now) row.now.cells.items (row_gates row.now.cells.items))
         (length gates.new.items) o (count + if_wide (length reads.now) row.now.cells.items 1)) }
@@ -79,6 +84,8 @@ fn row_net(
     requires room { first + length gates.old.items + (2 * length cells.now + 1) ≤ 2 ^ 32 }
     ensures draws { IfOk result (λ n. Draws first gates.old.items gates.new.items (Some n) true
         (λ values. row_fits cells.now (read_values reads.now values))) }
+    ensures deep { IfOk result (λ n. Deepens first gates.old.items gates.new.items (Some n)
+        (λ depths. Some (row_depth cells.now (read_depths reads.now depths)))) }
     ensures count { OnOk result (length gates.new.items ≡ length gates.old.items + row_gates cells.now) }
     ensures few { OnOk result (length gates.new.items ≤ length gates.old.items + (2 * length cells.now + 1)) }
 {
@@ -101,6 +108,8 @@ fn joined_cells(
     requires room { first + length gates.old.items + 2 * length cells.now ≤ 2 ^ 32 }
     ensures draws { IfOk result (λ o. Draws first gates.old.items gates.new.items o true
         (λ values. row_fits cells.now (read_values reads.now values))) }
+    ensures deep { IfOk result (λ o. Deepens first gates.old.items gates.new.items o
+        (λ depths. cells_depth None cells.now (read_depths reads.now depths))) }
     ensures joins { IfOk result (λ o. Joins (length gates.old.items) (length gates.new.items) o
         (sum_by cell_parts cells.now)) }
     ensures few { OnOk result (length gates.new.items ≤ length gates.old.items + 2 * length cells.now) }
@@ -126,6 +135,8 @@ fn with_cell(
     requires room { first + length gates.old.items + 2 ≤ 2 ^ 32 }
     ensures draws { IfOk result (λ o. Draws first gates.old.items gates.new.items o true
         (λ values. said true all values && cell_fits cell (said true (Some net) values))) }
+    ensures deep { IfOk result (λ o. Deepens first gates.old.items gates.new.items o
+        (λ depths. cell_depth (depth_at all depths) cell (slice_index_or depths net.0 0))) }
     ensures joins { IfOk result (λ o. (before parts : ℕ) → Joins before (length gates.old.items) all parts
         → Joins before (length gates.new.items) o (parts + cell_parts cell)) }
     ensures few { OnOk result (length gates.new.items ≤ length gates.old.items + 2) }

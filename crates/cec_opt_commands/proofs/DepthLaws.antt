@@ -8,25 +8,11 @@ use Rattle.net_ir.specs.Gates.{operand_end}
 use Rattle.net_ir.specs.declared.netlist.Gate.{Gate}
 use Rattle.net_ir.specs.declared.netlist.Op.{Op}
 use Rattle.net_ir.specs.declared.netlist.Op.TheVariants.{Const, Copy, Not, And, Or}
-use Rattle.cec_opt_commands.specs.Depths.{op_depth, gate_depths, greatest}
-
-pub greatest-push : (xs : List ℕ) (y : ℕ) → greatest (xs ++ y ∷ []) ≡ max (greatest xs) y
-greatest-push [] y = grind (arith, common_steps)
-greatest-push (x ∷ xs) y = grind (arith, common_steps, greatest-push xs y)
-
-pub gate_depths-push : (depths : List ℕ) (gates : List Gate) (g : Gate)
-    → gate_depths depths (gates ++ g ∷ []) ≡ gate_depths depths gates ++ op_depth (λ n. slice_index_or (gate_depths depths gates) n 0) g.op ∷ []
-gate_depths-push depths [] g = refl
-gate_depths-push depths (h ∷ gates) g = gate_depths-push (depths ++ op_depth (λ n. slice_index_or depths n 0) h.op ∷ []) gates g
+use Rattle.blif_net.specs.Depths.{op_depth, gate_depths}
+use Rattle.blif_net.proofs.Exports.{gate_depths-push, length-gate_depths}
 
 higher : (a b most : ℕ) → a ≤ most → b ≤ most → max a b + 1 ≤ most + 1
 higher a b most p q = grind (arith, common_steps, p, q)
-
-pub length-gate_depths : (depths : List ℕ) (gates : List Gate) → length (gate_depths depths gates) ≡ length depths + length gates
-length-gate_depths depths [] = omega arith
-length-gate_depths depths (g ∷ gates) =
-    let d = op_depth (λ n. slice_index_or depths n 0) g.op in
-    omega (arith, length-gate_depths (depths ++ d ∷ []) gates, length_push depths d)
 
 op_depth-low : (depths : List ℕ) (op : Op) (most : ℕ) → All (λ d. d ≤ most) depths → operand_end op ≤ length depths
     → op_depth (λ n. slice_index_or depths n 0) op ≤ most + 1

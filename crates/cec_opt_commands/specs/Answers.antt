@@ -10,7 +10,7 @@ use Rattle.csub_text.specs.Written as c_texts
 use Rattle.vlog_text.specs.Written as verilog_texts
 use Rattle.cec_opt_texts.specs.Alike.{BlifKeeps, CKeeps, VerilogKeeps}
 use Rattle.cec_opt_texts.specs.Optimized.{IsSmallNetOf, IsTextNet}
-use Rattle.cec_opt_commands.specs.Depths.{depth_of}
+use Rattle.blif_net.specs.Depths.{depth_of}
 use Rattle.cec_opt_commands.specs.declared.words.Form.TheVariants as forms
 use Rattle.cec_opt_commands.specs.declared.words.Task.{Task}
 use Rattle.cec_opt_commands.specs.declared.words.Task.TheVariants.{Write, Check}

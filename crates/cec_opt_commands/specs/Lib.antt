@@ -1,5 +1,4 @@
 pub mod Words
-pub mod Depths
 pub mod Answers
 pub mod Statuses
 pub mod Outcomes

@@ -3,7 +3,7 @@
 ghost use Rattle.std.specs.Prelude.{◌≡◌, ◌<◌, ◌≤◌, ◌^◌, length, slice_index_or, All, IfOk};
 ghost use Rattle.net_ir.specs.Gates.{operand_end};
 ghost use Rattle.net_ir.specs.Runs.{netlist_of};
-ghost use Rattle.cec_opt_commands.specs.Depths.{depth_of, greatest, net_depths, op_depth};
+ghost use Rattle.blif_net.specs.Depths.{depth_of, greatest, net_depths, op_depth};
 
 use base_types::NoMemory;
 use net_ir::{Net, Op};

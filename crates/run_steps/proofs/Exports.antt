@@ -1,8 +1,8 @@
 -- What other crates use of these proofs.
 pub use Rattle.run_steps.proofs.Makings.{length-made, length-settled, made-append, same-step, says-is, taken-front, through}
 pub use Rattle.run_steps.proofs.TermValues.{digits-number, number-below}
-pub use Rattle.run_steps.proofs.Places.{driven-count, output-slot, place-at}
-pub use Rattle.run_steps.proofs.EquationEdges.{reads-at}
+pub use Rattle.run_steps.proofs.Places.{driven-count, given-slot, output-slot, place-at}
+pub use Rattle.run_steps.proofs.EquationEdges.{in-edges, reads-at}
 pub use Rattle.run_steps.proofs.Solving.{solved}
 pub use Rattle.run_steps.proofs.NoLoops.{IsRising, rising-no_loop}
 pub use Rattle.run_steps.proofs.OnceNames.{among-element, differ-behind, differ-both, differ-filter, each-element, element-among, first-or_later, in-parts}

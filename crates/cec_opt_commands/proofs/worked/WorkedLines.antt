@@ -6,7 +6,7 @@ use Rattle.net_ir.specs.Netlists.{Netlist}
 use Rattle.blif_net.specs.declared.fault.CircuitFault.TheVariants.{NoPause, Model, Input, Output, Again}
 use Rattle.cec_opt_texts.specs.declared.fault.OptFault.TheVariants.{Line, TwoDrivers, NoDriver, Circuit}
 use Rattle.cec_opt_commands.specs.Answers.{counts_line}
-use Rattle.cec_opt_commands.specs.Depths.{op_depth, net_depths, greatest, depth_of}
+use Rattle.blif_net.specs.Depths.{op_depth, net_depths, greatest, depth_of}
 use Rattle.cec_opt_commands.specs.Lines.{line_of, subject_of}
 use Rattle.cec_opt_commands.specs.Statuses.{status_of, written_of, written_outcome}
 use Rattle.cec_opt_commands.specs.Words.{Tell, misuse_of, request_by}

@@ -18,5 +18,5 @@ returns c =
     let a = c.in_ok-net.ensures in
     subst (λ (net : Netlist). IsNetOf circuit net) (sym a.net_is)
     (net-is circuit sound c.requires.fits c.args.order.now c.requires.order drawing.gates.items drawing.nets.items
-    c.in_ok-drawing.ensures.settles c.in_ok-drawing.ensures.count
+    c.in_ok-drawing.ensures.settles c.in_ok-drawing.ensures.count c.in_ok-drawing.ensures.deep
     a.named a.are_named)

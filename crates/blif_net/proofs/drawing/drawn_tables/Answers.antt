@@ -1,8 +1,8 @@
-use Rattle.std.proofs.Common.{◌≡◌, ◌+◌, ◌<◌, ℕ, List, [], ◌∷◌, ◌++◌, length, map, take, get_or, All, sym, ap, subst, ◌∙◌, arith}
+use Rattle.std.proofs.Common.{rules, ◌≡◌, ◌+◌, ◌<◌, ℕ, max, replicate, set, List, [], ◌∷◌, ◌++◌, length, map, take, get_or, All, sym, ap, subst, ◌∙◌, arith}
 use Rattle.std.specs.declared.alloc.Global.{Global}
 use Rattle.std.specs.declared.vec.Vec.{Vec}
 use Rattle.std.specs.List.{sum_by}
-use Rattle.std.proofs.lemmas.List.{get_or-map, length-map, take_all}
+use Rattle.std.proofs.lemmas.List.{get_or-map, length-map, length-replicate, take_all}
 use Rattle.std.proofs.lemmas.List.Sums.{sum_by_more}
 use Rattle.std.proofs.lemmas.List.Elements.{recursion_from_All}
 use Rattle.blif_text.specs.Plain.{plain_circuit, plain_table, plain_row}
@@ -14,9 +14,12 @@ use Rattle.blif_run.specs.Loops.{equation_of, equations_of}
 use Rattle.blif_run.specs.Plans.{given_names}
 use Rattle.blif_run.specs.Truths.{no_table}
 use Rattle.blif_run.proofs.Exports.{sound-equations, tables-count}
+use Rattle.blif_net.specs.Depths.{gate_depths, greatest}
 use Rattle.blif_net.specs.Sizes.{table_gates, table_nets}
-use Rattle.blif_net.specs.Tables.{Settles, drawn_step, rows_step}
+use Rattle.blif_net.specs.Tables.{BeginsFlat, Settles, drawn_step, rows_step, slot_depths, slots_depth}
 use Rattle.blif_net.proofs.DrawnSizes.{gate_cost, given-few, next-made, next-room, order-gates, slots-width}
+use Rattle.blif_net.proofs.NamedDepths.{drawn-depth}
+use Rattle.blif_net.proofs.SlotDepths.{DepthsTo, next-depths, no-depths}
 use Rattle.blif_net.proofs.Slots.{steps-more, step-is, settles-as, table-rows, table-steps}
 use Rattle.blif_net.proofs.drawing.drawn_tables.Goals as goal
 
@@ -71,10 +74,11 @@ loop-table-preserved c =
     c.index-in-loop-table.ensures in
     let rows = table-rows tables t c.deref-in-loop-table.result.now c.index-in-loop-table.result.now (omega (arith, node, wide))
     c.deref-in-loop-table.ensures.value c.index-in-loop-table.ensures in
+    let read : c.deref.result.now ≡ get_or lists t [] =
+    c.deref.ensures.value ∙ ap (λ (s : Vec ℕ Global). s.items) c.index.ensures
+    ∙ sym (get_or-map (λ (s : Vec ℕ Global). s.items) reads t c.index.result.now [] (omega (arith, node, count, many))) in
     let width : length c.deref.result.now ≡ length (get_or circuit.tables t no_table).inputs =
-    ap length (c.deref.ensures.value ∙ ap (λ (s : Vec ℕ Global). s.items) c.index.ensures
-    ∙ sym (get_or-map (λ (s : Vec ℕ Global). s.items) reads t c.index.result.now [] (omega (arith, node, count, many))))
-    ∙ slots-width _ circuit.tables lists t node c.requires.resolved.reads_are in
+    ap length read ∙ slots-width _ circuit.tables lists t node c.requires.resolved.reads_are in
     let own_gates : table_gates (length c.deref.result.now) (map plain_row c.deref-in-loop-table.result.now) ≡ gate_cost circuit t =
     ap (λ n. table_gates n (map plain_row c.deref-in-loop-table.result.now)) width
     ∙ ap (table_gates (length (get_or circuit.tables t no_table).inputs)) rows in
@@ -82,9 +86,59 @@ loop-table-preserved c =
       settles = subst (λ (l : List Step). Settles first (length tables) c.draw_table.new.drawing.gates.items c.draw_table.new.drawing.nets.items l)
           (ap (λ s. map f (take i order) ++ s ∷ []) one ∙ sym (steps-more f order i 0 (omega arith))) made;
       count = omega (arith, c.in_ok-draw_table.ensures.count, c.loop-table.invariant.count, sum_by_more (gate_cost circuit) order i 0 (omega arith), own_gates);
+      depths = λ place p.
+          let zeros = replicate first 0 in
+          let flat : length zeros ≡ first = length-replicate first 0 in
+          let old = c.loop-table.drawing in
+          let adds = c.in_ok-draw_table.ensures.deep in
+          let before = slot_depths old.nets.items old.gates.items zeros in
+          let own : slots_depth c.deref.result.now (map plain_row c.deref-in-loop-table.result.now)
+          ≡ slots_depth (get_or lists t []) (get_or circuit.tables t no_table).rows =
+          (λ j. slots_depth (read j) (rows j)) in
+          let same : slots_depth c.deref.result.now (map plain_row c.deref-in-loop-table.result.now) before
+          ≡ slots_depth (get_or lists t []) (get_or circuit.tables t no_table).rows before = ap (λ (f : List ℕ → ℕ). f before) own in
+          let next = next-depths first circuit.tables lists order place p i (omega arith) before (greatest (gate_depths zeros old.gates.items))
+          (c.loop-table.invariant.depths place p) in
+          subst (λ d. DepthsTo first circuit.tables lists place (i + 1) d (greatest (gate_depths zeros c.draw_table.new.drawing.gates.items)))
+          (sym (adds.deep zeros flat ∙ ap (set before (first + t)) same))
+          (subst (λ m. DepthsTo first circuit.tables lists place (i + 1)
+          (set before (first + t) (slots_depth (get_or lists t []) (get_or circuit.tables t no_table).rows before)) m)
+          (sym (adds.top zeros flat ∙ ap (max (greatest (gate_depths zeros old.gates.items))) same)) next);
       few = next-made circuit order i (length c.loop-table.drawing.gates.items) (length c.draw_table.new.drawing.gates.items) (omega arith)
           c.loop-table.invariant.few (omega (arith, c.in_ok-draw_table.ensures.few, ap table_nets rows));
     }
+
+pub loop-table-init : goal.loop-table-init
+loop-table-init c =
+    let circuit = plain_circuit c.args.blif.now in
+    let first = c.args.resolved.now.first in
+    let tables = c.args.blif.now.tables.items in
+    let gates = c.in_ok-drawing.drawing.gates.items in
+    let nets = c.in_ok-drawing.drawing.nets.items in
+    let e = c.in_ok-drawing.ensures in
+    let count : c.len.result ≡ length tables = search rules in
+    record {
+      settles = subst (λ n. Settles first n gates nets []) count e.settles;
+      count = e.one;
+      depths = λ place p. no-depths first circuit.tables (map (λ (s : Vec ℕ Global). s.items) c.args.resolved.now.reads.items) place gates nets
+          (subst (λ n. BeginsFlat first n gates nets) (count ∙ sym (length-map tables plain_table)) e.deep);
+      few = omega (arith, e.one);
+    }
+
+pub returns-clause-deep : goal.returns-clause-deep
+returns-clause-deep c =
+    let circuit = plain_circuit c.args.blif.now in
+    let sound = described-sound c.requires.described.0 circuit c.requires.described.1 in
+    let resolved = c.args.resolved.now in
+    let order = c.args.order.now in
+    let reads : List (List ℕ) = map (λ (s : Vec ℕ Global). s.items) resolved.reads.items in
+    let drawing = c.loop-table.drawing in
+    let all : c.loop-table.table-index ≡ length order = omega arith in
+    drawn-depth circuit sound order c.requires.order resolved.first reads c.requires.resolved.first_is c.requires.resolved.reads_are
+    drawing.gates.items drawing.nets.items
+    (λ place p. subst (λ n. DepthsTo resolved.first circuit.tables reads place n
+    (slot_depths drawing.nets.items drawing.gates.items (replicate resolved.first 0)) (greatest (gate_depths (replicate resolved.first 0) drawing.gates.items)))
+    all (c.loop-table.invariant.depths place p))
 
 pub returns-clause-settles : goal.returns-clause-settles
 returns-clause-settles c =

@@ -1,8 +1,8 @@
 use Rattle.std.proofs.Common.{rules, ◌≡◌, take, slice_index_or, sym, ap, ◌∙◌}
 use Rattle.std.specs.Prelude.{max}
 use Rattle.std.proofs.lemmas.List.{take_more}
-use Rattle.cec_opt_commands.specs.Depths.{greatest}
-use Rattle.cec_opt_commands.proofs.DepthLaws.{greatest-push}
+use Rattle.blif_net.specs.Depths.{greatest}
+use Rattle.blif_net.proofs.Exports.{greatest-push}
 use Rattle.cec_opt_commands.proofs.depths.greatest.Goals as goal
 
 pub loop-number-preserved : goal.loop-number-preserved

@@ -1,5 +1,5 @@
 use Rattle.std.proofs.Common.{◌≡◌, take}
-use Rattle.cec_opt_commands.specs.Depths.{greatest}
+use Rattle.blif_net.specs.Depths.{greatest}
 use Rattle.cec_opt_commands.proofs.depths.greatest.Given as goal
 
 -- the greatest so far

@@ -3,7 +3,7 @@ use Rattle.std.proofs.lemmas.List.{take_more, length-take}
 use Rattle.net_ir.specs.Gates.{operand_end}
 use Rattle.net_ir.specs.declared.netlist.Gate.{Gate}
 use Rattle.net_ir.specs.declared.netlist.Op.TheVariants.{Const}
-use Rattle.cec_opt_commands.specs.Depths.{op_depth}
+use Rattle.blif_net.specs.Depths.{op_depth}
 use Rattle.cec_opt_commands.proofs.DepthLaws.{DepthsSoFar, count_so_far, one_gate_more}
 use Rattle.cec_opt_commands.proofs.depths.net_depths.Goals as goal
 
