@@ -309,6 +309,7 @@ module _ (c : Circuit) (sound : IsSound c) (fit : IsFit c) (order : List ℕ)
           let inputs : length named.names.inputs.items ≡ length c.inputs = ap length n.inputs in
           let latches : length named.latches.items ≡ length c.latches = ap length n.latches ∙ length-map c.latches (latch_named (driven_names c) nets) in
           omega (arith, inputs, latches, given-count c)
+
       words : output_words net ≡ c.outputs
       words =
           ap (λ l. l ++ paused_word ∷ []) (ap (λ ins. map (λ (o : NetOut). output_word ins o.name) named.outputs.items) n.inputs ∙ n.words)

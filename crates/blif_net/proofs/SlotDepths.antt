@@ -62,11 +62,14 @@ begins-flat first count nets each = record {
   where
     zeros : List ℕ
     zeros = replicate first 0 ++ 0 ∷ []
+
     zeros-top : (n : ℕ) → greatest (replicate n 0 ++ 0 ∷ []) ≡ 0
     zeros-top zero = refl
     zeros-top (suc n) = ap (λ m. max 0 m) (zeros-top n)
+
     at : (n : ℕ) → get_or zeros n 0 ≡ 0
     at n = omega (arith, at-most zeros n, zeros-top first)
+
     by : (s : ℕ) → (s < length nets) ⊎ (length nets ≤ s) → get_or (read_depths nets zeros) s 0 ≡ 0
     by s (inl low) = get_or-map (λ (n : NetId). get_or zeros n.0 0) nets s none 0 low ∙ at (get_or nets s none).0
     by s (inr high) = get_or_past (read_depths nets zeros) s 0 (omega (arith, high, length-map nets (λ (n : NetId). get_or zeros n.0 0)))
