@@ -115,7 +115,8 @@ module _ (c : Circuit) (sound : IsSound c) (order : List ℕ)
       subst (λ n. (place : ℕ → ℕ) → IsPlaced n (length c.tables) reads order place
       → DepthsTo n c.tables reads place (length order) (slot_depths nets gates (replicate n 0)) (greatest (gate_depths (replicate n 0) gates))) e
       (subst (λ l. (place : ℕ → ℕ) → IsPlaced start (length c.tables) l order place
-      → DepthsTo start c.tables l place (length order) (slot_depths nets gates (replicate start 0)) (greatest (gate_depths (replicate start 0) gates))) r all) in
+      → DepthsTo start c.tables l place (length order)
+      (slot_depths nets gates (replicate start 0)) (greatest (gate_depths (replicate start 0) gates))) r all) in
       let p : IsPlaced first (length c.tables) reads order place =
       subst (λ n. IsPlaced first n reads order place) counted
       (placed first count reads order (length-map (equations_of c) (λ (q : NameEquation). map (slot_in names) q.reads)) is) in

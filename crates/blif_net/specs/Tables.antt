@@ -95,7 +95,8 @@ slots_depth reads rows depths = table_depth rows (map (λ s. slice_index_or dept
 pub record AddsDepth (first : ℕ) (gates : List Gate) (nets : List NetId) (more : List Gate) (new : List NetId)
     (slot : ℕ) (depth : List ℕ → ℕ) : Type 0 where
   pub deep : (given : List ℕ) → length given ≡ first
-      → slot_depths new more given ≡ slice_set (slot_depths nets gates given) slot (depth (slot_depths nets gates given))
+      → slot_depths new more given
+      ≡ slice_set (slot_depths nets gates given) slot (depth (slot_depths nets gates given))
   pub top : (given : List ℕ) → length given ≡ first
       → greatest (gate_depths given more)
       ≡ max (greatest (gate_depths given gates)) (depth (slot_depths nets gates given))

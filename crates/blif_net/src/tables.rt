@@ -6,7 +6,8 @@ ghost use Rattle.std.specs.List.{list_any, sum_by};
 ghost use Rattle.blif_text.specs.Plain.{plain_row};
 ghost use Rattle.blif_text.specs.Runs.{cell_fits, row_fits};
 ghost use Rattle.blif_net.specs.Depths.{cell_depth, cells_depth, row_depth, row_joined, table_depth};
-ghost use Rattle.blif_net.specs.Drawings.{IsDrawing, Deepens, Draws, Joins, depth_at, is_low, said, read_depths, read_values};
+ghost use Rattle.blif_net.specs.Drawings.{IsDrawing, Deepens, Draws, Joins, depth_at, is_low, said, read_depths};
+ghost use Rattle.blif_net.specs.Drawings.{read_values};
 ghost use Rattle.blif_net.specs.Sizes.{cell_parts, if_wide, row_gates, row_nets, table_gates, table_nets};
 
 use crate::gates::{both, either, push_gate};

@@ -22,7 +22,8 @@ returns-in-None-clause-deep c =
     let new = c.push_gate.new.gates.items in
     let f = λ (depths : List ℕ). cells_depth None c.args.cells.now (read_depths c.args.reads.now depths) in
     let one = subst (λ o. Deepens first a b o f) c.in-None.is c.in_ok-net.ensures.deep in
-    IfOk-weaker c.push_gate.result (λ n. Deepens first b new (Some n) (λ depths. Some 0)) (λ n. Deepens first a new (Some n) (λ depths. Some (or_constant (f depths))))
+    IfOk-weaker c.push_gate.result (λ n. Deepens first b new (Some n) (λ depths. Some 0))
+    (λ n. Deepens first a new (Some n) (λ depths. Some (or_constant (f depths))))
     (λ n two. deepens-then first a b new None (Some n) f (λ depths. Some 0) (λ depths. Some (or_constant (f depths))) one two
     (λ given wide. ap (λ o. Some (or_constant o)) (one.deep given wide))
     (λ given wide. omega arith))

@@ -147,7 +147,8 @@ returns-in-None-clause-deep c =
     let whole = subst (λ l. Deepens first a b c.loop-row.any (λ depths. rows_depth (read_depths reads depths) None (map plain_row l))) all
     c.loop-row.invariant.deep in
     let one = subst (λ o. Deepens first a b o f) c.in-None.is whole in
-    IfOk-weaker c.push_gate.result (λ n. Deepens first b new (Some n) (λ depths. Some 0)) (λ n. Deepens first a new (Some n) (λ depths. Some (or_constant (f depths))))
+    IfOk-weaker c.push_gate.result (λ n. Deepens first b new (Some n) (λ depths. Some 0))
+    (λ n. Deepens first a new (Some n) (λ depths. Some (or_constant (f depths))))
     (λ n two. deepens-then first a b new None (Some n) f (λ depths. Some 0) (λ depths. Some (or_constant (f depths))) one two
     (λ given wide. ap (λ o. Some (or_constant o)) (one.deep given wide))
     (λ given wide. omega arith))

@@ -11,7 +11,8 @@ abbrev pub invariant-loop-row : goal.invariant-loop-row
 invariant-loop-row l = record {
   draws : Draws l.first l.fn.gates.items l.gates.items l.any false
       (λ values. list_any (λ row. row_fits row (read_values l.reads values)) (map plain_row (take l.row-index l.rows)));
-  deep : Deepens l.first l.fn.gates.items l.gates.items l.any (λ depths. rows_depth (read_depths l.reads depths) None (map plain_row (take l.row-index l.rows)));
+  deep : Deepens l.first l.fn.gates.items l.gates.items l.any
+      (λ depths. rows_depth (read_depths l.reads depths) None (map plain_row (take l.row-index l.rows)));
   joins : Joins (length l.fn.gates.items + sum_by (λ cells. if_wide (length l.reads) cells (row_gates cells)) (map plain_row (take l.row-index l.rows)))
       (length l.gates.items) l.any (sum_by (λ cells. if_wide (length l.reads) cells 1) (map plain_row (take l.row-index l.rows)));
   few : length l.gates.items ≤ length l.fn.gates.items + sum_by row_nets (map plain_row (take l.row-index l.rows));
