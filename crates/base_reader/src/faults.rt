@@ -4,27 +4,23 @@ ghost use Rattle.std.specs.Prelude.{◌≡◌};
 ghost use Rattle.base_reader.specs.declared.faults.ReadError.TheVariants as errors;
 
 use std::alloc::{AllocError, AllocFailed};
-use thiserror::Error;
 
 /// A place where a list of tokens leaves the language, counted from the end of the list, and
 /// whether it is only the nesting that goes too far there.
-#[derive(Clone, Copy, Debug, Error, PartialEq)]
-#[error("the language has no token where {left} are left")]
+#[derive(Clone, Copy, Debug, PartialEq)]
 pub struct Fault {
-    /// With more room the token at the place would be right.
+    /// With more room the token at the place could are there.
     pub deep: bool,
     /// How many tokens are left from the place on. It is 0 at the end of the list.
     pub left: usize,
 }
 
 /// Why a reader that allocates gives no value.
-#[derive(Clone, Copy, Debug, Error, PartialEq)]
+#[derive(Clone, Copy, Debug, PartialEq)]
 pub enum ReadError {
     /// The tokens are no member of the language.
-    #[error(transparent)]
     Fault(Fault),
     /// Running out of memory, which no clause ties to a cause.
-    #[error("no memory")]
     NoMemory,
 }
 

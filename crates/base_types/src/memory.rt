@@ -1,12 +1,10 @@
 // Running out of memory, the one answer that no clause ties to a cause.
 
 use std::alloc::{AllocError, AllocFailed};
-use thiserror::Error;
 
 /// Running out of memory. It may come at any moment of a call that allocates, and is merged with no
 /// other answer.
-#[derive(Clone, Copy, Debug, Error)]
-#[error("no memory")]
+#[derive(Clone, Copy, Debug)]
 pub struct NoMemory;
 
 impl From<AllocError> for NoMemory {

@@ -37,22 +37,17 @@ pub enum ScopeFault {
 }
 
 /// Why `expand` gives no flat program.
-#[derive(Debug, Drop, Error)]
+#[derive(Debug, Drop)]
 pub enum ExpandFault {
     /// The first name without a meaning, in the order of the walk.
-    #[error(transparent)]
     Scope(ScopeFault),
     /// More than 65,536 statements are met.
-    #[error("too many statements")]
     TooManyStatements,
     /// A statement is in more than 2,048 statements.
-    #[error("statements are nested too deep")]
     TooDeep,
     /// More than 4,096 signals are met.
-    #[error("too many signals")]
     TooManySignals,
     /// Running out of memory.
-    #[error("no memory")]
     NoMemory,
 }
 

@@ -13,7 +13,7 @@ ghost use Rattle.grc_share.specs.SharedGraphs.{emitted_on};
 ghost use Rattle.grc_share.specs.SharedInstances.{body_sharing};
 ghost use Rattle.grc_share.specs.SharedWires.{shared_wire, shared_wires};
 
-use crate::placing::{WireList, empty_lists, push_wire};
+use crate::placing::{empty_lists, push_wire};
 use crate::renaming::Numbers;
 use base_types::{InstId, NoMemory, WireId};
 use grc_graph::{Graph, Node};
@@ -25,7 +25,7 @@ pub(crate) fn emission_lists(
     graph: &Graph,
     numbers: &Numbers,
     count: usize,
-) -> Result<Vec<WireList>, NoMemory>
+) -> Result<Vec<Vec<WireId>>, NoMemory>
     requires built { IsGraphOf graph.now (program_of graph.now.program) }
     requires numbers { AreNumbersOf graph.now numbers.now.least.now numbers.now.instances.now numbers.now.wires.now }
     requires count { count ≡ length (shared_wires (program_of graph.now.program)) }
@@ -46,7 +46,7 @@ fn push_emission(
     graph: &Graph,
     numbers: &Numbers,
     i: InstId,
-    lists: &mut Vec<WireList>,
+    lists: &mut Vec<Vec<WireId>>,
 ) -> Result<(), NoMemory>
     requires built { IsGraphOf graph.now (program_of graph.now.program) }
     requires numbers { AreNumbersOf graph.now numbers.now.least.now numbers.now.instances.now numbers.now.wires.now }

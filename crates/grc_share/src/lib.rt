@@ -28,7 +28,6 @@ mod tables;
 mod walking;
 
 pub use graphs::{SharedOrFull, share};
-pub use placing::WireList;
 pub use shared_graph::SharedGraph;
 pub use sharing::{SharedWires, shared_wires};
 pub use walking::shared_ranks_or_walk;

@@ -3,7 +3,6 @@
 ghost use Rattle.std.specs.Prelude.{map, IfOk};
 ghost use Rattle.grc_share.specs.MemberRuns.{AreRunsOf};
 
-use crate::placing::WireList;
 use base_types::{NoMemory, WireId};
 use std::alloc::Global;
 
@@ -16,7 +15,7 @@ pub(crate) struct Members {
 }
 
 /// These lists, one after the other.
-pub(crate) fn joined_lists(alloc: Global, lists: &[WireList]) -> Result<Members, NoMemory>
+pub(crate) fn joined_lists(alloc: Global, lists: &[Vec<WireId>]) -> Result<Members, NoMemory>
     ensures { IfOk result (λ m. AreRunsOf (map (λ list. list.items) lists.now) m.list.items m.firsts.items) }
 {
     let mut list: Vec<WireId> = Vec::new(alloc);

@@ -4,18 +4,14 @@ ghost use Rattle.std.specs.Prelude.{◌≡◌, ◌++◌, ◌<◌, ◌^◌, [], �
 ghost use Rattle.grc_share.specs.LeastMembers.{places_of};
 
 use base_types::{NoMemory, WireId};
-use smallvec::SmallVec;
 use std::alloc::Global;
-
-/// The wires of a place. Most places have few: those are in the value itself, and need no memory of their own.
-pub type WireList = SmallVec<WireId, 4>;
 
 /// For each number the places that have it, ascending.
 pub(crate) fn places_by_number(
     alloc: Global,
     count: usize,
     numbers: &[u32],
-) -> Result<Vec<WireList>, NoMemory>
+) -> Result<Vec<Vec<WireId>>, NoMemory>
     requires few { length numbers.now < 2 ^ 32 }
     requires within { All (λ k. k < count) numbers.now }
     ensures each { IfOk result (λ v. length v.items ≡ count) }
@@ -30,20 +26,20 @@ pub(crate) fn places_by_number(
 }
 
 /// So many empty lists.
-pub(crate) fn empty_lists(alloc: Global, count: usize) -> Result<Vec<WireList>, NoMemory>
+pub(crate) fn empty_lists(alloc: Global, count: usize) -> Result<Vec<Vec<WireId>>, NoMemory>
     ensures length { IfOk result (λ v. length v.items ≡ count) }
     ensures empty { IfOk result (λ v. All (λ list. list ≡ []) (map (λ list. list.items) v.items)) }
 {
     let mut lists = Vec::with_capacity(alloc, count)?;
     for made in 0..count {
-        lists.push(SmallVec::new(alloc))?;
+        lists.push(Vec::new(alloc))?;
     }
     Ok(lists)
 }
 
 /// Appends a wire to one of the lists.
 pub(crate) fn push_wire(
-    lists: &mut Vec<WireList>,
+    lists: &mut Vec<Vec<WireId>>,
     place: usize,
     wire: WireId,
 ) -> Result<(), NoMemory>

@@ -1,19 +1,15 @@
 // Files from outside, and what reading one may answer.
 
 use std::alloc::{AllocError, AllocFailed, Global};
-use thiserror::Error;
 
 /// Why a read gave no bytes.
-#[derive(Clone, Copy, Debug, Error, PartialEq)]
+#[derive(Clone, Copy, Debug, PartialEq)]
 pub enum FileFault {
     /// The file was not read. The count of faults rose, and the name is the one that failed last.
-    #[error("the file was not read")]
     Failed,
     /// More bytes than the limit are in the file.
-    #[error("the file is too long")]
     TooLong,
     /// Running out of memory.
-    #[error("no memory")]
     NoMemory,
 }
 

@@ -1,12 +1,9 @@
 // Sinks for written text, and what writing to one may answer.
 
-use thiserror::Error;
-
 /// Why a write did not take the whole piece.
-#[derive(Clone, Copy, Debug, Error, PartialEq)]
+#[derive(Clone, Copy, Debug, PartialEq)]
 pub enum SinkFault {
     /// The count of faults rose, and a prefix of the piece was appended.
-    #[error("a piece was not written")]
     Failed,
 }
 
