@@ -1,0 +1,215 @@
+// And-inverter graphs.
+
+use base_types::NoMemory;
+use sat_trail::{LiteralId, at, put, small};
+use std::alloc::Global;
+
+/// The edge that is always true.
+pub const TRUE: LiteralId = LiteralId(0);
+
+/// The edge that is always false.
+pub const FALSE: LiteralId = LiteralId(1);
+
+// A place of the table that has no node.
+const NOWHERE: u32 = u32::MAX;
+
+// The places of the first table.
+const PLACES: usize = 1_024;
+
+// Graphs have fewer nodes than this, so that the number of an edge fits.
+const NODES: usize = 0x4000_0000;
+
+/// A node. An edge is a node or its negation, as a `LiteralId`.
+#[derive(Clone, Copy)]
+pub enum Node {
+    True,
+    Free,
+    And(LiteralId, LiteralId),
+}
+
+/// An and-inverter graph. Operands have lower numbers than the node that reads them, and no two nodes have the same
+/// operands. Node 0 is true.
+#[derive(Drop)]
+pub struct Graph {
+    nodes: Vec<Node>,
+    // The numbers of the nodes with operands, by a hash of the operands.
+    table: Vec<u32>,
+    hashed: usize,
+}
+
+impl Graph {
+    /// A graph with the true node alone.
+    pub fn new(alloc: Global) -> Result<Graph, NoMemory> {
+        let mut graph = Graph {
+            nodes: Vec::new(alloc),
+            table: Vec::new(alloc),
+            hashed: 0,
+        };
+        graph.nodes.push(Node::True)?;
+        graph.table = empty_table(alloc, PLACES)?;
+        Ok(graph)
+    }
+
+    /// The number of nodes.
+    pub fn len(&self) -> usize {
+        self.nodes.len()
+    }
+
+    /// The node with a number. Past the end it is free.
+    #[inline(always)]
+    pub fn node(&self, place: usize) -> Node {
+        at(&self.nodes, place, Node::Free)
+    }
+
+    /// Adds a node that may have any value.
+    pub fn free(&mut self) -> Result<LiteralId, NoMemory> {
+        self.push(Node::Free)
+    }
+
+    fn push(&mut self, node: Node) -> Result<LiteralId, NoMemory> {
+        let place = self.nodes.len();
+        self.nodes.push(node)?;
+        Ok(LiteralId::signed(small(place), true))
+    }
+
+    /// The edge that is true where both edges are.
+    pub fn and(
+        &mut self,
+        alloc: Global,
+        left: LiteralId,
+        right: LiteralId,
+    ) -> Result<LiteralId, NoMemory> {
+        if left.0 > right.0 {
+            return self.and_in_order(alloc, right, left);
+        }
+        self.and_in_order(alloc, left, right)
+    }
+
+    /// The edge that is true where one of the edges is.
+    pub fn or(
+        &mut self,
+        alloc: Global,
+        left: LiteralId,
+        right: LiteralId,
+    ) -> Result<LiteralId, NoMemory> {
+        let neither = self.and(alloc, left.opposite(), right.opposite())?;
+        Ok(neither.opposite())
+    }
+
+    fn and_in_order(
+        &mut self,
+        alloc: Global,
+        left: LiteralId,
+        right: LiteralId,
+    ) -> Result<LiteralId, NoMemory> {
+        if let Some(edge) = simple_and(left, right) {
+            return Ok(edge);
+        }
+        if let Some(edge) = self.absorbed(left, right) {
+            return Ok(edge);
+        }
+        if let Some(edge) = self.absorbed(right, left) {
+            return Ok(edge);
+        }
+        self.hashed_and(alloc, left, right)
+    }
+
+    // The edge that is true where both are, if the second is a node of the first or its negation.
+    fn absorbed(&self, edge: LiteralId, other: LiteralId) -> Option<LiteralId> {
+        let Node::And(a, b) = self.node(other.variable()) else {
+            return None;
+        };
+        let is_same = edge.0 == a.0 || edge.0 == b.0;
+        let is_opposite = edge.opposite().0 == a.0 || edge.opposite().0 == b.0;
+        match (other.is_positive(), is_same, is_opposite) {
+            (true, _, true) => Some(FALSE),
+            (true, true, false) => Some(other),
+            (false, _, true) => Some(edge),
+            _ => None,
+        }
+    }
+
+    // The node with these operands, which is added where there is none.
+    fn hashed_and(
+        &mut self,
+        alloc: Global,
+        left: LiteralId,
+        right: LiteralId,
+    ) -> Result<LiteralId, NoMemory> {
+        let place = self.place_of(left, right);
+        let known = at(&self.table, place, NOWHERE);
+        if known != NOWHERE {
+            return Ok(LiteralId::signed(known, true));
+        }
+        if self.nodes.len() >= NODES {
+            return self.free();
+        }
+        put(&mut self.table, place, small(self.nodes.len()));
+        self.hashed = self.hashed.saturating_add(1);
+        let edge = self.push(Node::And(left, right))?;
+        if self.hashed.saturating_mul(2) > self.table.len() {
+            self.spread(alloc)?;
+        }
+        Ok(edge)
+    }
+
+    // The place of the table that has the node with these operands, or else a free one for it.
+    fn place_of(&self, left: LiteralId, right: LiteralId) -> usize {
+        let size = self.table.len().max(1);
+        let start = hash_of(left, right) % size;
+        for step in 0..size {
+            let place = start.saturating_add(step) % size;
+            let known = at(&self.table, place, NOWHERE);
+            if known == NOWHERE || self.has_operands(known, left, right) {
+                return place;
+            }
+        }
+        size
+    }
+
+    fn has_operands(&self, place: u32, left: LiteralId, right: LiteralId) -> bool {
+        match self.node(place as usize) {
+            Node::And(a, b) => a.0 == left.0 && b.0 == right.0,
+            Node::True | Node::Free => false,
+        }
+    }
+
+    // Doubles the table.
+    fn spread(&mut self, alloc: Global) -> Result<(), NoMemory> {
+        let size = self.table.len().saturating_mul(2);
+        self.table = empty_table(alloc, size)?;
+        for number in 0..self.nodes.len() {
+            if let Node::And(left, right) = self.node(number) {
+                let place = self.place_of(left, right);
+                put(&mut self.table, place, small(number));
+            }
+        }
+        Ok(())
+    }
+}
+
+fn empty_table(alloc: Global, size: usize) -> Result<Vec<u32>, NoMemory> {
+    let mut table = Vec::with_capacity(alloc, size)?;
+    for _ in 0..size {
+        table.push(NOWHERE)?;
+    }
+    Ok(table)
+}
+
+fn hash_of(left: LiteralId, right: LiteralId) -> usize {
+    let mixed = (left.0 as u64)
+        .wrapping_mul(0x9e37_79b9_7f4a_7c15)
+        .wrapping_add((right.0 as u64).wrapping_mul(0xc2b2_ae3d_27d4_eb4f));
+    ((mixed ^ (mixed >> 29)) >> 3) as usize
+}
+
+// The edge that is true where both are, in order, if one is constant or both are one node.
+fn simple_and(left: LiteralId, right: LiteralId) -> Option<LiteralId> {
+    if left.0 == FALSE.0 || left.0 == right.opposite().0 {
+        Some(FALSE)
+    } else if left.0 == TRUE.0 || left.0 == right.0 {
+        Some(right)
+    } else {
+        None
+    }
+}

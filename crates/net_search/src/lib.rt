@@ -1,0 +1,11 @@
+//! Whether a net of a netlist is ever true.
+#![tactic(auto)]
+
+mod cubes;
+mod deciding;
+mod frames;
+mod lifting;
+mod obligations;
+mod reaching;
+
+pub use deciding::{Decision, decide};
