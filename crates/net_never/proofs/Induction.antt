@@ -12,7 +12,7 @@ use Rattle.net_ir.specs.Netlists.{IsNet, Netlist, first_gate}
 use Rattle.net_ir.specs.Runs.{initial_latches, net_values, next_latches, values_from}
 use Rattle.net_ir.proofs.Exports.{Solves-gate_values, length-next, value_in-gate_values}
 use Rattle.sat_kernel.specs.declared.literals.Literal.{Literal}
-use Rattle.sat_kernel.specs.Clauses.{Follows, IsModel, clause_value, literal_value}
+use Rattle.sat_kernel.specs.Clauses.{Follows, IsModel, clause_value, literal_value, opposite}
 use Rattle.net_never.specs.GateClauses.{gate_clauses, signed}
 use Rattle.net_never.specs.Inductive.{IsInductive, is_between, known_clauses, latch_values, next_clause, source_at}
 use Rattle.net_never.specs.Never.{IsNever, IsWide}
@@ -92,17 +92,23 @@ all-next v w first end latches known same model (c ∷ cs) over follows =
     let here = sym (renamed-value v w (source_at first latches) first end same c parts.0) ∙ follows.0 v model in
     and_from _ _ here (all-next v w first end latches known same model cs parts.1 follows.1)
 
-denied : (b : Bool) → (not b || false) ≡ true → b ≡ false
-denied true e = sym e
-denied false e = refl
+-- where the negation of a literal is true, the literal is false
+denied : (v : ℕ → Bool) (l : Literal) → clause_value v (opposite l ∷ []) ≡ true → literal_value v l ≡ false
+denied v l e = by_sign l.positive (v l.variable) e
+  where
+    by_sign : (p b : Bool) → ((if not p then b else not b) || false) ≡ true → (if p then b else not b) ≡ false
+    by_sign true true e = sym e
+    by_sign true false e = refl
+    by_sign false true e = refl
+    by_sign false false e = sym e
 
 -- ---- over items
 
-module _ (net : Netlist) (allowed invariant : List (List Literal)) (bad : ℕ) (is : IsNet net) (holds : IsInductive net allowed invariant bad) where
+module _ (net : Netlist) (allowed invariant : List (List Literal)) (bad : Literal) (is : IsNet net) (holds : IsInductive net allowed invariant bad) where
   never-from : (items : List Item) (latches : List Bool) → length latches ≡ length net.latches
       → IsModel (latch_values (length net.inputs) latches) invariant
       → EachEvent (IsWide net) items → AllByRecursion (λ values. IsModel (value_in values) allowed) (values_from net latches items)
-      → AllByRecursion (λ values. value_in values bad ≡ false) (values_from net latches items)
+      → AllByRecursion (λ values. literal_value (value_in values) bad ≡ false) (values_from net latches items)
   never-from [] latches all model wide allows = tt
   never-from (Event inputs ∷ items) latches all model wide allows =
       let first = length net.inputs in
@@ -115,7 +121,7 @@ module _ (net : Netlist) (allowed invariant : List (List Literal)) (bad : ℕ) (
       (gates-hold net inputs latches wide.0 all is) (model-both (value_in now) allowed invariant allows.0 still) in
       let behind : IsModel (latch_values first next) invariant = all-next (value_in now) (latch_values first next) first (first_gate net) net.latches known
       (next-value net now) met invariant holds.over holds.closes.keeps in (
-        denied (value_in now bad) (holds.closes.rules_out (value_in now) met),
+        denied (value_in now) bad (holds.closes.rules_out (value_in now) met),
         never-from items next (length-next net now) behind wide.1 allows.1,
       )
   never-from (Reset ∷ items) latches all model wide allows =

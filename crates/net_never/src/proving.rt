@@ -8,9 +8,9 @@ ghost use Rattle.sat_kernel.specs.Propagation.{is_same};
 ghost use Rattle.net_never.specs.Inductive.{Closes, holds_at_first, is_over_latches, known_clauses, next_clause};
 ghost use Rattle.net_never.specs.Never.{IsNever};
 
-use crate::gate_clauses::{push_gates, signed};
+use crate::gate_clauses::push_gates;
 use crate::invariants::{are_between, are_true_at_first, next_clause, push_clauses};
-use base_types::{NetId, NoMemory};
+use base_types::NoMemory;
 use net_ir::{Latch, Net};
 use sat_kernel::{Clause, Kernel, Literal, Premise};
 use sat_search::{Search, SearchOutcome};
@@ -75,17 +75,17 @@ impl Prover {
         Ok(true)
     }
 
-    // Reports whether what is known gives the invariant for the next instant, and rules out the net.
+    // Reports whether what is known gives the invariant for the next instant, and rules out the literal.
     fn closes(
         &mut self,
         net: &Net,
         invariant: &[Clause],
-        bad: NetId,
+        bad: Literal,
     ) -> Result<bool, NoMemory>
         ensures { IfOk result (λ yes. IsTrue yes
-            → Closes (netlist_of net.now) self.old.kernel.assumed (plain_assumed invariant.now) bad.0) }
+            → Closes (netlist_of net.now) self.old.kernel.assumed (plain_assumed invariant.now) bad) }
     {
-        if !self.implies(&[signed(bad.0, false)])? {
+        if !self.implies(&[bad.opposite()])? {
             return Ok(false);
         }
         Ok(self.keeps(net, invariant)?)
@@ -185,7 +185,7 @@ fn begins(net: &Net, invariant: &[Clause]) -> bool
         && are_true_at_first(first, &net.latches, invariant)
 }
 
-/// Reports whether a net of a netlist is never true, where these clauses over its nets are met in each instant, as far
+/// Reports whether a net of a netlist, or its negation, is never true, where these clauses over its nets are met in each instant, as far
 /// as the invariant and the effort show. The invariant is any list of clauses over the nets of latches. The effort is
 /// one of `sat_search`, for all questions together. The only error is running out of memory.
 pub fn is_never(
@@ -193,10 +193,10 @@ pub fn is_never(
     net: &Net,
     allowed: &[Clause],
     invariant: &[Clause],
-    bad: NetId,
+    bad: Literal,
     effort: u64,
 ) -> Result<bool, NoMemory>
-    ensures { IfOk result (λ yes. IsTrue yes → IsNever (netlist_of net.now) (plain_assumed allowed.now) bad.0) }
+    ensures { IfOk result (λ yes. IsTrue yes → IsNever (netlist_of net.now) (plain_assumed allowed.now) bad) }
 {
     if !begins(net, invariant) {
         return Ok(false);

@@ -4,7 +4,7 @@ ghost use Rattle.std.specs.Prelude.{◌≡◌, ◌+◌, ◌≤◌, Bool, false, 
 ghost use Rattle.std.specs.List.{list_all, list_any};
 ghost use Rattle.net_ir.specs.Gates.{gate_values, op_value, value_in};
 ghost use Rattle.net_ir.specs.Runs.{initial_latches, net_values, netlist_of, next_latches};
-ghost use Rattle.sat_kernel.specs.Clauses.{clause_value, plain_assumed};
+ghost use Rattle.sat_kernel.specs.Clauses.{clause_value, literal_value, plain_assumed};
 ghost use Rattle.net_never.specs.Reached.{are_met, events_of, is_reached};
 
 use base_types::{NetId, NoMemory};
@@ -82,12 +82,19 @@ fn next_latches(alloc: Global, net: &Net, values: &[bool]) -> Result<Vec<bool>, 
     Ok(next)
 }
 
+// Reports whether a net, or its negation, is true.
+fn holds(values: &[bool], literal: Literal) -> bool
+    ensures { result ≡ literal_value (value_in values.now) literal }
+{
+    value_at(values, NetId(literal.variable)) == literal.positive
+}
+
 // Reports whether a clause over nets is true.
 fn is_true(values: &[bool], clause: &[Literal]) -> bool
     ensures { result ≡ clause_value (value_in values.now) clause.now }
 {
     for literal in clause {
-        if value_at(values, NetId(literal.variable)) == literal.positive {
+        if holds(values, *literal) {
             return true;
         }
     }
@@ -118,18 +125,18 @@ fn are_wide(net: &Net, events: &[Vec<bool>]) -> bool
     true
 }
 
-/// Reports whether a net is true in the last instant of a run over these events, where each of them has one value for
+/// Reports whether a net, or its negation, is true in the last instant of a run over these events, where each of them has one value for
 /// each input and the clauses over nets are met in each instant. Without events it is not. The only error is running
 /// out of memory.
 pub fn is_reached(
     alloc: Global,
     net: &Net,
     allowed: &[Clause],
-    bad: NetId,
+    bad: Literal,
     events: &[Vec<bool>],
 ) -> Result<bool, NoMemory>
     ensures { IfOk result (λ yes. yes
-        ≡ is_reached (netlist_of net.now) (plain_assumed allowed.now) bad.0 (events_of events.now)) }
+        ≡ is_reached (netlist_of net.now) (plain_assumed allowed.now) bad (events_of events.now)) }
 {
     if !are_wide(net, events) {
         return Ok(false);
@@ -141,7 +148,7 @@ pub fn is_reached(
         if !are_met(&values, allowed) {
             return Ok(false);
         }
-        last = value_at(&values, bad);
+        last = holds(&values, bad);
         latches = next_latches(alloc, net, &values)?;
     }
     Ok(last)

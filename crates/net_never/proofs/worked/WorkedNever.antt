@@ -58,8 +58,11 @@ latches_alone : (is_over_latches turning ((signed 1 true ∷ []) ∷ []) ≡ tru
 latches_alone = (refl, refl, refl)
 
 -- the latch is true in the second instant, and the clause that it is false is not met there
-reached_in_the_second_instant : (is_reached turning [] 1 ((true ∷ []) ∷ (false ∷ []) ∷ []) ≡ true)
-    × (is_reached turning [] 1 ((true ∷ []) ∷ []) ≡ false) × (is_reached turning [] 1 ((true ∷ []) ∷ (false ∷ []) ∷ (true ∷ []) ∷ []) ≡ false)
-    × (is_reached turning ((signed 1 false ∷ []) ∷ []) 1 ((true ∷ []) ∷ (false ∷ []) ∷ []) ≡ false)
-    × (is_reached turning [] 1 ((true ∷ []) ∷ [] ∷ []) ≡ false) × (is_reached turning [] 0 [] ≡ false)
+reached_in_the_second_instant : (is_reached turning [] (signed 1 true) ((true ∷ []) ∷ (false ∷ []) ∷ []) ≡ true)
+    × (is_reached turning [] (signed 1 true) ((true ∷ []) ∷ []) ≡ false) × (is_reached turning [] (signed 1 true) ((true ∷ []) ∷ (false ∷ []) ∷ (true ∷ []) ∷ []) ≡ false)
+    × (is_reached turning ((signed 1 false ∷ []) ∷ []) (signed 1 true) ((true ∷ []) ∷ (false ∷ []) ∷ []) ≡ false)
+    × (is_reached turning [] (signed 1 true) ((true ∷ []) ∷ [] ∷ []) ≡ false) × (is_reached turning [] (signed 0 true) [] ≡ false)
 reached_in_the_second_instant = (refl, refl, refl, refl, refl, refl)
+
+false_in_the_first_instant : is_reached turning [] (signed 1 false) ((true ∷ []) ∷ []) ≡ true
+false_in_the_first_instant = refl
