@@ -40,14 +40,11 @@ pub struct Graph {
 impl Graph {
     /// A graph with the true node alone.
     pub fn new(alloc: Global) -> Result<Graph, NoMemory> {
-        let mut graph = Graph {
-            nodes: Vec::new(alloc),
-            table: Vec::new(alloc),
+        Ok(Graph {
+            nodes: vec![in alloc; Node::True; 1]?,
+            table: vec![in alloc; NOWHERE; PLACES]?,
             hashed: 0,
-        };
-        graph.nodes.push(Node::True)?;
-        graph.table = empty_table(alloc, PLACES)?;
-        Ok(graph)
+        })
     }
 
     /// The number of nodes.
@@ -119,13 +116,12 @@ impl Graph {
         let Node::And(a, b) = self.node(other.variable()) else {
             return None;
         };
-        let is_same = edge.0 == a.0 || edge.0 == b.0;
-        let is_opposite = edge.opposite().0 == a.0 || edge.opposite().0 == b.0;
-        match (other.is_positive(), is_same, is_opposite) {
-            (true, _, true) => Some(FALSE),
-            (true, true, false) => Some(other),
-            (false, _, true) => Some(edge),
-            _ => None,
+        if edge.opposite().0 == a.0 || edge.opposite().0 == b.0 {
+            Some(if other.is_positive() { FALSE } else { edge })
+        } else if other.is_positive() && (edge.0 == a.0 || edge.0 == b.0) {
+            Some(other)
+        } else {
+            None
         }
     }
 
@@ -177,7 +173,7 @@ impl Graph {
     // Doubles the table.
     fn spread(&mut self, alloc: Global) -> Result<(), NoMemory> {
         let size = self.table.len().saturating_mul(2);
-        self.table = empty_table(alloc, size)?;
+        self.table = vec![in alloc; NOWHERE; size]?;
         for number in 0..self.nodes.len() {
             if let Node::And(left, right) = self.node(number) {
                 let place = self.place_of(left, right);
@@ -186,14 +182,6 @@ impl Graph {
         }
         Ok(())
     }
-}
-
-fn empty_table(alloc: Global, size: usize) -> Result<Vec<u32>, NoMemory> {
-    let mut table = Vec::with_capacity(alloc, size)?;
-    for _ in 0..size {
-        table.push(NOWHERE)?;
-    }
-    Ok(table)
 }
 
 fn hash_of(left: LiteralId, right: LiteralId) -> usize {

@@ -11,7 +11,7 @@ use std::alloc::Global;
 const NONE: u32 = u32::MAX;
 
 /// What is known of a question.
-#[derive(Clone, Copy, PartialEq)]
+#[derive(Clone, Copy)]
 pub enum Reply {
     /// `value` and `edge_value` have a valuation.
     Possible,
@@ -19,6 +19,15 @@ pub enum Reply {
     Impossible,
     /// The effort was used up.
     Unknown,
+}
+
+impl Reply {
+    pub fn is_impossible(self) -> bool {
+        match self {
+            Reply::Impossible => true,
+            Reply::Possible | Reply::Unknown => false,
+        }
+    }
 }
 
 /// A search over the clauses of those nodes of a graph that were asked about, and what they depend on. Each answer is

@@ -33,6 +33,8 @@ pub struct System {
     pub ends: Vec<usize>,
     /// What should never be true.
     pub bad: LiteralId,
+    // By net of the netlist: its edge. False where the question does not depend on it.
+    edges: Vec<LiteralId>,
 }
 
 impl System {
@@ -43,7 +45,18 @@ impl System {
         allowed: &[Clause],
         bad: Literal,
     ) -> Result<System, NoMemory> {
-        let reached = reached_nets(alloc, net, allowed, bad)?;
+        let mut cone = Cone::new(alloc, net)?;
+        cone.fill(net, allowed, bad)?;
+        System::of(alloc, net, allowed, bad, &cone.reached)
+    }
+
+    fn of(
+        alloc: Global,
+        net: &Net,
+        allowed: &[Clause],
+        bad: Literal,
+        reached: &[bool],
+    ) -> Result<System, NoMemory> {
         let mut system = System {
             graph: Graph::new(alloc)?,
             inputs: Vec::new(alloc),
@@ -52,41 +65,42 @@ impl System {
             allowed: Vec::new(alloc),
             ends: Vec::new(alloc),
             bad: FALSE,
+            edges: Vec::new(alloc),
         };
-        let mut edges = Vec::with_capacity(alloc, reached.len())?;
-        system.push_inputs(&reached, &mut edges)?;
-        system.push_states(&reached, &mut edges, &net.latches)?;
-        system.push_gates(alloc, &reached, &mut edges, &net.gates)?;
-        system.set_next(&edges);
-        system.push_allowed(&edges, allowed)?;
-        system.bad = signed_as(edge_at(&edges, bad.variable), LiteralId::of(bad));
+        system.fill(alloc, net, allowed, reached)?;
+        system.bad = signed_as(edge_at(&system.edges, bad.variable), LiteralId::of(bad));
         Ok(system)
     }
 
-    fn push_inputs(
+    fn fill(
         &mut self,
+        alloc: Global,
+        net: &Net,
+        allowed: &[Clause],
         reached: &[bool],
-        edges: &mut Vec<LiteralId>,
     ) -> Result<(), NoMemory> {
+        self.push_inputs(reached)?;
+        self.push_states(reached, &net.latches)?;
+        self.push_gates(alloc, reached, &net.gates)?;
+        self.set_next();
+        self.push_allowed(allowed)
+    }
+
+    fn push_inputs(&mut self, reached: &[bool]) -> Result<(), NoMemory> {
         for input in 0..self.width {
             let mut edge = FALSE;
             if at(reached, input, false) {
                 edge = self.graph.free()?;
                 self.inputs.push(small(input))?;
             }
-            edges.push(edge)?;
+            self.edges.push(edge)?;
         }
         Ok(())
     }
 
-    fn push_states(
-        &mut self,
-        reached: &[bool],
-        edges: &mut Vec<LiteralId>,
-        latches: &[Latch],
-    ) -> Result<(), NoMemory> {
+    fn push_states(&mut self, reached: &[bool], latches: &[Latch]) -> Result<(), NoMemory> {
         for latch in latches {
-            let net = edges.len();
+            let net = self.edges.len();
             let mut edge = FALSE;
             if at(reached, net, false) {
                 edge = self.graph.free()?;
@@ -96,7 +110,7 @@ impl System {
                     next: LiteralId(latch.from.0),
                 })?;
             }
-            edges.push(edge)?;
+            self.edges.push(edge)?;
         }
         Ok(())
     }
@@ -105,50 +119,45 @@ impl System {
         &mut self,
         alloc: Global,
         reached: &[bool],
-        edges: &mut Vec<LiteralId>,
         gates: &[Gate],
     ) -> Result<(), NoMemory> {
         for gate in gates {
-            let edge = if at(reached, edges.len(), false) {
-                self.edge_of(alloc, edges, gate.op)?
-            } else {
-                FALSE
-            };
-            edges.push(edge)?;
+            let mut edge = FALSE;
+            if at(reached, self.edges.len(), false) {
+                edge = self.edge_of(alloc, gate.op)?;
+            }
+            self.edges.push(edge)?;
         }
         Ok(())
     }
 
-    fn edge_of(
-        &mut self,
-        alloc: Global,
-        edges: &[LiteralId],
-        op: Op,
-    ) -> Result<LiteralId, NoMemory> {
+    fn edge_of(&mut self, alloc: Global, op: Op) -> Result<LiteralId, NoMemory> {
         match op {
             Op::Const(value) => Ok(if value { TRUE } else { FALSE }),
-            Op::Copy(a) => Ok(edge_at(edges, a.0)),
-            Op::Not(a) => Ok(edge_at(edges, a.0).opposite()),
-            Op::And(a, b) => self
-                .graph
-                .and(alloc, edge_at(edges, a.0), edge_at(edges, b.0)),
-            Op::Or(a, b) => self
-                .graph
-                .or(alloc, edge_at(edges, a.0), edge_at(edges, b.0)),
+            Op::Copy(a) => Ok(edge_at(&self.edges, a.0)),
+            Op::Not(a) => Ok(edge_at(&self.edges, a.0).opposite()),
+            Op::And(a, b) => {
+                let left = edge_at(&self.edges, a.0);
+                self.graph.and(alloc, left, edge_at(&self.edges, b.0))
+            }
+            Op::Or(a, b) => {
+                let left = edge_at(&self.edges, a.0);
+                self.graph.or(alloc, left, edge_at(&self.edges, b.0))
+            }
         }
     }
 
     // Puts edges in the place of the nets that the latches read.
-    fn set_next(&mut self, edges: &[LiteralId]) {
+    fn set_next(&mut self) {
         for k in 0..self.states.len() {
-            let next = edge_at(edges, self.states[k].next.0);
+            let next = edge_at(&self.edges, self.states[k].next.0);
             self.states[k].next = next;
         }
     }
 
-    fn push_allowed(&mut self, edges: &[LiteralId], allowed: &[Clause]) -> Result<(), NoMemory> {
+    fn push_allowed(&mut self, allowed: &[Clause]) -> Result<(), NoMemory> {
         for clause in allowed {
-            push_edges(&mut self.allowed, edges, clause)?;
+            push_edges(&mut self.allowed, &self.edges, clause)?;
             self.ends.push(self.allowed.len())?;
         }
         Ok(())
@@ -258,70 +267,71 @@ fn push_edges(
     Ok(())
 }
 
-// By net: whether a question depends on it.
-fn reached_nets(
-    alloc: Global,
-    net: &Net,
-    allowed: &[Clause],
-    bad: Literal,
-) -> Result<Vec<bool>, NoMemory> {
-    let first = net.inputs.len().saturating_add(net.latches.len());
-    let count = first.saturating_add(net.gates.len());
-    let mut reached = vec![in alloc; false; count]?;
-    let mut pending = Vec::new(alloc);
-    reach(&mut reached, &mut pending, NetId(bad.variable))?;
-    for clause in allowed {
-        reach_clause(&mut reached, &mut pending, clause)?;
-    }
-    for _ in 0..u64::MAX {
-        let Some(next) = pending.pop() else {
-            break;
-        };
-        reach_operands(&mut reached, &mut pending, net, next as usize)?;
-    }
-    Ok(reached)
+// The nets that a question depends on.
+#[derive(Drop)]
+struct Cone {
+    // By net.
+    reached: Vec<bool>,
+    // The nets whose operands are not reached yet.
+    pending: Vec<u32>,
 }
 
-fn reach_clause(
-    reached: &mut [bool],
-    pending: &mut Vec<u32>,
-    clause: &[Literal],
-) -> Result<(), NoMemory> {
-    for literal in clause {
-        reach(reached, pending, NetId(literal.variable))?;
+impl Cone {
+    fn new(alloc: Global, net: &Net) -> Result<Cone, NoMemory> {
+        let first = net.inputs.len().saturating_add(net.latches.len());
+        let count = first.saturating_add(net.gates.len());
+        Ok(Cone {
+            reached: vec![in alloc; false; count]?,
+            pending: Vec::new(alloc),
+        })
     }
-    Ok(())
-}
 
-// Reaches a net, and notes that what it reads is reached as well.
-fn reach(reached: &mut [bool], pending: &mut Vec<u32>, net: NetId) -> Result<(), NoMemory> {
-    if !at(reached, net.0 as usize, true) {
-        put(reached, net.0 as usize, true);
-        pending.push(net.0)?;
+    fn fill(&mut self, net: &Net, allowed: &[Clause], bad: Literal) -> Result<(), NoMemory> {
+        self.reach(NetId(bad.variable))?;
+        for clause in allowed {
+            self.reach_clause(clause)?;
+        }
+        for _ in 0..u64::MAX {
+            let Some(next) = self.pending.pop() else {
+                break;
+            };
+            self.reach_operands(net, next as usize)?;
+        }
+        Ok(())
     }
-    Ok(())
-}
 
-fn reach_operands(
-    reached: &mut [bool],
-    pending: &mut Vec<u32>,
-    net: &Net,
-    place: usize,
-) -> Result<(), NoMemory> {
-    let inputs = net.inputs.len();
-    let first = inputs.saturating_add(net.latches.len());
-    if place < inputs {
-        return Ok(());
+    fn reach_clause(&mut self, clause: &[Literal]) -> Result<(), NoMemory> {
+        for literal in clause {
+            self.reach(NetId(literal.variable))?;
+        }
+        Ok(())
     }
-    if place < first {
-        return reach(reached, pending, source_of(&net.latches, place.saturating_sub(inputs)));
+
+    // Reaches a net, and notes that what it reads is reached as well.
+    fn reach(&mut self, net: NetId) -> Result<(), NoMemory> {
+        if !at(&self.reached, net.0 as usize, true) {
+            put(&mut self.reached, net.0 as usize, true);
+            self.pending.push(net.0)?;
+        }
+        Ok(())
     }
-    match op_of(&net.gates, place.saturating_sub(first)) {
-        Op::Const(_) => Ok(()),
-        Op::Copy(a) | Op::Not(a) => reach(reached, pending, a),
-        Op::And(a, b) | Op::Or(a, b) => {
-            reach(reached, pending, a)?;
-            reach(reached, pending, b)
+
+    fn reach_operands(&mut self, net: &Net, place: usize) -> Result<(), NoMemory> {
+        let inputs = net.inputs.len();
+        let first = inputs.saturating_add(net.latches.len());
+        if place < inputs {
+            return Ok(());
+        }
+        if place < first {
+            return self.reach(source_of(&net.latches, place.saturating_sub(inputs)));
+        }
+        match op_of(&net.gates, place.saturating_sub(first)) {
+            Op::Const(_) => Ok(()),
+            Op::Copy(a) | Op::Not(a) => self.reach(a),
+            Op::And(a, b) | Op::Or(a, b) => {
+                self.reach(a)?;
+                self.reach(b)
+            }
         }
     }
 }

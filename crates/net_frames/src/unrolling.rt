@@ -1,12 +1,11 @@
 // Bounded model checking: the shortest trace.
 
-use crate::graphs::{FALSE, Graph, TRUE};
+use crate::graphs::{FALSE, Graph, Node, TRUE};
 use crate::questions::{Questions, Reply};
-use crate::systems::{System, signed_as};
+use crate::systems::{State, System, signed_as};
 use base_types::NoMemory;
-use crate::graphs::Node;
 use sat_kernel::Literal;
-use sat_trail::{LiteralId, at};
+use sat_trail::{LiteralId, at, put};
 use std::alloc::Global;
 
 // The variables of the questions over an unrolling.
@@ -22,6 +21,9 @@ pub struct Unrolling {
     states: Vec<LiteralId>,
     // By instant: the inputs' values.
     inputs: Vec<LiteralId>,
+    // By node of the system: its value in the last instant.
+    edges: Vec<LiteralId>,
+    clause: Vec<Literal>,
     // What should not be true in the last instant.
     bad: LiteralId,
     // The instants that were added, and those of them in which nothing bad can be.
@@ -32,21 +34,18 @@ pub struct Unrolling {
 impl Unrolling {
     pub fn new(alloc: Global, system: &System) -> Result<Unrolling, NoMemory> {
         let nodes = system.graph.len().saturating_mul(200).max(200_000);
-        let mut unrolling = Unrolling {
+        Ok(Unrolling {
             alloc,
+            states: initial_edges(alloc, &system.states)?,
             graph: Graph::new(alloc)?,
             questions: Questions::new(alloc, nodes.min(VARIABLES))?,
-            states: Vec::new(alloc),
             inputs: Vec::new(alloc),
+            edges: Vec::new(alloc),
+            clause: Vec::new(alloc),
             bad: FALSE,
             length: 0,
             clear: 0,
-        };
-        for state in &system.states {
-            let value = if state.init { TRUE } else { FALSE };
-            unrolling.states.push(value)?;
-        }
-        Ok(unrolling)
+        })
     }
 
     /// The number of instants in which nothing bad can be.
@@ -61,7 +60,9 @@ impl Unrolling {
             let before = self.graph.len();
             self.extend(system)?;
             let work = self.graph.len().saturating_sub(before);
-            let work = work.saturating_add(system.graph.len() / 8).saturating_add(20);
+            let work = work
+                .saturating_add(system.graph.len() / 8)
+                .saturating_add(20);
             *effort = effort.saturating_sub(work as u64);
         }
         if self.bad.0 == FALSE.0 {
@@ -70,7 +71,7 @@ impl Unrolling {
         }
         let bad = self.questions.literal(&self.graph, self.bad)?;
         let reply = self.questions.ask(&[bad], effort)?;
-        if reply == Reply::Impossible {
+        if reply.is_impossible() {
             self.questions.add(&[bad.opposite()])?;
             self.clear = self.clear.saturating_add(1);
         }
@@ -79,59 +80,68 @@ impl Unrolling {
 
     // Adds an instant.
     fn extend(&mut self, system: &System) -> Result<(), NoMemory> {
-        let mut edges = Vec::with_capacity(self.alloc, system.graph.len())?;
-        edges.push(TRUE)?;
-        for _ in &system.inputs {
-            let input = self.graph.free()?;
-            edges.push(input)?;
-            self.inputs.push(input)?;
+        self.edges.clear();
+        self.edges.push(TRUE)?;
+        self.add_inputs(system)?;
+        self.edges.extend_from_slice(&self.states)?;
+        for place in self.edges.len()..system.graph.len() {
+            let edge = self.copied(system.graph.node(place))?;
+            self.edges.push(edge)?;
         }
-        edges.extend_from_slice(&self.states)?;
-        for place in edges.len()..system.graph.len() {
-            let edge = self.copied(&edges, system.graph.node(place))?;
-            edges.push(edge)?;
-        }
-        self.follow(system, &edges);
-        self.bad = copied_edge(&edges, system.bad);
+        self.follow(system);
+        self.bad = self.edge(system.bad);
         self.length = self.length.saturating_add(1);
-        self.add_allowed(system, &edges)
+        self.add_allowed(system)
     }
 
-    fn copied(&mut self, edges: &[LiteralId], node: Node) -> Result<LiteralId, NoMemory> {
-        let alloc = self.alloc;
+    fn add_inputs(&mut self, system: &System) -> Result<(), NoMemory> {
+        for _ in 0..system.inputs.len() {
+            let input = self.graph.free()?;
+            self.edges.push(input)?;
+            self.inputs.push(input)?;
+        }
+        Ok(())
+    }
+
+    // An edge of the system in the last instant.
+    fn edge(&self, edge: LiteralId) -> LiteralId {
+        signed_as(at(&self.edges, edge.variable(), FALSE), edge)
+    }
+
+    fn copied(&mut self, node: Node) -> Result<LiteralId, NoMemory> {
         match node {
             Node::True | Node::Free => self.graph.free(),
             Node::And(a, b) => {
-                self.graph
-                    .and(alloc, copied_edge(edges, a), copied_edge(edges, b))
+                let left = self.edge(a);
+                let right = self.edge(b);
+                self.graph.and(self.alloc, left, right)
             }
         }
     }
 
     // Moves the latches to the next instant.
-    fn follow(&mut self, system: &System, edges: &[LiteralId]) {
+    fn follow(&mut self, system: &System) {
         for k in 0..self.states.len() {
-            if k < system.states.len() {
-                self.states[k] = copied_edge(edges, system.states[k].next);
-            }
+            let next = self.edge(system.next_edge(system.state_edge(k)));
+            self.states[k] = next;
         }
     }
 
-    fn add_allowed(&mut self, system: &System, edges: &[LiteralId]) -> Result<(), NoMemory> {
+    fn add_allowed(&mut self, system: &System) -> Result<(), NoMemory> {
         for place in 0..system.ends.len() {
-            self.add_clause(edges, system.clause(place))?;
+            self.add_clause(system.clause(place))?;
         }
         Ok(())
     }
 
-    fn add_clause(&mut self, edges: &[LiteralId], clause: &[LiteralId]) -> Result<(), NoMemory> {
-        let mut literals: Vec<Literal> = Vec::with_capacity(self.alloc, clause.len())?;
+    fn add_clause(&mut self, clause: &[LiteralId]) -> Result<(), NoMemory> {
+        self.clause.clear();
         for literal in clause {
-            let edge = copied_edge(edges, *literal);
+            let edge = self.edge(*literal);
             let found = self.questions.literal(&self.graph, edge)?;
-            literals.push(found)?;
+            self.clause.push(found)?;
         }
-        self.questions.add(&literals)
+        self.questions.add(&self.clause)
     }
 
     /// The inputs' values of the last valuation, one list for each instant.
@@ -146,18 +156,20 @@ impl Unrolling {
     fn event(&self, system: &System, instant: usize) -> Result<Vec<bool>, NoMemory> {
         let first = instant.saturating_mul(system.inputs.len());
         let mut values = vec![in self.alloc; false; system.width]?;
-        for (k, input) in system.inputs.iter().enumerate() {
+        for k in 0..system.inputs.len() {
             let edge = at(&self.inputs, first.saturating_add(k), FALSE);
-            let place = *input as usize;
-            if place < values.len() {
-                values[place] = self.questions.edge_value(edge);
-            }
+            let input = at(&system.inputs, k, u32::MAX) as usize;
+            put(&mut values, input, self.questions.edge_value(edge));
         }
         Ok(values)
     }
 }
 
-// An edge of a system's graph, as one of the instant's copy.
-fn copied_edge(edges: &[LiteralId], edge: LiteralId) -> LiteralId {
-    signed_as(at(edges, edge.variable(), FALSE), edge)
+// The latches' values in the first instant.
+fn initial_edges(alloc: Global, states: &[State]) -> Result<Vec<LiteralId>, NoMemory> {
+    let mut edges = Vec::with_capacity(alloc, states.len())?;
+    for state in states {
+        edges.push(if state.init { TRUE } else { FALSE })?;
+    }
+    Ok(edges)
 }

@@ -1,5 +1,11 @@
 // The decision of a question.
 
+ghost use Rattle.std.specs.Prelude.{IfOk};
+ghost use Rattle.net_ir.specs.Runs.{netlist_of};
+ghost use Rattle.sat_kernel.specs.Clauses.{plain_assumed};
+ghost use Rattle.net_search.specs.Decisions.{IsDecision};
+
+use crate::decisions::Decision;
 use crate::reaching::{Progress, Reaching};
 use base_types::NoMemory;
 use net_frames::{Reply, System, Unrolling};
@@ -11,17 +17,6 @@ use std::alloc::Global;
 // The effort of the first turn of each search. Each later turn has twice as much.
 const TURN: u64 = 20_000;
 
-/// Whether a literal of a netlist is ever true.
-#[derive(Drop)]
-pub enum Decision {
-    /// The literal is never true.
-    Never,
-    /// The literal is true in the last instant of these events.
-    Reached(Vec<Vec<bool>>),
-    /// The effort was used up. No events of at most this length make it true.
-    Unknown(usize),
-}
-
 // What a search found, before it is checked.
 #[derive(Drop)]
 enum Finding {
@@ -30,21 +25,29 @@ enum Finding {
     Nothing,
 }
 
-/// Decides whether a literal over the nets of a netlist is ever true, where these clauses over its nets are met in each instant.
+// A finding, and the number of instants in which nothing bad can be.
+#[derive(Drop)]
+struct Found {
+    finding: Finding,
+    clear: usize,
+}
+
+/// Decides whether a literal over the nets of a netlist is ever true, where these clauses over its nets are met in each
+/// instant. The effort counts what `sat_search` does. The only error is running out of memory.
 pub fn decide(
     alloc: Global,
     net: &Net,
     allowed: &[Clause],
     bad: Literal,
     effort: u64,
-) -> Result<Decision, NoMemory> {
-    let system = System::new(alloc, net, allowed, bad)?;
-    let mut left = effort.saturating_sub(effort / 4);
-    let mut unrolling = Unrolling::new(alloc, &system)?;
-    let finding = found(alloc, &system, &mut unrolling, &mut left)?;
-    let clear = unrolling.clear();
-    let rest = left.saturating_add(effort / 4);
-    confirmed(alloc, net, allowed, bad, finding, clear, rest)
+) -> Result<Decision, NoMemory>
+    ensures { IfOk result (IsDecision (netlist_of net.now) (plain_assumed allowed.now) bad) }
+{
+    let kept = effort / 4;
+    let mut left = effort.saturating_sub(kept);
+    let found = searched(alloc, net, allowed, bad, &mut left)?;
+    let rest = left.saturating_add(kept);
+    Ok(confirmed(alloc, net, allowed, bad, found, rest)?)
 }
 
 // Checks what was found.
@@ -53,11 +56,13 @@ fn confirmed(
     net: &Net,
     allowed: &[Clause],
     bad: Literal,
-    finding: Finding,
-    clear: usize,
+    found: Found,
     effort: u64,
-) -> Result<Decision, NoMemory> {
-    match finding {
+) -> Result<Decision, NoMemory>
+    ensures { IfOk result (IsDecision (netlist_of net.now) (plain_assumed allowed.now) bad) }
+{
+    let clear = found.clear;
+    match found.finding {
         Finding::Invariant(clauses) => {
             if is_never(alloc, net, allowed, &clauses, bad, effort)? {
                 Ok(Decision::Never)
@@ -76,25 +81,54 @@ fn confirmed(
     }
 }
 
-// Looks for a trace and for an invariant in turn.
-fn found(
+fn searched(
+    alloc: Global,
+    net: &Net,
+    allowed: &[Clause],
+    bad: Literal,
+    effort: &mut u64,
+) -> Result<Found, NoMemory> {
+    let system = System::new(alloc, net, allowed, bad)?;
+    found_in(alloc, &system, effort)
+}
+
+fn found_in(alloc: Global, system: &System, effort: &mut u64) -> Result<Found, NoMemory> {
+    let mut unrolling = Unrolling::new(alloc, system)?;
+    let finding = found_by(alloc, system, &mut unrolling, effort)?;
+    Ok(Found {
+        finding,
+        clear: unrolling.clear(),
+    })
+}
+
+fn found_by(
     alloc: Global,
     system: &System,
     unrolling: &mut Unrolling,
     effort: &mut u64,
 ) -> Result<Finding, NoMemory> {
-    let mut turn = TURN;
     let mut reaching = Reaching::new(alloc, system)?;
+    found_in_turns(system, unrolling, &mut reaching, effort)
+}
+
+// Looks for a trace and for an invariant in turn.
+fn found_in_turns(
+    system: &System,
+    unrolling: &mut Unrolling,
+    reaching: &mut Reaching,
+    effort: &mut u64,
+) -> Result<Finding, NoMemory> {
+    let mut turn = TURN;
     for _ in 0..64 {
-        let mut first = turn.min(*effort);
-        *effort = effort.saturating_sub(first);
-        if is_found(system, unrolling, usize::MAX, &mut first)? {
+        let mut share = turn.min(*effort);
+        *effort = effort.saturating_sub(share);
+        if is_found(system, unrolling, usize::MAX, &mut share)? {
             return Ok(Finding::Trace(unrolling.trace(system)?));
         }
-        let mut second = turn.min(*effort);
-        *effort = effort.saturating_sub(second);
-        let progress = reaching.run(system, &mut second)?;
-        *effort = effort.saturating_add(second);
+        let mut share = turn.saturating_mul(2).min(*effort);
+        *effort = effort.saturating_sub(share);
+        let progress = reaching.run(system, &mut share)?;
+        *effort = effort.saturating_add(share);
         match progress {
             Progress::Closed(level) => {
                 return Ok(Finding::Invariant(reaching.frames.invariant(system, level)?));

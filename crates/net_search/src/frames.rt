@@ -1,6 +1,6 @@
 // Frames: what is known of the states that so many instants reach.
 
-use crate::cubes::{is_part, signature};
+use crate::cubes::{is_part, signature, sort_by_key};
 use base_types::NoMemory;
 use net_frames::{Questions, Reply, System};
 use sat_kernel::{Clause, Literal};
@@ -41,21 +41,19 @@ pub(crate) struct Frames {
 }
 
 impl Frames {
-    /// Frames 0 and 1, with nothing blocked.
+    /// Frames with nothing blocked. `renew` makes the first two, before any question.
     pub fn new(alloc: Global, system: &System) -> Result<Frames, NoMemory> {
-        let mut frames = Frames {
+        Ok(Frames {
             alloc,
-            questions: Questions::new(alloc, system.graph.len().saturating_add(SPARE))?,
+            activities: vec![in alloc; 0; system.graph.len()]?,
+            questions: Questions::new(alloc, 0)?,
             active: Vec::new(alloc),
             literals: Vec::new(alloc),
             cubes: Vec::new(alloc),
-            temporaries: 0,
+            temporaries: TEMPORARIES,
             assumptions: Vec::new(alloc),
             needed: Vec::new(alloc),
-            activities: vec![in alloc; 0; system.graph.len()]?,
-        };
-        frames.begin(system, 2)?;
-        Ok(frames)
+        })
     }
 
     // Adds the clauses that each instant meets, the frames, and the first instant's state.
@@ -113,13 +111,13 @@ impl Frames {
         Ok(())
     }
 
-    /// Begins with fresh questions where many clauses are left of single questions.
+    /// Begins with fresh questions, at first and where many clauses are left of single questions.
     pub fn renew(&mut self, system: &System) -> Result<(), NoMemory> {
         if self.temporaries < TEMPORARIES {
             return Ok(());
         }
         self.temporaries = 0;
-        let frames = self.active.len();
+        let frames = self.active.len().max(2);
         self.questions = Questions::new(self.alloc, system.graph.len().saturating_add(SPARE))?;
         self.begin(system, frames)?;
         for place in 0..self.cubes.len() {
@@ -184,20 +182,8 @@ impl Frames {
         level: usize,
     ) -> Result<(), NoMemory> {
         let bits = signature(cube);
-        for place in 0..self.cubes.len() {
-            let other = self.blocked(place);
-            if other.level != 0
-                && other.level <= level
-                && bits & !other.bits == 0
-                && is_part(cube, self.cube(place))
-            {
-                self.set_level(place, 0);
-            }
-        }
-        for literal in cube {
-            let count = at(&self.activities, literal.variable(), 0).saturating_add(1);
-            put(&mut self.activities, literal.variable(), count);
-        }
+        self.give_up(cube, level, bits);
+        self.count(cube);
         let place = self.cubes.len();
         let start = self.literals.len();
         self.literals.extend_from_slice(cube)?;
@@ -208,6 +194,24 @@ impl Frames {
             bits,
         })?;
         self.add_clause(system, place)
+    }
+
+    // Gives up the cubes of at most a level that have all literals of this one.
+    fn give_up(&mut self, cube: &[LiteralId], level: usize, bits: u64) {
+        for place in 0..self.cubes.len() {
+            let other = self.blocked(place);
+            let may_have = other.level <= level && bits & !other.bits == 0;
+            if may_have && is_part(cube, self.cube(place)) {
+                self.set_level(place, 0);
+            }
+        }
+    }
+
+    fn count(&mut self, cube: &[LiteralId]) {
+        for literal in cube {
+            let count = at(&self.activities, literal.variable(), 0).saturating_add(1);
+            put(&mut self.activities, literal.variable(), count);
+        }
     }
 
     fn set_level(&mut self, place: usize, level: usize) {
@@ -315,7 +319,7 @@ impl Frames {
         cube: &[LiteralId],
         reply: Reply,
     ) -> Result<(), NoMemory> {
-        if reply != Reply::Impossible {
+        if !reply.is_impossible() {
             return Ok(());
         }
         self.needed.clear();
@@ -339,7 +343,7 @@ impl Frames {
         for edge in cube {
             if !system.is_initial(*edge) {
                 self.needed.push(*edge)?;
-                crate::cubes::sort_by_key(&mut self.needed, &[]);
+                sort_by_key(&mut self.needed, &[]);
                 return Ok(());
             }
         }

@@ -3,9 +3,11 @@
 
 mod cubes;
 mod deciding;
+mod decisions;
 mod frames;
 mod lifting;
 mod obligations;
 mod reaching;
 
-pub use deciding::{Decision, decide};
+pub use deciding::decide;
+pub use decisions::Decision;

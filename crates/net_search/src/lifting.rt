@@ -65,13 +65,7 @@ impl Lifting {
             put(&mut self.needed, node, false);
             let cost = match system.graph.node(node) {
                 Node::True => 0,
-                Node::Free => {
-                    if node <= system.inputs.len() {
-                        0
-                    } else {
-                        1
-                    }
-                }
+                Node::Free => { if node <= system.inputs.len() { 0 } else { 1 } }
                 Node::And(a, b) => self.cost_of(value, a, b),
             };
             put(&mut self.costs, node, cost);

@@ -2,7 +2,7 @@
 
 use base_types::NoMemory;
 use net_frames::{Questions, System};
-use sat_trail::{LiteralId, at, small};
+use sat_trail::{LiteralId, at, put, small};
 use std::alloc::Global;
 
 /// The number of no obligation.
@@ -129,11 +129,13 @@ impl Obligations {
     fn event(&self, system: &System, number: u32) -> Result<Vec<bool>, NoMemory> {
         let first = (number as usize).saturating_mul(self.width);
         let mut values = vec![in self.alloc; false; system.width]?;
-        for (k, input) in system.inputs.iter().enumerate() {
-            let place = *input as usize;
-            if place < values.len() {
-                values[place] = at(&self.inputs, first.saturating_add(k), false);
-            }
+        for k in 0..system.inputs.len() {
+            let input = at(&system.inputs, k, u32::MAX) as usize;
+            put(
+                &mut values,
+                input,
+                at(&self.inputs, first.saturating_add(k), false),
+            );
         }
         Ok(values)
     }

@@ -1,6 +1,6 @@
 // Property directed reachability.
 
-use crate::cubes::{copy, copy_without, has_literal, sort_by_key};
+use crate::cubes::{copy, copy_without, sort_by_key};
 use crate::frames::Frames;
 use crate::lifting::Lifting;
 use crate::obligations::{NONE, Obligations};
@@ -40,9 +40,9 @@ pub(crate) struct Reaching {
 impl Reaching {
     pub fn new(alloc: Global, system: &System) -> Result<Reaching, NoMemory> {
         Ok(Reaching {
+            lifting: Lifting::new(alloc, system)?,
             frames: Frames::new(alloc, system)?,
             obligations: Obligations::new(alloc, system),
-            lifting: Lifting::new(alloc, system)?,
             cube: Vec::new(alloc),
             kept: Vec::new(alloc),
             order: Vec::new(alloc),
@@ -191,14 +191,12 @@ impl Reaching {
         sort_by_key(&mut self.order, &self.frames.activities);
         for k in 0..self.order.len() {
             let literal = at(&self.order, k, LiteralId(0));
-            if has_literal(&self.kept, literal) {
-                copy_without(&self.kept, literal, &mut self.smaller)?;
-                if !system.has_initial(&self.smaller) {
-                    match self.frames.ask_into(system, &self.smaller, before, effort)? {
-                        Reply::Unknown => return Ok(false),
-                        Reply::Impossible => copy(&self.frames.needed, &mut self.kept)?,
-                        Reply::Possible => {}
-                    }
+            copy_without(&self.kept, literal, &mut self.smaller)?;
+            if self.smaller.len() < self.kept.len() && !system.has_initial(&self.smaller) {
+                match self.frames.ask_into(system, &self.smaller, before, effort)? {
+                    Reply::Unknown => return Ok(false),
+                    Reply::Impossible => copy(&self.frames.needed, &mut self.kept)?,
+                    Reply::Possible => {}
                 }
             }
         }
@@ -251,7 +249,7 @@ impl Reaching {
     ) -> Result<Reply, NoMemory> {
         copy(self.frames.cube(place), &mut self.cube)?;
         let reply = self.frames.ask_next(system, &self.cube, level, effort)?;
-        if reply == Reply::Impossible {
+        if reply.is_impossible() {
             copy(&self.frames.needed, &mut self.kept)?;
             self.frames
                 .block(system, &self.kept, level.saturating_add(1))?;
