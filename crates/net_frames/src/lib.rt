@@ -9,10 +9,12 @@
 
 mod graphs;
 mod questions;
+mod simulation;
 mod systems;
 mod unrolling;
 
 pub use graphs::{FALSE, Graph, Node, TRUE};
 pub use questions::{Questions, Reply};
+pub use simulation::Simulation;
 pub use systems::{State, System, signed_as};
 pub use unrolling::Unrolling;

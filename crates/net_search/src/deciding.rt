@@ -5,6 +5,7 @@ ghost use Rattle.net_ir.specs.Runs.{netlist_of};
 ghost use Rattle.sat_kernel.specs.Clauses.{plain_assumed};
 ghost use Rattle.net_search.specs.Decisions.{IsDecision};
 
+use crate::candidates::Candidates;
 use crate::decisions::Decision;
 use crate::reaching::{Progress, Reaching};
 use base_types::NoMemory;
@@ -108,6 +109,12 @@ fn found_by(
     effort: &mut u64,
 ) -> Result<Finding, NoMemory> {
     let mut reaching = Reaching::new(alloc, system)?;
+    let mut candidates = Candidates::new(alloc);
+    let mut share = *effort / 8;
+    *effort = effort.saturating_sub(share);
+    candidates.find(system, &mut share)?;
+    *effort = effort.saturating_add(share);
+    reaching.block_pairs(&candidates.pairs)?;
     found_in_turns(system, unrolling, &mut reaching, effort)
 }
 

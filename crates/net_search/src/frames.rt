@@ -1,5 +1,6 @@
 // Frames: what is known of the states that so many instants reach.
 
+use crate::candidates::add_allowed;
 use crate::cubes::{is_part, signature, sort_by_key};
 use base_types::NoMemory;
 use net_frames::{Questions, Reply, System};
@@ -12,6 +13,9 @@ const TEMPORARIES: usize = 400;
 
 // The variables for frames and single questions.
 const SPARE: usize = 100_000;
+
+/// The level of cubes that no run meets.
+pub(crate) const FOREVER: usize = usize::MAX;
 
 /// A cube that the states of the frames up to its level do not meet. A level of 0 is that of a cube which is given up.
 #[derive(Clone, Copy)]
@@ -58,25 +62,13 @@ impl Frames {
 
     // Adds the clauses that each instant meets, the frames, and the first instant's state.
     fn begin(&mut self, system: &System, frames: usize) -> Result<(), NoMemory> {
-        self.add_allowed(system)?;
+        add_allowed(system, &mut self.questions, &mut self.assumptions)?;
         self.active.clear();
         for _ in 0..frames {
             self.active.push(self.questions.fresh())?;
         }
         for place in 0..system.states.len() {
             self.add_initial(system, place)?;
-        }
-        Ok(())
-    }
-
-    fn add_allowed(&mut self, system: &System) -> Result<(), NoMemory> {
-        for place in 0..system.ends.len() {
-            self.assumptions.clear();
-            for edge in system.clause(place) {
-                let literal = self.questions.literal(&system.graph, *edge)?;
-                self.assumptions.push(literal)?;
-            }
-            self.questions.add(&self.assumptions)?;
         }
         Ok(())
     }
@@ -139,7 +131,9 @@ impl Frames {
             self.assumptions.push(literal.opposite())?;
         }
         // The first literals are watched, so that a question need not visit all clauses of its frame.
-        self.assumptions.push(self.active_at(level).opposite())?;
+        if level != FOREVER {
+            self.assumptions.push(self.active_at(level).opposite())?;
+        }
         self.questions.add(&self.assumptions)
     }
 
@@ -185,15 +179,21 @@ impl Frames {
         self.give_up(cube, level, bits);
         self.count(cube);
         let place = self.cubes.len();
+        self.store(cube, level)?;
+        self.add_clause(system, place)
+    }
+
+    /// Stores a blocked cube, in ascending order, before `renew` makes the first questions.
+    pub fn store(&mut self, cube: &[LiteralId], level: usize) -> Result<(), NoMemory> {
         let start = self.literals.len();
         self.literals.extend_from_slice(cube)?;
         self.cubes.push(Blocked {
             start,
             length: cube.len(),
             level,
-            bits,
+            bits: signature(cube),
         })?;
-        self.add_clause(system, place)
+        Ok(())
     }
 
     // Gives up the cubes of at most a level that have all literals of this one.

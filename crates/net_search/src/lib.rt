@@ -1,6 +1,7 @@
 //! Whether a net of a netlist is ever true.
 #![tactic(auto)]
 
+mod candidates;
 mod cubes;
 mod deciding;
 mod decisions;

@@ -1,7 +1,8 @@
 // Property directed reachability.
 
+use crate::candidates::Pair;
 use crate::cubes::{copy, copy_without, sort_by_key};
-use crate::frames::Frames;
+use crate::frames::{FOREVER, Frames};
 use crate::lifting::Lifting;
 use crate::obligations::{NONE, Obligations};
 use base_types::NoMemory;
@@ -49,6 +50,19 @@ impl Reaching {
             smaller: Vec::new(alloc),
             targets: Vec::new(alloc),
         })
+    }
+
+    /// Blocks pairs of literals that no run meets.
+    pub fn block_pairs(&mut self, pairs: &[Pair]) -> Result<(), NoMemory> {
+        for pair in pairs {
+            self.kept.clear();
+            self.kept.push(pair.first)?;
+            if pair.second.0 != pair.first.0 {
+                self.kept.push(pair.second)?;
+            }
+            self.frames.store(&self.kept, FOREVER)?;
+        }
+        Ok(())
     }
 
     /// Searches until it has an answer, or the effort is used up. Later calls go on.
