@@ -118,7 +118,11 @@ impl Simulation {
         for place in 0..system.states.len() {
             let next = at(&self.next, place, 0);
             let init = system.is_initial(system.state_edge(place));
-            put(&mut self.next, place, if init { next | runs } else { next & !runs });
+            put(
+                &mut self.next,
+                place,
+                if init { next | runs } else { next & !runs },
+            );
         }
     }
 

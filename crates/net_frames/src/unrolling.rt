@@ -9,7 +9,7 @@ use sat_trail::{LiteralId, at, put};
 use std::alloc::Global;
 
 // The variables of the questions over an unrolling.
-const VARIABLES: usize = 8_000_000;
+const VARIABLES: usize = 2_000_000;
 
 /// The instants of a transition system from its first one, in one graph.
 #[derive(Drop)]
@@ -56,12 +56,16 @@ impl Unrolling {
     /// Looks for a trace of the next length. Possible where there is one, Impossible where there is none, so that the
     /// next call looks for a longer one.
     pub fn look(&mut self, system: &System, effort: &mut u64) -> Result<Reply, NoMemory> {
+        if self.graph.len() >= VARIABLES {
+            return Ok(Reply::Unknown);
+        }
         if self.length == self.clear {
             let before = self.graph.len();
             self.extend(system)?;
             let work = self.graph.len().saturating_sub(before);
             let work = work
-                .saturating_add(system.graph.len() / 8)
+                .saturating_mul(4)
+                .saturating_add(system.graph.len())
                 .saturating_add(20);
             *effort = effort.saturating_sub(work as u64);
         }

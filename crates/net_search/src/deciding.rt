@@ -108,14 +108,50 @@ fn found_by(
     unrolling: &mut Unrolling,
     effort: &mut u64,
 ) -> Result<Finding, NoMemory> {
+    if is_found_in_turn(system, unrolling, TURN.saturating_mul(8), effort)? {
+        return Ok(Finding::Trace(unrolling.trace(system)?));
+    }
+    found_or_blocked(alloc, system, unrolling, effort)
+}
+
+fn found_or_blocked(
+    alloc: Global,
+    system: &System,
+    unrolling: &mut Unrolling,
+    effort: &mut u64,
+) -> Result<Finding, NoMemory> {
     let mut reaching = Reaching::new(alloc, system)?;
+    block_candidates(alloc, system, &mut reaching, effort)?;
+    found_in_turns(system, unrolling, &mut reaching, effort)
+}
+
+// Blocks the pairs of literals that are an invariant.
+fn block_candidates(
+    alloc: Global,
+    system: &System,
+    reaching: &mut Reaching,
+    effort: &mut u64,
+) -> Result<(), NoMemory> {
     let mut candidates = Candidates::new(alloc);
     let mut share = *effort / 8;
     *effort = effort.saturating_sub(share);
     candidates.find(system, &mut share)?;
     *effort = effort.saturating_add(share);
-    reaching.block_pairs(&candidates.pairs)?;
-    found_in_turns(system, unrolling, &mut reaching, effort)
+    reaching.block_pairs(&candidates.pairs)
+}
+
+// Looks for a trace, with a part of the effort.
+fn is_found_in_turn(
+    system: &System,
+    unrolling: &mut Unrolling,
+    turn: u64,
+    effort: &mut u64,
+) -> Result<bool, NoMemory> {
+    let mut share = turn.min(*effort);
+    *effort = effort.saturating_sub(share);
+    let is_found = is_found(system, unrolling, usize::MAX, &mut share)?;
+    *effort = effort.saturating_add(share);
+    Ok(is_found)
 }
 
 // Looks for a trace and for an invariant in turn.
@@ -127,9 +163,7 @@ fn found_in_turns(
 ) -> Result<Finding, NoMemory> {
     let mut turn = TURN;
     for _ in 0..64 {
-        let mut share = turn.min(*effort);
-        *effort = effort.saturating_sub(share);
-        if is_found(system, unrolling, usize::MAX, &mut share)? {
+        if is_found_in_turn(system, unrolling, turn, effort)? {
             return Ok(Finding::Trace(unrolling.trace(system)?));
         }
         let mut share = turn.saturating_mul(2).min(*effort);
