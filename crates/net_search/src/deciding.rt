@@ -133,7 +133,7 @@ fn block_candidates(
     effort: &mut u64,
 ) -> Result<(), NoMemory> {
     let mut candidates = Candidates::new(alloc);
-    let mut share = *effort / 8;
+    let mut share = *effort / 3;
     *effort = effort.saturating_sub(share);
     candidates.find(system, &mut share)?;
     *effort = effort.saturating_add(share);
