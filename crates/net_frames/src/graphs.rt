@@ -21,27 +21,27 @@ const NODES: usize = 0x4000_0000;
 
 /// A node. An edge is a node or its negation, as a `LiteralId`.
 #[derive(Clone, Copy)]
-pub enum Node {
+pub enum AndNode {
     True,
     Free,
     And(LiteralId, LiteralId),
 }
 
 /// An and-inverter graph. Operands have lower numbers than the node that reads them, and no two nodes have the same
-/// operands. Node 0 is true.
+/// operands. AndNode 0 is true.
 #[derive(Drop)]
-pub struct Graph {
-    nodes: Vec<Node>,
+pub struct AndGraph {
+    nodes: Vec<AndNode>,
     // The numbers of the nodes with operands, by a hash of the operands.
     table: Vec<u32>,
     hashed: usize,
 }
 
-impl Graph {
+impl AndGraph {
     /// A graph with the true node alone.
-    pub fn new(alloc: Global) -> Result<Graph, NoMemory> {
-        Ok(Graph {
-            nodes: vec![in alloc; Node::True; 1]?,
+    pub fn new(alloc: Global) -> Result<AndGraph, NoMemory> {
+        Ok(AndGraph {
+            nodes: vec![in alloc; AndNode::True; 1]?,
             table: vec![in alloc; NOWHERE; PLACES]?,
             hashed: 0,
         })
@@ -54,16 +54,16 @@ impl Graph {
 
     /// The node with a number. Past the end it is free.
     #[inline(always)]
-    pub fn node(&self, place: usize) -> Node {
-        at(&self.nodes, place, Node::Free)
+    pub fn node(&self, place: usize) -> AndNode {
+        at(&self.nodes, place, AndNode::Free)
     }
 
     /// Adds a node that may have any value.
     pub fn free(&mut self) -> Result<LiteralId, NoMemory> {
-        self.push(Node::Free)
+        self.push(AndNode::Free)
     }
 
-    fn push(&mut self, node: Node) -> Result<LiteralId, NoMemory> {
+    fn push(&mut self, node: AndNode) -> Result<LiteralId, NoMemory> {
         let place = self.nodes.len();
         self.nodes.push(node)?;
         Ok(LiteralId::signed(small(place), true))
@@ -113,7 +113,7 @@ impl Graph {
 
     // The edge that is true where both are, if the second is a node of the first or its negation.
     fn absorbed(&self, edge: LiteralId, other: LiteralId) -> Option<LiteralId> {
-        let Node::And(a, b) = self.node(other.variable()) else {
+        let AndNode::And(a, b) = self.node(other.variable()) else {
             return None;
         };
         if edge.opposite().0 == a.0 || edge.opposite().0 == b.0 {
@@ -142,7 +142,7 @@ impl Graph {
         }
         put(&mut self.table, place, small(self.nodes.len()));
         self.hashed = self.hashed.saturating_add(1);
-        let edge = self.push(Node::And(left, right))?;
+        let edge = self.push(AndNode::And(left, right))?;
         if self.hashed.saturating_mul(2) > self.table.len() {
             self.spread(alloc)?;
         }
@@ -165,8 +165,8 @@ impl Graph {
 
     fn has_operands(&self, place: u32, left: LiteralId, right: LiteralId) -> bool {
         match self.node(place as usize) {
-            Node::And(a, b) => a.0 == left.0 && b.0 == right.0,
-            Node::True | Node::Free => false,
+            AndNode::And(a, b) => a.0 == left.0 && b.0 == right.0,
+            AndNode::True | AndNode::Free => false,
         }
     }
 
@@ -175,7 +175,7 @@ impl Graph {
         let size = self.table.len().saturating_mul(2);
         self.table = vec![in alloc; NOWHERE; size]?;
         for number in 0..self.nodes.len() {
-            if let Node::And(left, right) = self.node(number) {
+            if let AndNode::And(left, right) = self.node(number) {
                 let place = self.place_of(left, right);
                 put(&mut self.table, place, small(number));
             }

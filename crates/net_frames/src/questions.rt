@@ -1,6 +1,6 @@
 // Questions about the edges of a graph.
 
-use crate::graphs::{Graph, Node};
+use crate::graphs::{AndGraph, AndNode};
 use base_types::NoMemory;
 use sat_kernel::{Clause, Kernel, Literal, Premise};
 use sat_search::{Refutation, Search, SearchOutcome};
@@ -99,7 +99,7 @@ impl Questions {
     }
 
     /// The literal of an edge, whose clauses are added with those of all that it depends on.
-    pub fn literal(&mut self, graph: &Graph, edge: LiteralId) -> Result<Literal, NoMemory> {
+    pub fn literal(&mut self, graph: &AndGraph, edge: LiteralId) -> Result<Literal, NoMemory> {
         let literal = self.place(edge)?;
         for _ in 0..u64::MAX {
             let Some(node) = self.pending.pop() else {
@@ -129,12 +129,12 @@ impl Questions {
     }
 
     // Adds the clauses of a node.
-    fn encode(&mut self, graph: &Graph, node: u32) -> Result<(), NoMemory> {
+    fn encode(&mut self, graph: &AndGraph, node: u32) -> Result<(), NoMemory> {
         let literal = self.place(LiteralId::signed(node, true))?;
         match graph.node(node as usize) {
-            Node::True => self.add(&[literal]),
-            Node::Free => Ok(()),
-            Node::And(a, b) => {
+            AndNode::True => self.add(&[literal]),
+            AndNode::Free => Ok(()),
+            AndNode::And(a, b) => {
                 let left = self.place(a)?;
                 let right = self.place(b)?;
                 self.add_and(literal, left, right)

@@ -1,7 +1,7 @@
 // Random simulation, in 64 runs at once.
 
-use crate::graphs::Node;
-use crate::systems::System;
+use crate::graphs::AndNode;
+use crate::systems::TransitionSystem;
 use base_types::NoMemory;
 use sat_trail::{LiteralId, at, put};
 use std::alloc::Global;
@@ -19,7 +19,7 @@ pub struct Simulation {
 
 impl Simulation {
     /// Runs in their first instant.
-    pub fn new(alloc: Global, system: &System) -> Result<Simulation, NoMemory> {
+    pub fn new(alloc: Global, system: &TransitionSystem) -> Result<Simulation, NoMemory> {
         let mut simulation = Simulation {
             words: vec![in alloc; u64::MAX; system.graph.len()]?,
             next: vec![in alloc; 0; system.states.len()]?,
@@ -37,13 +37,13 @@ impl Simulation {
     }
 
     /// Goes to the next instant. The larger `rare` is, the fewer inputs are true.
-    pub fn advance(&mut self, system: &System, rare: u32) {
+    pub fn advance(&mut self, system: &TransitionSystem, rare: u32) {
         self.set_inputs(system, rare);
         for place in 0..system.ends.len() {
             self.mend(system, system.clause(place));
         }
         for node in 0..system.graph.len() {
-            if let Node::And(a, b) = system.graph.node(node) {
+            if let AndNode::And(a, b) = system.graph.node(node) {
                 let word = self.word(a) & self.word(b);
                 put(&mut self.words, node, word);
             }
@@ -66,7 +66,7 @@ impl Simulation {
         word
     }
 
-    fn set_inputs(&mut self, system: &System, rare: u32) {
+    fn set_inputs(&mut self, system: &TransitionSystem, rare: u32) {
         for input in 0..system.inputs.len() {
             let mut word = self.random();
             for _ in 0..rare {
@@ -77,7 +77,7 @@ impl Simulation {
     }
 
     // Makes a clause over inputs true in each run, by its last literal.
-    fn mend(&mut self, system: &System, clause: &[LiteralId]) {
+    fn mend(&mut self, system: &TransitionSystem, clause: &[LiteralId]) {
         let missing = !self.any(clause);
         for literal in clause {
             let node = literal.variable();
@@ -106,7 +106,7 @@ impl Simulation {
         word
     }
 
-    fn keep_next(&mut self, system: &System) {
+    fn keep_next(&mut self, system: &TransitionSystem) {
         for place in 0..system.states.len() {
             let next = self.word(system.next_edge(system.state_edge(place)));
             put(&mut self.next, place, next);
@@ -114,7 +114,7 @@ impl Simulation {
     }
 
     // Lets some runs begin anew.
-    fn restart(&mut self, system: &System, runs: u64) {
+    fn restart(&mut self, system: &TransitionSystem, runs: u64) {
         for place in 0..system.states.len() {
             let next = at(&self.next, place, 0);
             let init = system.is_initial(system.state_edge(place));
@@ -126,7 +126,7 @@ impl Simulation {
         }
     }
 
-    fn follow(&mut self, system: &System) {
+    fn follow(&mut self, system: &TransitionSystem) {
         for place in 0..system.states.len() {
             let node = system.state_edge(place).variable();
             put(&mut self.words, node, at(&self.next, place, 0));

@@ -1,6 +1,6 @@
 // The cone of a question, as a transition system.
 
-use crate::graphs::{FALSE, Graph, TRUE};
+use crate::graphs::{AndGraph, FALSE, TRUE};
 use base_types::{NetId, NoMemory};
 use net_ir::{Gate, Latch, Net, Op};
 use sat_kernel::{Clause, Literal};
@@ -20,8 +20,8 @@ pub struct State {
 /// The part of a netlist that a question depends on: the nets from which the question's nets can be reached. The nodes
 /// of the graph are the true one, the inputs, the latches, and then what the gates compute.
 #[derive(Drop)]
-pub struct System {
-    pub graph: Graph,
+pub struct TransitionSystem {
+    pub graph: AndGraph,
     /// By node of an input, from the first: the input's number.
     pub inputs: Vec<u32>,
     /// The number of inputs of the whole netlist.
@@ -37,17 +37,17 @@ pub struct System {
     edges: Vec<LiteralId>,
 }
 
-impl System {
+impl TransitionSystem {
     /// The cone of a literal and of the clauses that each instant meets.
     pub fn new(
         alloc: Global,
         net: &Net,
         allowed: &[Clause],
         bad: Literal,
-    ) -> Result<System, NoMemory> {
+    ) -> Result<TransitionSystem, NoMemory> {
         let mut cone = Cone::new(alloc, net)?;
         cone.fill(net, allowed, bad)?;
-        System::of(alloc, net, allowed, bad, &cone.reached)
+        TransitionSystem::of(alloc, net, allowed, bad, &cone.reached)
     }
 
     fn of(
@@ -56,9 +56,9 @@ impl System {
         allowed: &[Clause],
         bad: Literal,
         reached: &[bool],
-    ) -> Result<System, NoMemory> {
-        let mut system = System {
-            graph: Graph::new(alloc)?,
+    ) -> Result<TransitionSystem, NoMemory> {
+        let mut system = TransitionSystem {
+            graph: AndGraph::new(alloc)?,
             inputs: Vec::new(alloc),
             width: net.inputs.len(),
             states: Vec::new(alloc),

@@ -1,8 +1,8 @@
 // Bounded model checking: the shortest trace.
 
-use crate::graphs::{FALSE, Graph, Node, TRUE};
+use crate::graphs::{AndGraph, AndNode, FALSE, TRUE};
 use crate::questions::{Questions, Reply};
-use crate::systems::{State, System, signed_as};
+use crate::systems::{State, TransitionSystem, signed_as};
 use base_types::NoMemory;
 use sat_kernel::Literal;
 use sat_trail::{LiteralId, at, put};
@@ -15,7 +15,7 @@ const VARIABLES: usize = 2_000_000;
 #[derive(Drop)]
 pub struct Unrolling {
     alloc: Global,
-    graph: Graph,
+    graph: AndGraph,
     questions: Questions,
     // The values of the latches in the next instant to be added.
     states: Vec<LiteralId>,
@@ -32,12 +32,12 @@ pub struct Unrolling {
 }
 
 impl Unrolling {
-    pub fn new(alloc: Global, system: &System) -> Result<Unrolling, NoMemory> {
+    pub fn new(alloc: Global, system: &TransitionSystem) -> Result<Unrolling, NoMemory> {
         let nodes = system.graph.len().saturating_mul(200).max(200_000);
         Ok(Unrolling {
             alloc,
             states: initial_edges(alloc, &system.states)?,
-            graph: Graph::new(alloc)?,
+            graph: AndGraph::new(alloc)?,
             questions: Questions::new(alloc, nodes.min(VARIABLES))?,
             inputs: Vec::new(alloc),
             edges: Vec::new(alloc),
@@ -55,7 +55,7 @@ impl Unrolling {
 
     /// Looks for a trace of the next length. Possible where there is one, Impossible where there is none, so that the
     /// next call looks for a longer one.
-    pub fn look(&mut self, system: &System, effort: &mut u64) -> Result<Reply, NoMemory> {
+    pub fn look(&mut self, system: &TransitionSystem, effort: &mut u64) -> Result<Reply, NoMemory> {
         if self.graph.len() >= VARIABLES {
             return Ok(Reply::Unknown);
         }
@@ -83,7 +83,7 @@ impl Unrolling {
     }
 
     // Adds an instant.
-    fn extend(&mut self, system: &System) -> Result<(), NoMemory> {
+    fn extend(&mut self, system: &TransitionSystem) -> Result<(), NoMemory> {
         self.edges.clear();
         self.edges.push(TRUE)?;
         self.add_inputs(system)?;
@@ -98,7 +98,7 @@ impl Unrolling {
         self.add_allowed(system)
     }
 
-    fn add_inputs(&mut self, system: &System) -> Result<(), NoMemory> {
+    fn add_inputs(&mut self, system: &TransitionSystem) -> Result<(), NoMemory> {
         for _ in 0..system.inputs.len() {
             let input = self.graph.free()?;
             self.edges.push(input)?;
@@ -112,10 +112,10 @@ impl Unrolling {
         signed_as(at(&self.edges, edge.variable(), FALSE), edge)
     }
 
-    fn copied(&mut self, node: Node) -> Result<LiteralId, NoMemory> {
+    fn copied(&mut self, node: AndNode) -> Result<LiteralId, NoMemory> {
         match node {
-            Node::True | Node::Free => self.graph.free(),
-            Node::And(a, b) => {
+            AndNode::True | AndNode::Free => self.graph.free(),
+            AndNode::And(a, b) => {
                 let left = self.edge(a);
                 let right = self.edge(b);
                 self.graph.and(self.alloc, left, right)
@@ -124,14 +124,14 @@ impl Unrolling {
     }
 
     // Moves the latches to the next instant.
-    fn follow(&mut self, system: &System) {
+    fn follow(&mut self, system: &TransitionSystem) {
         for k in 0..self.states.len() {
             let next = self.edge(system.next_edge(system.state_edge(k)));
             self.states[k] = next;
         }
     }
 
-    fn add_allowed(&mut self, system: &System) -> Result<(), NoMemory> {
+    fn add_allowed(&mut self, system: &TransitionSystem) -> Result<(), NoMemory> {
         for place in 0..system.ends.len() {
             self.add_clause(system.clause(place))?;
         }
@@ -149,7 +149,7 @@ impl Unrolling {
     }
 
     /// The inputs' values of the last valuation, one list for each instant.
-    pub fn trace(&self, system: &System) -> Result<Vec<Vec<bool>>, NoMemory> {
+    pub fn trace(&self, system: &TransitionSystem) -> Result<Vec<Vec<bool>>, NoMemory> {
         let mut events = Vec::with_capacity(self.alloc, self.length)?;
         for instant in 0..self.length {
             events.push(self.event(system, instant)?)?;
@@ -157,7 +157,7 @@ impl Unrolling {
         Ok(events)
     }
 
-    fn event(&self, system: &System, instant: usize) -> Result<Vec<bool>, NoMemory> {
+    fn event(&self, system: &TransitionSystem, instant: usize) -> Result<Vec<bool>, NoMemory> {
         let first = instant.saturating_mul(system.inputs.len());
         let mut values = vec![in self.alloc; false; system.width]?;
         for k in 0..system.inputs.len() {

@@ -1,7 +1,7 @@
 // Candidates of invariants: cubes of one or two literals that random runs never meet.
 
 use base_types::NoMemory;
-use net_frames::{Questions, Reply, Simulation, System};
+use net_frames::{Questions, Reply, Simulation, TransitionSystem};
 use sat_kernel::Literal;
 use sat_trail::{LiteralId, at, put};
 use std::alloc::Global;
@@ -24,8 +24,8 @@ pub(crate) struct Pair {
 }
 
 /// Pairs of literals of latches that random runs never meet at once. Those are kept that no state which meets none of
-/// them leads to (van Eijk, "Sequential Equivalence Checking Based on Structural Similarities", keeps equalities of nets
-/// this way).
+/// them leads to (van Eijk, "Sequential Equivalence Checking Based on Structural Similarities", keeps equal nets this
+/// way).
 #[derive(Drop)]
 pub(crate) struct Candidates {
     alloc: Global,
@@ -46,7 +46,7 @@ impl Candidates {
     }
 
     /// Finds the pairs that lead to each other alone. Where the effort is used up, there are none.
-    pub fn find(&mut self, system: &System, effort: &mut u64) -> Result<(), NoMemory> {
+    pub fn find(&mut self, system: &TransitionSystem, effort: &mut u64) -> Result<(), NoMemory> {
         self.sample(system)?;
         self.collect(system)?;
         for _ in 0..u64::MAX {
@@ -62,7 +62,7 @@ impl Candidates {
         Ok(())
     }
 
-    fn sample(&mut self, system: &System) -> Result<(), NoMemory> {
+    fn sample(&mut self, system: &TransitionSystem) -> Result<(), NoMemory> {
         let count = system.states.len().saturating_mul(SAMPLES);
         self.samples = vec![in self.alloc; 0; count]?;
         let mut simulation = Simulation::new(self.alloc, system)?;
@@ -73,7 +73,7 @@ impl Candidates {
         Ok(())
     }
 
-    fn take(&mut self, system: &System, simulation: &Simulation, sample: usize) {
+    fn take(&mut self, system: &TransitionSystem, simulation: &Simulation, sample: usize) {
         for place in 0..system.states.len() {
             let word = simulation.word(system.state_edge(place));
             let index = place.saturating_mul(SAMPLES).saturating_add(sample);
@@ -82,7 +82,7 @@ impl Candidates {
     }
 
     // Notes the pairs that no sample has.
-    fn collect(&mut self, system: &System) -> Result<(), NoMemory> {
+    fn collect(&mut self, system: &TransitionSystem) -> Result<(), NoMemory> {
         self.pairs.clear();
         for place in 0..system.states.len() {
             for other in 0..place.saturating_add(1) {
@@ -98,7 +98,7 @@ impl Candidates {
     // The pairs of two latches. Of a latch with itself, its two literals.
     fn collect_signs(
         &mut self,
-        system: &System,
+        system: &TransitionSystem,
         left: usize,
         right: usize,
     ) -> Result<(), NoMemory> {
@@ -148,14 +148,18 @@ impl Candidates {
     }
 
     // Asks of each pair whether a state that meets none of them leads to it, and marks those to which one does.
-    fn filter(&mut self, system: &System, effort: &mut u64) -> Result<Reply, NoMemory> {
+    fn filter(&mut self, system: &TransitionSystem, effort: &mut u64) -> Result<Reply, NoMemory> {
         let limit = system.graph.len().saturating_add(SPARE);
         let mut questions = Questions::new(self.alloc, limit)?;
         self.begin(system, &mut questions)?;
         self.ask_all(system, &mut questions, effort)
     }
 
-    fn begin(&mut self, system: &System, questions: &mut Questions) -> Result<(), NoMemory> {
+    fn begin(
+        &mut self,
+        system: &TransitionSystem,
+        questions: &mut Questions,
+    ) -> Result<(), NoMemory> {
         add_allowed(system, questions, &mut self.clause)?;
         for k in 0..self.pairs.len() {
             let pair = self.pair(k);
@@ -179,7 +183,7 @@ impl Candidates {
 
     fn ask_all(
         &mut self,
-        system: &System,
+        system: &TransitionSystem,
         questions: &mut Questions,
         effort: &mut u64,
     ) -> Result<Reply, NoMemory> {
@@ -210,7 +214,7 @@ impl Candidates {
     }
 
     // Marks the pairs to which the last valuation leads.
-    fn refute_met(&mut self, system: &System, questions: &Questions) {
+    fn refute_met(&mut self, system: &TransitionSystem, questions: &Questions) {
         for k in 0..self.pairs.len() {
             let pair = self.pair(k);
             if questions.edge_value(system.next_edge(pair.first))
@@ -265,7 +269,7 @@ fn is_constant(row: &[u64]) -> bool {
 
 /// Adds the clauses that each instant meets.
 pub(crate) fn add_allowed(
-    system: &System,
+    system: &TransitionSystem,
     questions: &mut Questions,
     clause: &mut Vec<Literal>,
 ) -> Result<(), NoMemory> {

@@ -9,7 +9,7 @@ use crate::candidates::Candidates;
 use crate::decisions::Decision;
 use crate::reaching::{Progress, Reaching};
 use base_types::NoMemory;
-use net_frames::{Reply, System, Unrolling};
+use net_frames::{Reply, TransitionSystem, Unrolling};
 use net_ir::Net;
 use net_never::{is_never, is_reached};
 use sat_kernel::{Clause, Literal};
@@ -89,11 +89,11 @@ fn searched(
     bad: Literal,
     effort: &mut u64,
 ) -> Result<Found, NoMemory> {
-    let system = System::new(alloc, net, allowed, bad)?;
+    let system = TransitionSystem::new(alloc, net, allowed, bad)?;
     found_in(alloc, &system, effort)
 }
 
-fn found_in(alloc: Global, system: &System, effort: &mut u64) -> Result<Found, NoMemory> {
+fn found_in(alloc: Global, system: &TransitionSystem, effort: &mut u64) -> Result<Found, NoMemory> {
     let mut unrolling = Unrolling::new(alloc, system)?;
     let finding = found_by(alloc, system, &mut unrolling, effort)?;
     Ok(Found {
@@ -104,7 +104,7 @@ fn found_in(alloc: Global, system: &System, effort: &mut u64) -> Result<Found, N
 
 fn found_by(
     alloc: Global,
-    system: &System,
+    system: &TransitionSystem,
     unrolling: &mut Unrolling,
     effort: &mut u64,
 ) -> Result<Finding, NoMemory> {
@@ -116,7 +116,7 @@ fn found_by(
 
 fn found_or_blocked(
     alloc: Global,
-    system: &System,
+    system: &TransitionSystem,
     unrolling: &mut Unrolling,
     effort: &mut u64,
 ) -> Result<Finding, NoMemory> {
@@ -128,7 +128,7 @@ fn found_or_blocked(
 // Blocks the pairs of literals that are an invariant.
 fn block_candidates(
     alloc: Global,
-    system: &System,
+    system: &TransitionSystem,
     reaching: &mut Reaching,
     effort: &mut u64,
 ) -> Result<(), NoMemory> {
@@ -142,7 +142,7 @@ fn block_candidates(
 
 // Looks for a trace, with a part of the effort.
 fn is_found_in_turn(
-    system: &System,
+    system: &TransitionSystem,
     unrolling: &mut Unrolling,
     turn: u64,
     effort: &mut u64,
@@ -156,7 +156,7 @@ fn is_found_in_turn(
 
 // Looks for a trace and for an invariant in turn.
 fn found_in_turns(
-    system: &System,
+    system: &TransitionSystem,
     unrolling: &mut Unrolling,
     reaching: &mut Reaching,
     effort: &mut u64,
@@ -190,7 +190,7 @@ fn found_in_turns(
 
 // Looks for traces that are shorter than this one.
 fn shortest(
-    system: &System,
+    system: &TransitionSystem,
     unrolling: &mut Unrolling,
     events: Vec<Vec<bool>>,
     effort: &mut u64,
@@ -204,7 +204,7 @@ fn shortest(
 
 // Looks for a trace of at most this length.
 fn is_found(
-    system: &System,
+    system: &TransitionSystem,
     unrolling: &mut Unrolling,
     longest: usize,
     effort: &mut u64,

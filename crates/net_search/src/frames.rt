@@ -3,7 +3,7 @@
 use crate::candidates::add_allowed;
 use crate::cubes::{is_part, signature, sort_by_key};
 use base_types::NoMemory;
-use net_frames::{Questions, Reply, System};
+use net_frames::{Questions, Reply, TransitionSystem};
 use sat_kernel::{Clause, Literal};
 use sat_trail::{LiteralId, at, put};
 use std::alloc::Global;
@@ -46,7 +46,7 @@ pub(crate) struct Frames {
 
 impl Frames {
     /// Frames with nothing blocked. `renew` makes the first two, before any question.
-    pub fn new(alloc: Global, system: &System) -> Result<Frames, NoMemory> {
+    pub fn new(alloc: Global, system: &TransitionSystem) -> Result<Frames, NoMemory> {
         Ok(Frames {
             alloc,
             activities: vec![in alloc; 0; system.graph.len()]?,
@@ -61,7 +61,7 @@ impl Frames {
     }
 
     // Adds the clauses that each instant meets, the frames, and the first instant's state.
-    fn begin(&mut self, system: &System, frames: usize) -> Result<(), NoMemory> {
+    fn begin(&mut self, system: &TransitionSystem, frames: usize) -> Result<(), NoMemory> {
         add_allowed(system, &mut self.questions, &mut self.assumptions)?;
         self.active.clear();
         for _ in 0..frames {
@@ -73,7 +73,7 @@ impl Frames {
         Ok(())
     }
 
-    fn add_initial(&mut self, system: &System, place: usize) -> Result<(), NoMemory> {
+    fn add_initial(&mut self, system: &TransitionSystem, place: usize) -> Result<(), NoMemory> {
         let edge = system.state_edge(place);
         let literal = self.questions.literal(&system.graph, edge)?;
         let inactive = self.active_at(0).opposite();
@@ -104,7 +104,7 @@ impl Frames {
     }
 
     /// Begins with fresh questions, at first and where many clauses are left of single questions.
-    pub fn renew(&mut self, system: &System) -> Result<(), NoMemory> {
+    pub fn renew(&mut self, system: &TransitionSystem) -> Result<(), NoMemory> {
         if self.temporaries < TEMPORARIES {
             return Ok(());
         }
@@ -119,7 +119,7 @@ impl Frames {
     }
 
     // Adds the clause of a blocked cube.
-    fn add_clause(&mut self, system: &System, place: usize) -> Result<(), NoMemory> {
+    fn add_clause(&mut self, system: &TransitionSystem, place: usize) -> Result<(), NoMemory> {
         let level = self.level(place);
         if level == 0 {
             return Ok(());
@@ -171,7 +171,7 @@ impl Frames {
     /// Blocks a cube, in ascending order, from the frames up to this level. Cubes that it makes needless are given up.
     pub fn block(
         &mut self,
-        system: &System,
+        system: &TransitionSystem,
         cube: &[LiteralId],
         level: usize,
     ) -> Result<(), NoMemory> {
@@ -244,7 +244,7 @@ impl Frames {
     /// Asks whether an edge is true in a state of a frame.
     pub fn ask_edge(
         &mut self,
-        system: &System,
+        system: &TransitionSystem,
         edge: LiteralId,
         frame: usize,
         effort: &mut u64,
@@ -259,7 +259,7 @@ impl Frames {
     /// that holds. It has a literal that is false in the first instant, if the cube has.
     pub fn ask_next(
         &mut self,
-        system: &System,
+        system: &TransitionSystem,
         cube: &[LiteralId],
         frame: usize,
         effort: &mut u64,
@@ -274,7 +274,7 @@ impl Frames {
     /// As `ask_next`, of the states outside of the cube alone.
     pub fn ask_into(
         &mut self,
-        system: &System,
+        system: &TransitionSystem,
         cube: &[LiteralId],
         frame: usize,
         effort: &mut u64,
@@ -290,7 +290,11 @@ impl Frames {
     }
 
     // A literal under which the state is outside of a cube.
-    fn add_outside(&mut self, system: &System, cube: &[LiteralId]) -> Result<Literal, NoMemory> {
+    fn add_outside(
+        &mut self,
+        system: &TransitionSystem,
+        cube: &[LiteralId],
+    ) -> Result<Literal, NoMemory> {
         let outside = self.questions.fresh();
         self.temporaries = self.temporaries.saturating_add(1);
         self.assumptions.clear();
@@ -303,7 +307,11 @@ impl Frames {
         Ok(outside)
     }
 
-    fn assume_next(&mut self, system: &System, cube: &[LiteralId]) -> Result<(), NoMemory> {
+    fn assume_next(
+        &mut self,
+        system: &TransitionSystem,
+        cube: &[LiteralId],
+    ) -> Result<(), NoMemory> {
         for edge in cube {
             let next = system.next_edge(*edge);
             let literal = self.questions.literal(&system.graph, next)?;
@@ -315,7 +323,7 @@ impl Frames {
     // Notes which part of a cube the last refutation used.
     fn note_needed(
         &mut self,
-        system: &System,
+        system: &TransitionSystem,
         cube: &[LiteralId],
         reply: Reply,
     ) -> Result<(), NoMemory> {
@@ -339,7 +347,11 @@ impl Frames {
     }
 
     // Adds a literal of a cube that is false in the first instant to the needed part, in ascending order.
-    fn add_needed(&mut self, system: &System, cube: &[LiteralId]) -> Result<(), NoMemory> {
+    fn add_needed(
+        &mut self,
+        system: &TransitionSystem,
+        cube: &[LiteralId],
+    ) -> Result<(), NoMemory> {
         for edge in cube {
             if !system.is_initial(*edge) {
                 self.needed.push(*edge)?;
@@ -351,7 +363,11 @@ impl Frames {
     }
 
     /// The negations of the cubes of a level and above, as clauses over nets.
-    pub fn invariant(&self, system: &System, level: usize) -> Result<Vec<Clause>, NoMemory> {
+    pub fn invariant(
+        &self,
+        system: &TransitionSystem,
+        level: usize,
+    ) -> Result<Vec<Clause>, NoMemory> {
         let mut clauses = Vec::new(self.alloc);
         for place in 0..self.cubes.len() {
             if self.level(place) >= level {
@@ -362,7 +378,11 @@ impl Frames {
     }
 }
 
-fn net_clause(alloc: Global, system: &System, cube: &[LiteralId]) -> Result<Clause, NoMemory> {
+fn net_clause(
+    alloc: Global,
+    system: &TransitionSystem,
+    cube: &[LiteralId],
+) -> Result<Clause, NoMemory> {
     let mut clause = Vec::with_capacity(alloc, cube.len())?;
     for literal in cube {
         clause.push(system.net_literal(literal.opposite()))?;

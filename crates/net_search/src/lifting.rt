@@ -1,7 +1,7 @@
 // The part of a state that matters.
 
 use base_types::NoMemory;
-use net_frames::{Node, Questions, System};
+use net_frames::{AndNode, Questions, TransitionSystem};
 use sat_trail::{LiteralId, at, put};
 use std::alloc::Global;
 
@@ -9,8 +9,8 @@ use std::alloc::Global;
 const MOST: u32 = 1_000_000;
 
 /// Shrinks the state of a valuation to the literals from which, with the inputs' values, some edges get their values.
-/// The values are traced back from these edges, where one false operand is enough for a false node (Eén, Mishchenko and
-/// Brayton, "Efficient Implementation of Property Directed Reachability", use ternary simulation for this).
+/// The values are traced back from these edges, where one false operand is enough for a false node. Ternary simulation
+/// does the same in Eén, Mishchenko and Brayton, "Efficient Implementation of Property Directed Reachability".
 #[derive(Drop)]
 pub(crate) struct Lifting {
     // By node: its value, the number of latches that it takes to show it, and whether it is needed.
@@ -20,7 +20,7 @@ pub(crate) struct Lifting {
 }
 
 impl Lifting {
-    pub fn new(alloc: Global, system: &System) -> Result<Lifting, NoMemory> {
+    pub fn new(alloc: Global, system: &TransitionSystem) -> Result<Lifting, NoMemory> {
         let count = system.graph.len();
         Ok(Lifting {
             values: vec![in alloc; false; count]?,
@@ -33,7 +33,7 @@ impl Lifting {
     /// instant meets stay true as well.
     pub fn lift(
         &mut self,
-        system: &System,
+        system: &TransitionSystem,
         questions: &Questions,
         targets: &[LiteralId],
         cube: &mut Vec<LiteralId>,
@@ -55,7 +55,7 @@ impl Lifting {
     }
 
     // Reads the values, and computes what each costs.
-    fn read(&mut self, system: &System, questions: &Questions) {
+    fn read(&mut self, system: &TransitionSystem, questions: &Questions) {
         for node in 0..system.graph.len() {
             let value = match questions.value(node) {
                 Some(value) => value,
@@ -64,9 +64,9 @@ impl Lifting {
             put(&mut self.values, node, value);
             put(&mut self.needed, node, false);
             let cost = match system.graph.node(node) {
-                Node::True => 0,
-                Node::Free => { if node <= system.inputs.len() { 0 } else { 1 } }
-                Node::And(a, b) => self.cost_of(value, a, b),
+                AndNode::True => 0,
+                AndNode::Free => { if node <= system.inputs.len() { 0 } else { 1 } }
+                AndNode::And(a, b) => self.cost_of(value, a, b),
             };
             put(&mut self.costs, node, cost);
         }
@@ -105,8 +105,8 @@ impl Lifting {
     }
 
     // Marks what a needed node's value comes from.
-    fn trace(&mut self, node: Node, value: bool) {
-        let Node::And(a, b) = node else {
+    fn trace(&mut self, node: AndNode, value: bool) {
+        let AndNode::And(a, b) = node else {
             return;
         };
         if value || !self.is_true(a) && self.prefers(a, b) {
@@ -128,7 +128,11 @@ impl Lifting {
         at(&self.costs, a.variable(), 0) <= at(&self.costs, b.variable(), 0)
     }
 
-    fn collect(&self, system: &System, cube: &mut Vec<LiteralId>) -> Result<(), NoMemory> {
+    fn collect(
+        &self,
+        system: &TransitionSystem,
+        cube: &mut Vec<LiteralId>,
+    ) -> Result<(), NoMemory> {
         cube.clear();
         for place in 0..system.states.len() {
             let edge = system.state_edge(place);

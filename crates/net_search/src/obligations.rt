@@ -1,7 +1,7 @@
 // Proof obligations: cubes that lead to something bad.
 
 use base_types::NoMemory;
-use net_frames::{Questions, System};
+use net_frames::{Questions, TransitionSystem};
 use sat_trail::{LiteralId, at, put, small};
 use std::alloc::Global;
 
@@ -31,7 +31,7 @@ pub(crate) struct Obligations {
 }
 
 impl Obligations {
-    pub fn new(alloc: Global, system: &System) -> Obligations {
+    pub fn new(alloc: Global, system: &TransitionSystem) -> Obligations {
         Obligations {
             alloc,
             items: Vec::new(alloc),
@@ -113,7 +113,11 @@ impl Obligations {
     }
 
     /// The events that lead from an obligation to something bad.
-    pub fn trace(&self, system: &System, number: u32) -> Result<Vec<Vec<bool>>, NoMemory> {
+    pub fn trace(
+        &self,
+        system: &TransitionSystem,
+        number: u32,
+    ) -> Result<Vec<Vec<bool>>, NoMemory> {
         let mut events = Vec::new(self.alloc);
         let mut next = number;
         for _ in 0..self.items.len() {
@@ -126,7 +130,7 @@ impl Obligations {
         Ok(events)
     }
 
-    fn event(&self, system: &System, number: u32) -> Result<Vec<bool>, NoMemory> {
+    fn event(&self, system: &TransitionSystem, number: u32) -> Result<Vec<bool>, NoMemory> {
         let first = (number as usize).saturating_mul(self.width);
         let mut values = vec![in self.alloc; false; system.width]?;
         for k in 0..system.inputs.len() {

@@ -6,7 +6,7 @@ use crate::frames::{FOREVER, Frames};
 use crate::lifting::Lifting;
 use crate::obligations::{NONE, Obligations};
 use base_types::NoMemory;
-use net_frames::{Reply, System};
+use net_frames::{Reply, TransitionSystem};
 use sat_trail::{LiteralId, at};
 use std::alloc::Global;
 
@@ -39,7 +39,7 @@ pub(crate) struct Reaching {
 }
 
 impl Reaching {
-    pub fn new(alloc: Global, system: &System) -> Result<Reaching, NoMemory> {
+    pub fn new(alloc: Global, system: &TransitionSystem) -> Result<Reaching, NoMemory> {
         Ok(Reaching {
             lifting: Lifting::new(alloc, system)?,
             frames: Frames::new(alloc, system)?,
@@ -66,7 +66,11 @@ impl Reaching {
     }
 
     /// Searches until it has an answer, or the effort is used up. Later calls go on.
-    pub fn run(&mut self, system: &System, effort: &mut u64) -> Result<Progress, NoMemory> {
+    pub fn run(
+        &mut self,
+        system: &TransitionSystem,
+        effort: &mut u64,
+    ) -> Result<Progress, NoMemory> {
         for _ in 0..u64::MAX {
             let progress = self.advance(system, effort)?;
             if !is_open(progress) {
@@ -77,7 +81,11 @@ impl Reaching {
     }
 
     // Blocks one cube of the last frame with something bad, or adds a frame where there is none.
-    fn advance(&mut self, system: &System, effort: &mut u64) -> Result<Progress, NoMemory> {
+    fn advance(
+        &mut self,
+        system: &TransitionSystem,
+        effort: &mut u64,
+    ) -> Result<Progress, NoMemory> {
         self.frames.renew(system)?;
         let top = self.frames.top();
         match self.frames.ask_edge(system, system.bad, top, effort)? {
@@ -99,7 +107,7 @@ impl Reaching {
     // Adds the state of the last valuation, lifted, as an obligation of a frame.
     fn add_obligation(
         &mut self,
-        system: &System,
+        system: &TransitionSystem,
         after: u32,
         frame: usize,
     ) -> Result<(), NoMemory> {
@@ -116,7 +124,11 @@ impl Reaching {
     }
 
     // Takes obligations until none is left.
-    fn settle(&mut self, system: &System, effort: &mut u64) -> Result<Progress, NoMemory> {
+    fn settle(
+        &mut self,
+        system: &TransitionSystem,
+        effort: &mut u64,
+    ) -> Result<Progress, NoMemory> {
         for _ in 0..u64::MAX {
             self.frames.renew(system)?;
             let Some((number, frame)) = self.obligations.take() else {
@@ -132,7 +144,7 @@ impl Reaching {
 
     fn settle_one(
         &mut self,
-        system: &System,
+        system: &TransitionSystem,
         number: u32,
         frame: usize,
         effort: &mut u64,
@@ -167,7 +179,7 @@ impl Reaching {
     }
 
     // The edges that are true where the next state is in the cube.
-    fn set_targets(&mut self, system: &System) -> Result<(), NoMemory> {
+    fn set_targets(&mut self, system: &TransitionSystem) -> Result<(), NoMemory> {
         self.targets.clear();
         for literal in &self.cube {
             self.targets.push(system.next_edge(*literal))?;
@@ -178,7 +190,7 @@ impl Reaching {
     // Drops literals of the needed part of a cube that is not reached, and blocks it in all frames in which it can be.
     fn generalize(
         &mut self,
-        system: &System,
+        system: &TransitionSystem,
         number: u32,
         frame: usize,
         effort: &mut u64,
@@ -197,7 +209,7 @@ impl Reaching {
     // Tries each literal, those in few cubes first. It reports whether the effort was enough.
     fn drop_literals(
         &mut self,
-        system: &System,
+        system: &TransitionSystem,
         before: usize,
         effort: &mut u64,
     ) -> Result<bool, NoMemory> {
@@ -220,7 +232,7 @@ impl Reaching {
     // The last frame in which the kept cube can be blocked.
     fn last_level(
         &mut self,
-        system: &System,
+        system: &TransitionSystem,
         frame: usize,
         effort: &mut u64,
     ) -> Result<usize, NoMemory> {
@@ -234,7 +246,11 @@ impl Reaching {
     }
 
     // Moves cubes to later frames. Where none is left of a level, those above it are blocked for ever.
-    fn propagate(&mut self, system: &System, effort: &mut u64) -> Result<Progress, NoMemory> {
+    fn propagate(
+        &mut self,
+        system: &TransitionSystem,
+        effort: &mut u64,
+    ) -> Result<Progress, NoMemory> {
         for level in 1..self.frames.top() {
             self.frames.renew(system)?;
             let mut is_left = false;
@@ -256,7 +272,7 @@ impl Reaching {
 
     fn propagate_one(
         &mut self,
-        system: &System,
+        system: &TransitionSystem,
         place: usize,
         level: usize,
         effort: &mut u64,
