@@ -2,8 +2,8 @@
 //!
 //! `TransitionSystem` is the cone of a question: the part of a netlist that it depends on, as an and-inverter graph in
 //! which no two nodes have the same operands (Kuehlmann, Paruthi, Krohm and Ganai, "Robust Boolean Reasoning for
-//! Equivalence Checking and Functional Property Verification"). `Questions` asks a clause-learning search about edges of
-//! a graph. `Unrolling` is bounded model checking (Biere, Cimatti, Clarke and Zhu, "Symbolic Model Checking without
+//! Equivalence Checking and Functional Property Verification"). `Questions` asks a clause-learning search about edges
+//! of a graph. `Unrolling` is bounded model checking (Biere, Cimatti, Clarke and Zhu, "Symbolic Model Checking without
 //! BDDs"): it looks for traces of one instant, of two, and so on. `Simulation` makes random runs. Nothing here is
 //! trusted: what is found is checked by the crates above.
 #![tactic(auto)]

@@ -1,7 +1,7 @@
 //! Asks whether outputs of netlists are ever true, as a test of the search and for its bench.
 //!
-//! The standard input has BLIF texts of netlists, each with lines after its `.end`. A number `k` is the output with that
-//! place, from 1, and `-k` its negation:
+//! The standard input has BLIF texts of netlists, each with lines after its `.end`. A number `k` is the output with
+//! that place, from 1, and `-k` its negation:
 //!
 //! - `allow 1 -2` adds a clause that each instant meets.
 //! - `ask 3 EFFORT` asks whether an output is ever true.
