@@ -17,5 +17,5 @@ mod unrolling;
 pub use graphs::{AndGraph, AndNode, FALSE, TRUE};
 pub use questions::{Questions, Reply};
 pub use simulation::Simulation;
-pub use systems::{State, TransitionSystem, signed_as};
+pub use systems::{State, TransitionSystem};
 pub use unrolling::Unrolling;

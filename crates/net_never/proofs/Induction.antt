@@ -15,7 +15,7 @@ use Rattle.sat_kernel.specs.declared.literals.Literal.{Literal}
 use Rattle.sat_kernel.specs.Clauses.{Follows, IsModel, clause_value, literal_value, opposite}
 use Rattle.net_never.specs.GateClauses.{gate_clauses, signed}
 use Rattle.net_never.specs.Inductive.{IsInductive, is_between, known_clauses, latch_values, next_clause, source_at}
-use Rattle.net_never.specs.Never.{IsNever, IsWide}
+use Rattle.net_never.specs.Never.{IsNever, FitsInputs}
 use Rattle.net_never.proofs.GateLaws.{clauses-solved, model-both}
 
 -- ---- clauses over other variables
@@ -107,7 +107,7 @@ denied v l e = by_sign l.positive (v l.variable) e
 module _ (net : Netlist) (allowed invariant : List (List Literal)) (bad : Literal) (is : IsNet net) (holds : IsInductive net allowed invariant bad) where
   never-from : (items : List Item) (latches : List Bool) → length latches ≡ length net.latches
       → IsModel (latch_values (length net.inputs) latches) invariant
-      → EachEvent (IsWide net) items → AllByRecursion (λ values. IsModel (value_in values) allowed) (values_from net latches items)
+      → EachEvent (FitsInputs net) items → AllByRecursion (λ values. IsModel (value_in values) allowed) (values_from net latches items)
       → AllByRecursion (λ values. literal_value (value_in values) bad ≡ false) (values_from net latches items)
   never-from [] latches all model wide allows = tt
   never-from (Event inputs ∷ items) latches all model wide allows =

@@ -9,12 +9,12 @@ use Rattle.sat_kernel.specs.declared.literals.Literal.{Literal}
 use Rattle.sat_kernel.specs.Clauses.{IsModel, literal_value}
 
 -- an event has one value for each input
-abbrev pub IsWide : Netlist → List Bool → Type 0
-IsWide net event = length event ≡ length net.inputs
+abbrev pub FitsInputs : Netlist → List Bool → Type 0
+FitsInputs net event = length event ≡ length net.inputs
 
--- Over every list of items, events and resets: where these clauses over the nets are met in each instant, the literal, a
--- net or its negation, is false in each instant.
+-- Over every list of items, events and resets: where these clauses over the nets are met in each instant, the literal,
+-- a net or its negation, is false in each instant.
 abbrev pub IsNever : Netlist → List (List Literal) → Literal → Type 0
-IsNever net allowed bad = (items : List Item) → EachEvent (IsWide net) items
+IsNever net allowed bad = (items : List Item) → EachEvent (FitsInputs net) items
     → AllByRecursion (λ values. IsModel (value_in values) allowed) (net_values_run net items)
     → AllByRecursion (λ values. literal_value (value_in values) bad ≡ false) (net_values_run net items)

@@ -26,7 +26,8 @@ abbrev pub last_or : Bool → List Bool → Bool
 last_or value [] = value
 last_or value (next ∷ values) = last_or next values
 
--- Each event has one value for each input, the clauses are met in each instant, and in the last one the literal is true.
+-- Each event has one value for each input, the clauses are met in each instant, and the literal is true in the last
+-- one.
 abbrev pub is_reached : Netlist → List (List Literal) → Literal → List (List Bool) → Bool
 is_reached net allowed bad events = list_all (λ event. nat_eq (length event) (length net.inputs)) events
     && (list_all (are_met allowed) (net_values_run net (items_of events))

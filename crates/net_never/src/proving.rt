@@ -185,9 +185,9 @@ fn begins(net: &Net, invariant: &[Clause]) -> bool
         && are_true_at_first(first, &net.latches, invariant)
 }
 
-/// Reports whether a net of a netlist, or its negation, is never true, where these clauses over its nets are met in each instant, as far
-/// as the invariant and the effort show. The invariant is any list of clauses over the nets of latches. The effort is
-/// one of `sat_search`, for all questions together. The only error is running out of memory.
+/// Reports whether a net of a netlist, or its negation, is never true, where these clauses over its nets are met in
+/// each instant, as far as the invariant and the effort show. The invariant is any list of clauses over the nets of
+/// latches. The effort is one of `sat_search`, for all questions together. The only error is running out of memory.
 pub fn is_never(
     alloc: Global,
     net: &Net,

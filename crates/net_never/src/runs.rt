@@ -37,7 +37,7 @@ fn op_value(values: &[bool], op: Op) -> bool
     }
 }
 
-// The values of gates, behind those that are given.
+// The values of gates, after those that are given.
 fn push_gate_values(values: &mut Vec<bool>, gates: &[Gate]) -> Result<(), NoMemory>
     ensures { OnOk result (values.new.items ≡ gate_values values.old.items gates.now) }
 {
@@ -71,7 +71,7 @@ fn initial_latches(alloc: Global, net: &Net) -> Result<Vec<bool>, NoMemory>
     Ok(net.latches.iter().map(|latch| latch.init).collect(alloc)?)
 }
 
-// The values of the latches behind an instant.
+// The values of the latches after an instant.
 fn next_latches(alloc: Global, net: &Net, values: &[bool]) -> Result<Vec<bool>, NoMemory>
     ensures { IfOk result (λ v. v.items ≡ next_latches (netlist_of net.now) values.now) }
 {
@@ -125,9 +125,9 @@ fn are_wide(net: &Net, events: &[Vec<bool>]) -> bool
     true
 }
 
-/// Reports whether a net, or its negation, is true in the last instant of a run over these events, where each of them has one value for
-/// each input and the clauses over nets are met in each instant. Without events it is not. The only error is running
-/// out of memory.
+/// Reports whether a net, or its negation, is true in the last instant of a run over these events, where each of them
+/// has one value for each input and the clauses over nets are met in each instant. Without events it is not. The only
+/// error is running out of memory.
 pub fn is_reached(
     alloc: Global,
     net: &Net,

@@ -16,8 +16,8 @@ struct Obligation {
     after: u32,
 }
 
-/// Cubes that lead to something bad, each with the inputs that do so, and the frames in which they are to be blocked.
-/// Those of the lowest frame come first, the last one of these before the others.
+/// Cubes that lead to something bad, each with the inputs that do so, and the frames that must block them. Those of the
+/// lowest frame come first, the last one of these before the others.
 #[derive(Drop)]
 pub(crate) struct Obligations {
     alloc: Global,

@@ -59,7 +59,8 @@ latches_alone = (refl, refl, refl)
 
 -- the latch is true in the second instant, and the clause that it is false is not met there
 reached_in_the_second_instant : (is_reached turning [] (signed 1 true) ((true ∷ []) ∷ (false ∷ []) ∷ []) ≡ true)
-    × (is_reached turning [] (signed 1 true) ((true ∷ []) ∷ []) ≡ false) × (is_reached turning [] (signed 1 true) ((true ∷ []) ∷ (false ∷ []) ∷ (true ∷ []) ∷ []) ≡ false)
+    × (is_reached turning [] (signed 1 true) ((true ∷ []) ∷ []) ≡ false)
+    × (is_reached turning [] (signed 1 true) ((true ∷ []) ∷ (false ∷ []) ∷ (true ∷ []) ∷ []) ≡ false)
     × (is_reached turning ((signed 1 false ∷ []) ∷ []) (signed 1 true) ((true ∷ []) ∷ (false ∷ []) ∷ []) ≡ false)
     × (is_reached turning [] (signed 1 true) ((true ∷ []) ∷ [] ∷ []) ≡ false) × (is_reached turning [] (signed 0 true) [] ≡ false)
 reached_in_the_second_instant = (refl, refl, refl, refl, refl, refl)
