@@ -1,4 +1,4 @@
--- To believe: what a decision says.
+-- Contract: what a decision says.
 use Rattle.std.specs.Prelude.{IsTrue, List, ⊤}
 use Rattle.net_ir.specs.Netlists.{Netlist}
 use Rattle.sat_kernel.specs.declared.literals.Literal.{Literal}

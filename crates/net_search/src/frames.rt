@@ -132,7 +132,8 @@ impl Frames {
         }
         // The first literals are watched, so that a question need not visit all clauses of its frame.
         if level != FOREVER {
-            self.assumptions.push(self.active_at(level).opposite())?;
+            let inactive = self.active_at(level).opposite();
+            self.assumptions.push(inactive)?;
         }
         self.questions.add(&self.assumptions)
     }
@@ -236,7 +237,8 @@ impl Frames {
     fn assume_frame(&mut self, frame: usize) -> Result<(), NoMemory> {
         self.assumptions.clear();
         for k in (frame..self.active.len()).rev() {
-            self.assumptions.push(self.active_at(k))?;
+            let active = self.active_at(k);
+            self.assumptions.push(active)?;
         }
         Ok(())
     }

@@ -48,7 +48,8 @@ impl Lifting {
         }
         for node in (0..system.graph.len()).rev() {
             if at(&self.needed, node, false) {
-                self.trace(system.graph.node(node), at(&self.values, node, false));
+                let value = at(&self.values, node, false);
+                self.trace(system.graph.node(node), value);
             }
         }
         self.collect(system, cube)
