@@ -185,7 +185,7 @@ impl TransitionSystem {
     }
 
     /// The latch of an edge. None where the edge is of another node.
-    pub fn state_of(&self, edge: LiteralId) -> Option<State> {
+    fn state_of(&self, edge: LiteralId) -> Option<State> {
         let place = self.state_place(edge)?;
         if place < self.states.len() {
             Some(self.states[place])
