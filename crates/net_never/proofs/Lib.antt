@@ -1,0 +1,5 @@
+mod Denials
+mod GateLaws
+mod Induction
+mod worked
+pub mod Exports
