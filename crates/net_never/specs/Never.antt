@@ -1,4 +1,4 @@
--- To believe: what it means that a net, or its negation, is never true.
+-- Contract: what it means that a net, or its negation, is never true.
 use Rattle.std.specs.Prelude.{◌≡◌, Bool, false, List, length}
 use Rattle.std.specs.List.{AllByRecursion}
 use Rattle.base_types.specs.Items.{Item, EachEvent}
