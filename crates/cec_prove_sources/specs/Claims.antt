@@ -28,7 +28,8 @@ meets_assumed (Some place) a = is_present place a
 abbrev pub ClaimHolds : Program → Claim → (place : ℕ) → (assumed : Option ℕ) → Type 0
 ClaimHolds p claim place assumed = (items : List Item) → AreItems p items
     → (answers : List Answer) × (run_of p items ≡ Some answers)
-    × (IsTrue (list_all (meets_assumed assumed) answers) → AllByRecursion (λ a. is_present place a ≡ claimed claim) answers)
+    × (IsTrue (list_all (meets_assumed assumed) answers)
+    → AllByRecursion (λ a. is_present place a ≡ claimed claim) answers)
 
 -- These events meet the program's relations, the signal that is assumed is present in each reaction to them, and in the
 -- last one the signal of the claim is not as claimed.

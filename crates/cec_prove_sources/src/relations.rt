@@ -5,7 +5,8 @@ ghost use Rattle.std.specs.List.{flat_map};
 ghost use Rattle.base_types.specs.Relations.{relation_of};
 ghost use Rattle.sat_kernel.specs.Clauses.{plain_assumed};
 ghost use Rattle.net_never.specs.GateClauses.{signed};
-ghost use Rattle.cec_prove_sources.specs.RelationClauses.{all_relation_clauses, exclusion, exclusions, few_exclusions, relation_clauses};
+ghost use Rattle.cec_prove_sources.specs.RelationClauses.{all_relation_clauses, exclusion, exclusions};
+ghost use Rattle.cec_prove_sources.specs.RelationClauses.{few_exclusions, relation_clauses};
 
 use base_types::{InputRelation, NoMemory, SigId};
 use sat_kernel::{Clause, Literal};
