@@ -235,10 +235,10 @@ fn small_verdict(
     net_verdict(alloc, program, &small, question, effort)
 }
 
-/// The answer to a question about an outgoing signal of a source. `Holds` is proved: over every list of events that
-/// meet the source's relations, and resets, each reaction of the source is constructive, and in each of them the
-/// signal is as claimed, where the signal that is assumed is present in all of them. `Broken` has a trace, and the
-/// last reaction to it breaks the claim. `Open` says nothing. The effort is one of `net_search`.
+/// The answer to a question about an outgoing signal of a source. `Holds` is proved. It is about every list of events
+/// that meet the source's relations, and resets: each reaction of the source is constructive. Where the signal that is
+/// assumed is present in all of them, the signal is as claimed in each. `Broken` has a trace, and the last reaction to
+/// it breaks the claim. `Open` says nothing. The effort is one of `net_search`.
 ///
 /// It refuses what `cec_compile::compile` refuses.
 pub fn verdict_of<P: Picker>(
