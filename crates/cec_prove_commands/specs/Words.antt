@@ -102,7 +102,8 @@ misuse_behind key rest (Some next) = rest next
 abbrev pub misuse_of_options : Job → List (List ℕ) → List ℕ
 misuse_of_options job [] = codes "no fault"
 misuse_of_options job (key ∷ []) = codes "no value after " ++ key
-misuse_of_options job (key ∷ value ∷ more) = misuse_behind key (λ next. misuse_of_options next more) (with_option job key value)
+misuse_of_options job (key ∷ value ∷ more) =
+    misuse_behind key (λ next. misuse_of_options next more) (with_option job key value)
 
 -- after a command come a signal, a file, and options
 abbrev pub misuse_of_job : Claim → (command : List ℕ) → List (List ℕ) → List ℕ

@@ -288,7 +288,8 @@ fn misuse_of_job<'a>(claim: Claim, command: &'a [u8], rest: &'a [String]) -> Mis
 
 // The same in options.
 fn misuse_of_options<'a>(job: Job<'a>, options: &'a [String]) -> Misuse<'a>
-    ensures { result.fault.now ++ result.word.now ≡ misuse_of_options (plain_job job.entry) (map string_bytes options.now) }
+    ensures { result.fault.now ++ result.word.now
+        ≡ misuse_of_options (plain_job job.entry) (map string_bytes options.now) }
 {
     let mut with = job;
     let mut key: Option<&'a [u8]> = None;
