@@ -7,8 +7,8 @@
 #   DESTDIR=/tmp/package PREFIX=/usr ./install.sh into a folder that a package is made of
 #   ./install.sh --remove                         takes the same files away again, and the folders that it made
 #
-# A tool NAME is called as cec-NAME. PROGRAM names another program than the built cec, and OPTIMIZER than the built cec-opt,
-# which is left out where it is not built.
+# A tool NAME is called as cec-NAME. PROGRAM names another program than the built cec, OPTIMIZER than the built cec-opt, and
+# PROVER than the built cec-prove. The last two are left out where they are not built.
 set -eu
 top=$(CDPATH='' cd -- "$(dirname -- "$(readlink -f -- "$0")")" && pwd)
 prefix=${PREFIX:-/usr/local}
@@ -18,14 +18,15 @@ root=$destdir$prefix
 list=$root/share/cec/folders
 program=${PROGRAM:-$top/crates/cec/out/cec}
 optimizer=${OPTIMIZER:-$top/crates/cec_opt/out/cec_opt}
-tools="blif_clock c_interface explain language_server lines_to_vcd listing_to_dot playground prove simulate states trace_report"
+prover=${PROVER:-$top/crates/cec_prove/out/cec_prove}
+tools="ask_abc blif_clock c_interface explain language_server lines_to_vcd listing_to_dot playground simulate states trace_report"
 
 remove() {
     folders=
     if [ -f "$list" ]; then
         folders=$(sort -r "$list")
     fi
-    for name in cec cec-opt; do
+    for name in cec cec-opt cec-prove; do
         rm -f "$root/bin/$name" "$root/share/man/man1/$name.1" "$root/share/bash-completion/completions/$name" \
             "$root/share/zsh/site-functions/_$name"
     done
@@ -84,6 +85,9 @@ put_program() {
 put_program cec "$program"
 if [ -f "$optimizer" ] && [ -x "$optimizer" ]; then
     put_program cec-opt "$optimizer"
+fi
+if [ -f "$prover" ] && [ -x "$prover" ]; then
+    put_program cec-prove "$prover"
 fi
 for page in LICENSE README.md; do
     install -m 644 "$top/$page" "$root/share/doc/cec/$page"

@@ -1,0 +1,2 @@
+mod Options
+pub mod Outcomes

@@ -1,0 +1,28 @@
+use Rattle.cec_prove_commands.proofs.lines.put_line.Goals as goal
+
+pub returns-in-Proved : goal.returns-in-Proved
+returns-in-Proved g c = rw c.in-Proved.is c.put_said.ensures
+
+pub returns-in-Refuted : goal.returns-in-Refuted
+returns-in-Refuted g c = rw c.in-Refuted.is c.put_said-in-Refuted.ensures
+
+pub returns-in-Undecided : goal.returns-in-Undecided
+returns-in-Undecided g c = rw c.in-Undecided.is c.put_depth.ensures
+
+pub returns-in-NoSignal : goal.returns-in-NoSignal
+returns-in-NoSignal g c = rw c.in-NoSignal.is c.put_said-in-NoSignal.ensures
+
+pub returns-in-NoAssumed : goal.returns-in-NoAssumed
+returns-in-NoAssumed g c = rw c.in-NoAssumed.is c.put_said-in-NoAssumed.ensures
+
+pub returns-in-Usage : goal.returns-in-Usage
+returns-in-Usage g c = rw c.in-Usage.is c.put_said-in-Usage.ensures
+
+pub returns-in-FileFault : goal.returns-in-FileFault
+returns-in-FileFault g c = rw (c.in-FileFault.is, ← c.as_bytes.ensures.value) c.put_said-in-FileFault.ensures
+
+pub returns-in-WriteFault : goal.returns-in-WriteFault
+returns-in-WriteFault g c = rw c.in-WriteFault.is c.put_said-in-WriteFault.ensures
+
+pub returns-in-NoMemory : goal.returns-in-NoMemory
+returns-in-NoMemory g c = rw c.in-NoMemory.is c.put_said-in-NoMemory.ensures

@@ -1,0 +1,82 @@
+-- Contract: the line that is written about an outcome.
+use Rattle.std.specs.Prelude.{⊤, ℕ, List, [], ◌++◌, Option, Some, None, codes, decimal, unwrap_or}
+use Rattle.est_front.specs.Lines.{fault_text}
+use Rattle.cec_compile.specs.declared.refusal.Refusal.{Refusal}
+use Rattle.cec_compile.specs.declared.refusal.Refusal.TheVariants as refusing
+use Rattle.cec_text_io.specs.Contents.{Content, IsHeld}
+use Rattle.cec_text_io.specs.ErrorLines.{GainsLine}
+use Rattle.cec_prove_commands.specs.Words.{Job, Request, Tell, Ask, misuse_of}
+use Rattle.cec_prove_commands.specs.declared.outcome.ProveOutcome.{ProveOutcome}
+use Rattle.cec_prove_commands.specs.declared.outcome.ProveOutcome.TheVariants.{Told, Proved, Refuted, Undecided}
+use Rattle.cec_prove_commands.specs.declared.outcome.ProveOutcome.TheVariants.{NoSignal, NoAssumed, Usage, FileFault}
+use Rattle.cec_prove_commands.specs.declared.outcome.ProveOutcome.TheVariants.{Refused, WriteFault, NoMemory}
+
+-- what a line speaks of
+pub record Subject : Type 0 where
+  pub name : List ℕ
+  pub signal : List ℕ
+  pub assumed : List ℕ
+  pub main : List ℕ
+  pub source : List ℕ
+
+-- nothing to speak of
+abbrev pub nothing : Subject
+nothing = record { name = []; signal = []; assumed = []; main = []; source = [] }
+
+-- a line of this program
+abbrev pub own_line : List ℕ → List ℕ
+own_line said = codes "cec-prove: " ++ (said ++ codes "\n")
+
+-- The line of a static fault is that of the compiler.
+abbrev pub refusal_line : Subject → Refusal → List ℕ
+refusal_line s (refusing.Static fault) = codes "cec: " ++ (fault_text s.source s.main fault ++ codes "\n")
+refusal_line s (refusing.Cyclic cycle) = own_line (codes "cyclic: " ++ cycle.text.items)
+refusal_line s (refusing.Limit limit) = own_line (codes "a limit is passed, see cec check " ++ s.name)
+refusal_line s refusing.NoMemory = own_line (codes "out of memory")
+
+-- the line of an outcome; none for Told
+abbrev pub line_of : Subject → ProveOutcome → List ℕ
+line_of s Told = []
+line_of s Proved = own_line (codes "proved")
+line_of s Refuted = own_line (codes "refuted")
+line_of s (Undecided depth) = own_line (codes "undecided, instants searched: " ++ decimal depth)
+line_of s NoSignal = own_line (codes "no outgoing signal " ++ s.signal)
+line_of s NoAssumed = own_line (codes "no outgoing signal " ++ s.assumed)
+line_of s Usage = own_line (codes "no meaning")
+line_of s FileFault = own_line (codes "cannot read " ++ s.name)
+line_of s (Refused refusal) = refusal_line s refusal
+line_of s WriteFault = own_line (codes "cannot write")
+line_of s NoMemory = own_line (codes "out of memory")
+
+-- a line about a static fault speaks of the source that the file holds
+abbrev pub SpeaksOf : Content → Job → ProveOutcome → List ℕ → Type 0
+SpeaksOf content job (Refused (refusing.Static fault)) source = IsHeld content job.name source
+SpeaksOf content job (Refused others) source = ⊤
+SpeaksOf content job others source = ⊤
+
+-- the subject of a question about a source with these bytes
+abbrev pub job_subject : Job → List ℕ → Subject
+job_subject job source = record {
+  name = job.name;
+  signal = job.signal;
+  assumed = unwrap_or job.assumed [];
+  main = unwrap_or job.main [];
+  source = source;
+}
+
+-- What `err` gained about a question: the whole line, or a prefix of it where its count of faults rose. A source of
+-- which the line speaks is the one that the file holds.
+pub record GainsJobErr (job : Job) (content : Content) (outcome : ProveOutcome) (old new : Option (List ℕ))
+    (before now : ℕ) : Type 0 where
+  pub source : List ℕ
+  pub held : SpeaksOf content job outcome source
+  pub gains : GainsLine old new before now (line_of (job_subject job source) outcome)
+
+-- the same about a request; of words without a meaning the line says what is wrong with them
+abbrev pub GainsErr : List (List ℕ) → Option Request → Content → ProveOutcome → (old new : Option (List ℕ))
+    → (before now : ℕ) → Type 0
+GainsErr words None content outcome old new before now =
+    GainsLine old new before now (own_line (misuse_of words ++ codes ", see cec-prove --help"))
+GainsErr words (Some (Tell about)) content outcome old new before now =
+    GainsLine old new before now (line_of nothing outcome)
+GainsErr words (Some (Ask job)) content outcome old new before now = GainsJobErr job content outcome old new before now

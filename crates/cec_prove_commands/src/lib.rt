@@ -1,0 +1,15 @@
+//! The prover of properties as a program: the top call, from the words of a command line on.
+//!
+//! `cec_prove` reads the words, reads a source, and answers whether an outgoing signal of it is never, or always,
+//! present (`cec_prove_sources`). Its contract says that `Proved` holds of every run of the source, and that the trace
+//! of `Refuted` leads to a reaction that shows otherwise.
+#![tactic(auto)]
+
+mod command;
+mod lines;
+mod outcome;
+mod sources;
+mod words;
+
+pub use command::cec_prove;
+pub use outcome::ProveOutcome;

@@ -1,0 +1,134 @@
+// The line about an outcome.
+
+ghost use Rattle.std.specs.Prelude.{◌≤◌, ◌++◌, codes, decimal, length, map};
+ghost use Rattle.std.specs.String.{string_bytes};
+ghost use Rattle.base_types.specs.Writing.{Wrote};
+ghost use Rattle.cec_text_io.specs.ErrorLines.{GainsLine};
+ghost use Rattle.cec_prove_commands.specs.Lines.{line_of, own_line, refusal_line};
+ghost use Rattle.cec_prove_commands.specs.Views.{plain_subject};
+ghost use Rattle.cec_prove_commands.specs.Words.{misuse_of};
+
+use crate::outcome::ProveOutcome;
+use crate::words::misuse_of;
+use base_types::{Limits, Sink, SinkFault, write_pieces};
+use cec_compile::Refusal;
+use est_front::put_fault;
+use itoa::Buffer;
+
+/// What a line speaks of: the name of the file, the signals, the main module, and the source.
+#[derive(Clone, Copy)]
+pub(crate) struct Subject<'a> {
+    pub(crate) name: &'a str,
+    pub(crate) signal: &'a [u8],
+    pub(crate) assumed: &'a [u8],
+    pub(crate) main: &'a [u8],
+    pub(crate) source: &'a [u8],
+}
+
+/// Writes the line of an outcome; a sink that fails changes nothing.
+pub(crate) fn report<E: Sink>(err: &mut E, subject: Subject<'_>, outcome: &ProveOutcome)
+    requires { length subject.source.now ≤ Limits.SOURCE_BYTES }
+    ensures { GainsLine (E.told err.old) (E.told err.new) (E.faults err.old) (E.faults err.new)
+        (line_of (plain_subject subject.entry) outcome.now) }
+{
+    let _ = put_line(err, subject, outcome);
+}
+
+/// Writes the line about words that have no meaning; a sink that fails changes nothing.
+pub(crate) fn report_misuse<E: Sink>(err: &mut E, words: &[String])
+    ensures { GainsLine (E.told err.old) (E.told err.new) (E.faults err.old) (E.faults err.new)
+        (own_line (misuse_of (map string_bytes words.now) ++ codes ", see cec-prove --help")) }
+{
+    let _ = put_misuse(err, words);
+}
+
+// The line about words that have no meaning.
+fn put_misuse<E: Sink>(err: &mut E, words: &[String]) -> Result<(), SinkFault>
+    ensures { Wrote (E.told err.old) (E.told err.new) (E.faults err.old) (E.faults err.new)
+        (own_line (misuse_of (map string_bytes words.now) ++ codes ", see cec-prove --help")) result }
+{
+    let misuse = misuse_of(words);
+    write_pieces(
+        err,
+        &[
+            b"cec-prove: ",
+            misuse.fault,
+            misuse.word,
+            b", see cec-prove --help",
+            b"\n",
+        ],
+    )
+}
+
+// A line of two parts.
+fn put_said<E: Sink>(err: &mut E, said: &[u8], of: &[u8]) -> Result<(), SinkFault>
+    ensures { Wrote (E.told err.old) (E.told err.new) (E.faults err.old) (E.faults err.new)
+        (own_line (said.now ++ of.now)) result }
+{
+    write_pieces(err, &[b"cec-prove: ", said, of, b"\n"])
+}
+
+// The line of an outcome, none for `Told`. Writing it takes no memory; a prefix of the line was appended where the
+// sink failed.
+fn put_line<E: Sink>(
+    err: &mut E,
+    subject: Subject<'_>,
+    outcome: &ProveOutcome,
+) -> Result<(), SinkFault>
+    requires { length subject.source.now ≤ Limits.SOURCE_BYTES }
+    ensures { Wrote (E.told err.old) (E.told err.new) (E.faults err.old) (E.faults err.new)
+        (line_of (plain_subject subject.entry) outcome.now) result }
+{
+    match outcome {
+        ProveOutcome::Told => Ok(()),
+        ProveOutcome::Proved => put_said(err, b"proved", b""),
+        ProveOutcome::Refuted => put_said(err, b"refuted", b""),
+        ProveOutcome::Undecided(depth) => put_depth(err, *depth),
+        ProveOutcome::NoSignal => put_said(err, b"no outgoing signal ", subject.signal),
+        ProveOutcome::NoAssumed => put_said(err, b"no outgoing signal ", subject.assumed),
+        ProveOutcome::Usage => put_said(err, b"no meaning", b""),
+        ProveOutcome::FileFault => put_said(err, b"cannot read ", subject.name.as_bytes()),
+        ProveOutcome::Refused(refusal) => put_refusal(err, subject, refusal),
+        ProveOutcome::WriteFault => put_said(err, b"cannot write", b""),
+        ProveOutcome::NoMemory => put_said(err, b"out of memory", b""),
+    }
+}
+
+// The line of a search that ended without an answer.
+fn put_depth<E: Sink>(err: &mut E, depth: usize) -> Result<(), SinkFault>
+    ensures { Wrote (E.told err.old) (E.told err.new) (E.faults err.old) (E.faults err.new)
+        (own_line (codes "undecided, instants searched: " ++ decimal depth)) result }
+{
+    let mut shown = Buffer::new();
+    put_said(
+        err,
+        b"undecided, instants searched: ",
+        shown.format(depth).as_bytes(),
+    )
+}
+
+// The line of a source that does not compile.
+fn put_refusal<E: Sink>(
+    err: &mut E,
+    subject: Subject<'_>,
+    refusal: &Refusal,
+) -> Result<(), SinkFault>
+    requires { length subject.source.now ≤ Limits.SOURCE_BYTES }
+    ensures { Wrote (E.told err.old) (E.told err.new) (E.faults err.old) (E.faults err.new)
+        (refusal_line (plain_subject subject.entry) refusal.now) result }
+{
+    match refusal {
+        Refusal::Static(fault) => {
+            let subject = est_front::Subject {
+                main: subject.main,
+                source: subject.source,
+            };
+            put_fault(err, subject, fault)
+        }
+        Refusal::Cyclic(cycle) => put_said(err, b"cyclic: ", cycle.text.as_slice()),
+        Refusal::Limit(_) => {
+            put_said(err, b"a limit is passed, see cec check ", subject.name.as_bytes())
+        }
+        Refusal::NoMemory => put_said(err, b"out of memory", b""),
+    }
+}
