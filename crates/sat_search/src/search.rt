@@ -94,8 +94,8 @@ impl Search {
         self.effort
     }
 
-    /// Gives each variable a random sign, the one that is decided first. After an answer `Satisfiable` the next valuation
-    /// then differs in more than it must.
+    /// Gives each variable a random sign, the one that is decided first. After an answer `Satisfiable` the next
+    /// valuation then differs in more than it must.
     pub fn scatter_signs(&mut self) {
         for variable in 0..self.signs.len() {
             self.seed = next_word(self.seed);
