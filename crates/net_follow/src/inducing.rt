@@ -26,8 +26,8 @@ pub enum Instant {
     Later,
 }
 
-/// What is left of claims: those of the instant that were shown, and in place of one that was not there may be one for
-/// a net that was parted from the same before it. `unshown` has the places of the claims that were not shown.
+/// What is left of claims: those that no counterexample refutes, and in place of one that is refuted there may be one
+/// for a net that was split from the same before it. `unshown` has the places of the claims that were not shown.
 #[derive(Drop)]
 pub struct Parted {
     pub claims: Vec<Equation>,
@@ -104,14 +104,14 @@ fn parted_claims(
 {
     let nets = net_count(net);
     let mut prover = assuming(alloc, nets, known)?;
-    let mut parting = Parting::new(alloc, nets, late, claims)?;
+    let mut parting = Parting::new(alloc, net, late, claims)?;
     let mut unshown = Vec::new(alloc);
     for (k, claim) in claims.iter().enumerate() {
         part_at(net, &mut parting, &mut prover, &mut unshown, k, *claim)?;
     }
-    let Parting { shown, .. } = parting;
+    let left = parting.left(alloc)?;
     Ok(Parted {
-        claims: shown,
+        claims: left,
         unshown,
     })
 }
@@ -130,7 +130,6 @@ fn part_at(
 {
     if parting.is_whole(place) {
         if prover.follows(claim)? {
-            parting.shown.push(claim)?;
             return Ok(());
         }
         parting.split(net, &prover.values, place)?;
@@ -152,10 +151,10 @@ fn rejoin(
             return Ok(());
         };
         if prover.follows(now)? {
-            parting.shown.push(now)?;
             return Ok(());
         }
         parting.split(net, &prover.values, place)?;
     }
+    parting.drop_claim(place);
     Ok(())
 }

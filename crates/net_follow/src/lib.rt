@@ -12,6 +12,7 @@ mod coding;
 mod frames;
 mod inducing;
 mod literals;
+mod nearby;
 mod parting;
 mod proving;
 mod replaying;

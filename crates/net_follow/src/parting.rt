@@ -9,6 +9,11 @@ use std::alloc::Global;
 // There is no head here.
 const NONE: usize = usize::MAX;
 
+// How many instants are run from a counterexample, and how many without a split before that ends.
+const INSTANTS: usize = 2_048;
+
+const QUIET: usize = 12;
+
 /// Claims that each say that a net has the value of another one, or that something is always false. A counterexample
 /// splits all of them at once: nets that were claimed equal, and still have the same values, are claimed equal to the
 /// first of them.
@@ -17,8 +22,6 @@ pub(crate) struct Parting {
     replay: Replay,
     claims: Vec<Option<Equation>>,
     is_whole: Vec<bool>,
-    /// The claims that were shown.
-    pub shown: Vec<Equation>,
     // By net, after what is always true: the first of the heads that were split from it.
     firsts: Vec<usize>,
     heads: Vec<Head>,
@@ -34,18 +37,22 @@ struct Head {
 }
 
 impl Parting {
-    /// These claims, about this many nets, are whole.
+    /// These claims, about the nets of a netlist, are whole.
     pub fn new(
         alloc: Global,
-        nets: usize,
+        net: &Net,
         late: bool,
         claims: &[Equation],
     ) -> Result<Parting, NoMemory> {
+        let nets = net
+            .inputs
+            .len()
+            .saturating_add(net.latches.len())
+            .saturating_add(net.gates.len());
         let mut parting = Parting {
-            replay: Replay::new(alloc, nets, late)?,
+            replay: Replay::new(alloc, net, late)?,
             claims: Vec::new(alloc),
             is_whole: vec![in alloc; true; claims.len()]?,
-            shown: Vec::new(alloc),
             firsts: vec![in alloc; NONE; nets.saturating_add(1)]?,
             heads: Vec::new(alloc),
         };
@@ -76,29 +83,61 @@ impl Parting {
         }
     }
 
-    /// Splits the claims from a place on by a counterexample. Where there is none, the claim of the place is dropped.
-    pub fn split(&mut self, net: &Net, values: &[bool], from: usize) -> Result<(), NoMemory> {
-        if values.is_empty() {
-            self.change(from, None);
-            return Ok(());
-        }
-        self.replay.run(net, values);
-        for place in from..self.claims.len() {
-            if let Some(claim) = self.claim(place) {
-                self.split_claim(place, claim)?;
+    /// The claims that are left, in their order.
+    pub fn left(&self, alloc: Global) -> Result<Vec<Equation>, NoMemory> {
+        let mut left = Vec::new(alloc);
+        for claim in &self.claims {
+            if let Some(equation) = claim {
+                left.push(*equation)?;
             }
         }
-        self.clear_heads();
+        Ok(left)
+    }
+
+    /// Drops the claim of a place.
+    pub fn drop_claim(&mut self, place: usize) {
+        self.change(place, None);
+    }
+
+    /// Splits the claims by a counterexample to that of a place, and by the instants that can follow it. What is true
+    /// in all instants that are reached, and where the claims that hold there were assumed, is true there too. Where
+    /// there is no counterexample, the claim of the place is dropped.
+    pub fn split(&mut self, net: &Net, values: &[bool], place: usize) -> Result<(), NoMemory> {
+        if values.is_empty() {
+            self.change(place, None);
+            return Ok(());
+        }
+        self.replay.begin(net, values);
+        let mut quiet: usize = 0;
+        for _ in 0..INSTANTS {
+            if self.splits_some()? {
+                quiet = 0;
+            } else {
+                quiet = quiet.saturating_add(1);
+            }
+            if quiet >= QUIET {
+                return Ok(());
+            }
+            self.replay.step(net);
+        }
         Ok(())
     }
 
-    fn split_claim(&mut self, place: usize, claim: Equation) -> Result<(), NoMemory> {
-        let out = self.replay.word(claim.out);
-        if out != self.replay.word(claim.left) & self.replay.word(claim.right) {
-            let heir = self.heir(claim, out)?;
-            self.change(place, heir);
+    // Splits the claims by the values of an instant, and reports whether that changes any.
+    fn splits_some(&mut self) -> Result<bool, NoMemory> {
+        let mut is_changed = false;
+        for place in 0..self.claims.len() {
+            if let Some(claim) = self.claim(place) {
+                let out = self.replay.word(claim.out);
+                if out != self.replay.word(claim.left) & self.replay.word(claim.right) {
+                    let heir = self.heir(claim, out)?;
+                    self.change(place, heir);
+                    is_changed = true;
+                }
+            }
         }
-        Ok(())
+        self.clear_heads();
+        Ok(is_changed)
     }
 
     // The claim that a net has the value of the first net that was split from the same with the same values. None for

@@ -7,13 +7,16 @@ ghost use Rattle.net_follow.specs.Proving.{KeepsProof, Shown, Begins, Noted, Ent
 
 use crate::coding::{coded, is_always, opposites};
 use crate::literals::{Clause, Equation, constant, opposite};
+use crate::nearby::Nearby;
 use base_types::NoMemory;
 use sat_kernel::{Kernel, Premise};
 use sat_search::{Search, SearchOutcome};
 use std::alloc::Global;
 
-// The effort of one question.
+// The effort of one question: at least this, or a part of what is left for all.
 const EFFORT: u64 = 2_000_000;
+
+const SHARE: u64 = 16;
 
 // The effort of all questions over so many nets.
 fn patience(nets: usize) -> u64 {
@@ -27,7 +30,10 @@ fn patience(nets: usize) -> u64 {
 pub(crate) struct Prover {
     alloc: Global,
     pub kernel: Kernel,
+    nearby: Nearby,
     search: Search,
+    // The search has this many of the clauses of `nearby`.
+    fed: usize,
     count: usize,
     patience: u64,
     /// The values of the variables in the last counterexample.
@@ -43,7 +49,9 @@ impl Prover {
         Ok(Prover {
             alloc,
             kernel: Kernel::new(alloc, variables, Vec::new(alloc))?,
+            nearby: Nearby::new(alloc),
             search: Search::new(alloc),
+            fed: 0,
             count: 0,
             patience: patience(nets),
             values: Vec::new(alloc),
@@ -57,7 +65,7 @@ impl Prover {
         let Some(literals) = coded(self.alloc, clause)? else {
             return Ok(());
         };
-        self.search.add(&literals, Premise::Assumed(self.count))?;
+        self.nearby.note(&literals, Premise::Assumed(self.count))?;
         self.kernel.assume(literals)?;
         self.count = self.count.saturating_add(1);
         Ok(())
@@ -93,17 +101,59 @@ impl Prover {
         ensures follows { IfOk result (λ refuted. refuted ≡ true
             → Follows self.new.kernel.assumed (map opposite literals.now)) }
     {
-        let effort = EFFORT.min(self.patience);
+        if self.refutes_nearby(literals)? {
+            return Ok(true);
+        }
+        Ok(self.refutes_by_search(literals)?)
+    }
+
+    // The same, by clauses about nets that are near: no search is needed where one gate copies another.
+    fn refutes_nearby(&mut self, literals: &[sat_kernel::Literal]) -> Result<bool, NoMemory>
+        ensures assumed { OnOk result (self.new.kernel.assumed ≡ self.old.kernel.assumed) }
+        ensures follows { IfOk result (λ refuted. refuted ≡ true
+            → Follows self.new.kernel.assumed (map opposite literals.now)) }
+    {
+        if !self.nearby.refutes(literals)? {
+            return Ok(false);
+        }
+        let clause = opposites(self.alloc, literals)?;
+        if !self.kernel.implies(&clause, &self.nearby.hints) {
+            return Ok(false);
+        }
+        self.keep_nearby(&clause)?;
+        Ok(true)
+    }
+
+    // Derives a clause by the clauses that are near.
+    fn keep_nearby(&mut self, clause: &[sat_kernel::Literal]) -> Result<(), NoMemory>
+        ensures { OnOk result (self.new.kernel.assumed ≡ self.old.kernel.assumed) }
+    {
+        match self.kernel.derive(self.alloc, clause, &self.nearby.hints)? {
+            Some(premise) => self.nearby.note(clause, premise),
+            None => Ok(()),
+        }
+    }
+
+    // The same, by search.
+    fn refutes_by_search(&mut self, literals: &[sat_kernel::Literal]) -> Result<bool, NoMemory>
+        ensures assumed { OnOk result (self.new.kernel.assumed ≡ self.old.kernel.assumed) }
+        ensures follows { IfOk result (λ refuted. refuted ≡ true
+            → Follows self.new.kernel.assumed (map opposite literals.now)) }
+    {
+        self.nearby.feed(&mut self.search, self.fed)?;
+        self.fed = self.nearby.count();
+        let effort = EFFORT.max(self.patience / SHARE).min(self.patience);
         let outcome = self.search.solve(&mut self.kernel, literals, effort)?;
         let spent = effort.saturating_sub(self.search.effort_left());
         self.patience = self.patience.saturating_sub(spent);
         match outcome {
             SearchOutcome::Unsatisfiable(refutation) => {
-                self.search.add(&refutation.clause, refutation.premise)?;
+                self.nearby.note(&refutation.clause, refutation.premise)?;
                 Ok(true)
             }
             SearchOutcome::Satisfiable(values) => {
                 self.values = values;
+                self.search.scatter_signs();
                 Ok(false)
             }
             SearchOutcome::Contradicting(_) | SearchOutcome::Unknown => {

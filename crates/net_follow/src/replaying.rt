@@ -9,15 +9,27 @@ use std::alloc::Global;
 #[derive(Drop)]
 pub(crate) struct Replay {
     words: Vec<u64>,
+    // By latch: its values in the next instant.
+    next: Vec<u64>,
+    // By input: the runs in which it keeps one value, those in which it is rarely true, and the kept values.
+    kept: Vec<u64>,
+    rare: Vec<u64>,
+    values: Vec<u64>,
     seed: u64,
     late: bool,
 }
 
 impl Replay {
-    /// No run of this many nets yet. The counterexamples are about the later of two instants, or about the first one.
-    pub fn new(alloc: Global, nets: usize, late: bool) -> Result<Replay, NoMemory> {
+    /// No run of this netlist yet. The counterexamples are about the later of two instants, or about the first one.
+    pub fn new(alloc: Global, net: &Net, late: bool) -> Result<Replay, NoMemory> {
+        let inputs = net.inputs.len();
+        let first_gate = inputs.saturating_add(net.latches.len());
         Ok(Replay {
-            words: vec![in alloc; 0; nets]?,
+            words: vec![in alloc; 0; first_gate.saturating_add(net.gates.len())]?,
+            next: vec![in alloc; 0; net.latches.len()]?,
+            kept: vec![in alloc; 0; inputs]?,
+            rare: vec![in alloc; 0; inputs]?,
+            values: vec![in alloc; 0; inputs]?,
             seed: 0x2545_f491_4f6c_dd1d,
             late,
         })
@@ -25,14 +37,16 @@ impl Replay {
 
     /// Runs the instant of a counterexample. All runs have its latches. The first has its inputs, and the inputs of the
     /// others are random, so that one counterexample refutes many claims.
-    pub fn run(&mut self, net: &Net, values: &[bool]) {
-        let first_gate = net.inputs.len().saturating_add(net.latches.len());
-        for place in 0..net.inputs.len() {
+    pub fn begin(&mut self, net: &Net, values: &[bool]) {
+        self.choose_inputs();
+        self.draw_inputs();
+        let inputs = net.inputs.len();
+        for place in 0..inputs {
             let given: u64 = if self.value(values, place) { 1 } else { 0 };
-            let word = self.random_input() & !1;
+            let word = word_at(&self.words, place) & !1;
             put(&mut self.words, place, word | given);
         }
-        for place in net.inputs.len()..first_gate {
+        for place in inputs..inputs.saturating_add(net.latches.len()) {
             let word = if self.value(values, place) {
                 u64::MAX
             } else {
@@ -40,6 +54,24 @@ impl Replay {
             };
             put(&mut self.words, place, word);
         }
+        self.run_gates(net);
+    }
+
+    /// Runs one instant more.
+    pub fn step(&mut self, net: &Net) {
+        for (k, latch) in net.latches.iter().enumerate() {
+            put(&mut self.next, k, net_word(&self.words, latch.from));
+        }
+        for k in 0..net.latches.len() {
+            let place = net.inputs.len().saturating_add(k);
+            put(&mut self.words, place, word_at(&self.next, k));
+        }
+        self.draw_inputs();
+        self.run_gates(net);
+    }
+
+    fn run_gates(&mut self, net: &Net) {
+        let first_gate = net.inputs.len().saturating_add(net.latches.len());
         for (k, gate) in net.gates.iter().enumerate() {
             let word = op_word(&self.words, gate.op);
             put(&mut self.words, first_gate.saturating_add(k), word);
@@ -63,15 +95,29 @@ impl Replay {
         variable < values.len() && values[variable]
     }
 
-    // Random values of an input: true in half, an eighth, or seven eighths of the runs.
-    fn random_input(&mut self) -> u64 {
-        let kind = self.random_word() & 3;
-        let plain = self.random_word();
-        if kind < 2 {
-            return plain;
+    // Chooses how often each input is true in which runs: a quarter of the runs keeps one value, an eighth of the
+    // instants of another quarter has it, and half of those of the rest.
+    fn choose_inputs(&mut self) {
+        for place in 0..self.kept.len() {
+            let one = self.random_word();
+            let other = self.random_word();
+            let values = self.random_word();
+            put(&mut self.kept, place, one & other);
+            put(&mut self.rare, place, one & !other);
+            put(&mut self.values, place, values);
         }
-        let rare = plain & self.random_word() & self.random_word();
-        if kind == 2 { rare } else { !rare }
+    }
+
+    fn draw_inputs(&mut self) {
+        for place in 0..self.kept.len() {
+            let plain = self.random_word();
+            let rare = plain & self.random_word() & self.random_word();
+            let kept = word_at(&self.kept, place);
+            let seldom = word_at(&self.rare, place);
+            let steady = word_at(&self.values, place);
+            let word = (steady & kept) | (rare & seldom) | (plain & !kept & !seldom);
+            put(&mut self.words, place, word);
+        }
     }
 
     // Marsaglia, "Xorshift RNGs", 2003.

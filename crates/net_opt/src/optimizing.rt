@@ -12,7 +12,7 @@ use crate::excluding::{Exclusions, exclusions_of, no_exclusions};
 use crate::showing::shown_part;
 use crate::silencing::silent_copy;
 use crate::simulating::histories;
-use crate::trying::{Change, tried_classes};
+use crate::trying::{Change, Trial, tried_classes};
 use base_types::NoMemory;
 use net_follow::{Instant, inductive_claims};
 use net_ir::{Net, Op};
@@ -23,6 +23,11 @@ use std::alloc::Global;
 const ROUNDS: usize = 100;
 
 const TRIALS: usize = 20;
+
+// The same for netlists of more gates than this.
+const LARGE_TRIALS: usize = 4;
+
+const LARGE: usize = 5_000;
 
 // How often a pass that rewrites does so.
 const REWRITES: usize = 12;
@@ -283,13 +288,9 @@ fn merged_net(
     ensures { IfOk result (λ o. IfSome o (λ new. Replaces (netlist_of net.now) (netlist_of new))) }
 {
     let mut classes = first_classes(alloc, &histories(alloc, net)?)?;
-    for _trial in 0..TRIALS {
+    for _trial in 0..trials(net) {
         part_classes(alloc, net, exclusions, &mut classes)?;
-        let telling = tried_classes(alloc, net, &classes, exclusions, Change::Tell(worth))?;
-        if is_no_larger(&telling.new, net) {
-            return Ok(telling.new);
-        }
-        let trial = tried_classes(alloc, net, &classes, exclusions, Change::Keep)?;
+        let trial = tried_merge(alloc, net, &classes, worth, exclusions)?;
         if trial.new.is_some() {
             return Ok(trial.new);
         }
@@ -299,6 +300,33 @@ fn merged_net(
         classes.part(&trial.failing);
     }
     Ok(None)
+}
+
+// How often classes are tried: seldom where a check takes long.
+fn trials(net: &Net) -> usize {
+    if net.gates.len() > LARGE {
+        LARGE_TRIALS
+    } else {
+        TRIALS
+    }
+}
+
+// The netlist in which the classes' nets are one, without the latches that gates tell, or with them where that is
+// smaller.
+fn tried_merge(
+    alloc: Global,
+    net: &Net,
+    classes: &Classes,
+    worth: usize,
+    exclusions: &Exclusions,
+) -> Result<Trial, NoMemory>
+    ensures { IfOk result (λ t. IfSome t.new (λ new. Replaces (netlist_of net.now) (netlist_of new))) }
+{
+    let telling = tried_classes(alloc, net, classes, exclusions, Change::Tell(worth))?;
+    if !telling.tells || is_no_larger(&telling.new, net) {
+        return Ok(telling);
+    }
+    Ok(tried_classes(alloc, net, classes, exclusions, Change::Keep)?)
 }
 
 // Whether there is a netlist, of no more gates and no more latches.

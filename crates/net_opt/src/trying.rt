@@ -14,7 +14,7 @@ use crate::edges::{Edge, TRUE, edge_at, is_marked, mark, negated_if, number_at, 
 use crate::emitting::{Emitted, emitted_parts, parts_of};
 use crate::excluding::Exclusions;
 use crate::rewriting::rewritten;
-use crate::telling::{told_latches, untold};
+use crate::telling::{Told, told_latches, untold};
 use base_types::NoMemory;
 use net_follow::{Equation, Side, unshown_places};
 use net_ir::Net;
@@ -23,12 +23,19 @@ use std::alloc::Global;
 // How often a netlist is checked, each time with fewer claims.
 const CHECKS: usize = 100;
 
+// A graph of more nodes than this is not rewritten any more where it was no smaller so many times.
+const LARGE: usize = 500;
+
+const VAIN: usize = 2;
+
 /// A netlist that shows what the given one shows, or else the places of the given one's nets of which the claims were
 /// not shown.
 #[derive(Drop)]
 pub(crate) struct Trial {
     pub new: Option<Net>,
     pub failing: Vec<bool>,
+    /// Whether a latch goes that a gate tells.
+    pub tells: bool,
 }
 
 // Claims, and the place of the net that each is of.
@@ -71,46 +78,63 @@ pub(crate) fn tried_classes(
         _ => untold(alloc, net)?,
     };
     let begun = without_told(alloc, net, plain, &told)?;
-    let built = changed(alloc, net, begun, exclusions, change)?;
+    let mut failing = vec![in alloc; false; classes.stand_ins.len()]?;
+    let Some(built) = changed(alloc, net, begun, exclusions, change)? else {
+        return Ok(Trial {
+            new: None,
+            failing,
+            tells: false,
+        });
+    };
     let order = places_in_order(alloc, net, &told)?;
     let marks = marked_nodes(alloc, net, &built)?;
     let emitted = emitted_parts(alloc, net, &built, &marks)?;
     let claims = claimed(alloc, classes, exclusions, &built, &order, &marks, &emitted)?;
-    let mut failing = vec![in alloc; false; classes.stand_ins.len()]?;
     let new = match assembled_net(alloc, net, parts_of(emitted))? {
         Some(made) => followed_net(alloc, net, made, claims, classes, &mut failing)?,
         None => None,
     };
-    Ok(Trial { new, failing })
+    Ok(Trial {
+        new,
+        failing,
+        tells: tells_some(&told),
+    })
 }
 
-// The graph, changed so.
+fn tells_some(told: &Told) -> bool {
+    for gate in &told.gates {
+        if *gate != usize::MAX {
+            return true;
+        }
+    }
+    false
+}
+
+// The graph, changed so. None where the functions of the roots are too large.
 fn changed(
     alloc: Global,
     net: &Net,
     built: Built,
     exclusions: &Exclusions,
     change: Change,
-) -> Result<Built, NoMemory> {
+) -> Result<Option<Built>, NoMemory> {
     match change {
-        Change::Keep | Change::Tell(_) => Ok(built),
-        Change::Order => in_order_of_need(alloc, net, &built),
+        Change::Keep | Change::Tell(_) => Ok(Some(built)),
+        Change::Order => Ok(Some(in_order_of_need(alloc, net, &built)?)),
         Change::Balance => {
             let marks = marked_nodes(alloc, net, &built)?;
-            balanced(alloc, net, &built, &marks)
+            Ok(Some(balanced(alloc, net, &built, &marks)?))
         }
-        Change::Rewrite(times) => remade(alloc, net, built, exclusions, times),
+        Change::Rewrite(times) => Ok(Some(remade(alloc, net, built, exclusions, times)?)),
         Change::Collapse => {
             let marks = marked_nodes(alloc, net, &built)?;
-            match collapsed(alloc, net, &built, &marks)? {
-                Some(new) => Ok(new),
-                None => Ok(built),
-            }
+            collapsed(alloc, net, &built, &marks)
         }
     }
 }
 
-// The graph, rewritten so many times; every second time what only changes is taken too.
+// The graph, rewritten at most so many times; after the first time what only changes is taken too. A large graph that
+// stays as large for some times is left as it is.
 fn remade(
     alloc: Global,
     net: &Net,
@@ -119,13 +143,35 @@ fn remade(
     times: usize,
 ) -> Result<Built, NoMemory> {
     let mut now = built;
+    let mut least = usize::MAX;
+    let mut vain: usize = 0;
     for pass in 0..times {
         let marks = marked_nodes(alloc, net, &now)?;
+        let count = true_count(&marks);
+        vain = if count < least {
+            0
+        } else {
+            vain.saturating_add(1)
+        };
+        least = least.min(count);
+        if vain >= VAIN && count > LARGE {
+            break;
+        }
         now = rewritten(alloc, net, &now, &marks, exclusions, pass > 0, pass)?;
         let marks = marked_nodes(alloc, net, &now)?;
         now = balanced(alloc, net, &now, &marks)?;
     }
     Ok(now)
+}
+
+fn true_count(marks: &[bool]) -> usize {
+    let mut count: usize = 0;
+    for mark in marks {
+        if *mark {
+            count = count.saturating_add(1);
+        }
+    }
+    count
 }
 
 // What is claimed: what is excluded, what the classes say, and that each net, in this order, has the value of what

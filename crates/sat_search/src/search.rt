@@ -25,6 +25,7 @@ pub struct Search {
     pub(crate) restarts: Restarts,
     // By variable: its last sign.
     pub(crate) signs: Vec<bool>,
+    seed: u64,
     // By variable: the premise of the unit clause of its literal of level 0.
     pub(crate) units: Vec<Option<Premise>>,
     // By literal: the last clause added that has it.
@@ -60,6 +61,7 @@ impl Search {
             evidence: Evidence::new(alloc),
             restarts: Restarts::new(),
             signs: Vec::new(alloc),
+            seed: 0x2545_f491_4f6c_dd1d,
             units: Vec::new(alloc),
             stamps: Vec::new(alloc),
             stamp: 0,
@@ -90,6 +92,15 @@ impl Search {
     /// The effort that the last question left.
     pub fn effort_left(&self) -> u64 {
         self.effort
+    }
+
+    /// Gives each variable a random sign, the one that is decided first. After an answer `Satisfiable` the next
+    /// valuation then differs in more than it must.
+    pub fn scatter_signs(&mut self) {
+        for variable in 0..self.signs.len() {
+            self.seed = next_word(self.seed);
+            put(&mut self.signs, variable, self.seed >> 63 == 1);
+        }
     }
 
     // Adds a variable.
@@ -146,4 +157,13 @@ impl Search {
         }
         Ok(values)
     }
+}
+
+// The next of a row of random words (Marsaglia, "Xorshift RNGs", 2003).
+fn next_word(seed: u64) -> u64 {
+    let mut word = seed;
+    word ^= word << 13;
+    word ^= word >> 7;
+    word ^= word << 17;
+    word
 }

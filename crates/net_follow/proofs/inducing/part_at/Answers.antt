@@ -9,4 +9,4 @@ returns-then-branch c = record {
 }
 
 pub returns : goal.returns
-returns c = record { noted = inl c.in_ok-push-2.ensures.items }
+returns c = record { noted = inl c.in_ok-push.ensures.items }
