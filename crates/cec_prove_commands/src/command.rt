@@ -18,8 +18,7 @@ use base_types::{Files, Limits, Sink};
 use cec_text_io::write_whole;
 use std::alloc::Global;
 
-const HELP: &[u8] =
-    b"cec-prove never SIGNAL FILE    whether SIGNAL is never present
+const HELP: &[u8] = b"cec-prove never SIGNAL FILE    whether SIGNAL is never present
 cec-prove always SIGNAL FILE   whether SIGNAL is present in each instant
     --assume SIGNAL            where this signal is present in each instant
     --main M                   of the module M, not of the first one

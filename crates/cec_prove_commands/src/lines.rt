@@ -127,7 +127,11 @@ fn put_refusal<E: Sink>(
         }
         Refusal::Cyclic(cycle) => put_said(err, b"cyclic: ", cycle.text.as_slice()),
         Refusal::Limit(_) => {
-            put_said(err, b"a limit is passed, see cec check ", subject.name.as_bytes())
+            put_said(
+                err,
+                b"a limit is passed, see cec check ",
+                subject.name.as_bytes(),
+            )
         }
         Refusal::NoMemory => put_said(err, b"out of memory", b""),
     }

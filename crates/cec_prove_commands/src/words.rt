@@ -103,7 +103,13 @@ fn job_asked<'a>(
 // A question without options.
 fn plain<'a>(claim: Claim, signal: &'a [u8], name: &'a str) -> Job<'a>
     ensures { plain_job result ≡ record {
-        claim = claim; signal = signal.now; name = name.now; assumed = None; main = None; level = None } }
+      claim = claim;
+      signal = signal.now;
+      name = name.now;
+      assumed = None;
+      main = None;
+      level = None;
+    } }
 {
     Job {
         claim,

@@ -214,10 +214,13 @@ verdict-holds net p q place assumed fits keeps asks never = record {
       let range = assumed-range net p keeps q.assumed assumed asks.assumes in
       let wide = each-event (IsEvent p) (FitsInputs net) (λ event is. is.wide ∙ count) items are in
       let r = keeps.runs items are in
-      let known = allowed net p fits.relations items (initial_latches net) are in
-      (r.0, r.1, λ meets.
-          each-claimed net q.claim place low (net_values_run net items) r.0 r.2 (never items wide
-          (all-allowed net (all_relation_clauses p.relations) assumed range (net_values_run net items) r.0 r.2 meets known)));
+      let known = allowed net p fits.relations items (initial_latches net) are in (
+        r.0,
+        r.1,
+        λ meets.
+            each-claimed net q.claim place low (net_values_run net items) r.0 r.2 (never items wide
+            (all-allowed net (all_relation_clauses p.relations) assumed range (net_values_run net items) r.0 r.2 meets known)),
+      );
 }
 
 pub verdict-broken : (net : Netlist) (p : Program) (q : PlainQuestion) (place : ℕ) (assumed : Option ℕ) (events : List (List Bool)) → NetKeeps net p

@@ -72,11 +72,7 @@ fn push_others(
 }
 
 // No two of these are present.
-fn push_exclusions(
-    alloc: Global,
-    list: &mut Vec<Clause>,
-    signals: &[SigId],
-) -> Result<(), NoMemory>
+fn push_exclusions(alloc: Global, list: &mut Vec<Clause>, signals: &[SigId]) -> Result<(), NoMemory>
     ensures { OnOk result (plain_assumed list.new.items
         ≡ plain_assumed list.old.items ++ exclusions (map (λ s. s.0) signals.now)) }
 {

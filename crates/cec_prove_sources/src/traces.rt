@@ -8,12 +8,7 @@ use base_types::{NoMemory, Text};
 use std::alloc::Global;
 
 // The name of a given signal and a space, where it is present.
-fn push_name(
-    text: &mut Vec<u8>,
-    name: &Text,
-    event: &[bool],
-    place: usize,
-) -> Result<(), NoMemory>
+fn push_name(text: &mut Vec<u8>, name: &Text, event: &[bool], place: usize) -> Result<(), NoMemory>
     ensures { OnOk result (text.new.items ≡ text.old.items ++ present_word event.now place name.now) }
 {
     if place < event.len() && event[place] {

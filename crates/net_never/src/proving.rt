@@ -33,9 +33,7 @@ impl Prover {
         ensures follows { IfOk result (λ yes. IsTrue yes
             → Follows self.old.kernel.assumed (map opposite literals.now)) }
     {
-        let outcome = self
-            .search
-            .solve(&mut self.kernel, literals, self.effort)?;
+        let outcome = self.search.solve(&mut self.kernel, literals, self.effort)?;
         self.effort = self.search.effort_left();
         match outcome {
             SearchOutcome::Unsatisfiable(refutation) => {
@@ -76,12 +74,7 @@ impl Prover {
     }
 
     // Reports whether what is known gives the invariant for the next instant, and rules out the literal.
-    fn closes(
-        &mut self,
-        net: &Net,
-        invariant: &[Clause],
-        bad: Literal,
-    ) -> Result<bool, NoMemory>
+    fn closes(&mut self, net: &Net, invariant: &[Clause], bad: Literal) -> Result<bool, NoMemory>
         ensures { IfOk result (λ yes. IsTrue yes
             → Closes (netlist_of net.now) self.old.kernel.assumed (plain_assumed invariant.now) bad) }
     {

@@ -11,7 +11,7 @@ abbrev pub invariant-loop-event : goal.invariant-loop-event
 invariant-loop-event l =
     (list_all (are_met (plain_assumed l.allowed)) (values_from (netlist_of l.net) l.latches.items (items_of (events_of (drop l.event-index l.events))))
     && last_or l.last (map (λ (values : List Bool). literal_value (value_in values) l.bad)
-        (values_from (netlist_of l.net) l.latches.items (items_of (events_of (drop l.event-index l.events))))))
+    (values_from (netlist_of l.net) l.latches.items (items_of (events_of (drop l.event-index l.events))))))
     ≡ (list_all (are_met (plain_assumed l.allowed)) (values_from (netlist_of l.net) (initial_latches (netlist_of l.net)) (items_of (events_of l.events)))
     && last_or false (map (λ (values : List Bool). literal_value (value_in values) l.bad)
-        (values_from (netlist_of l.net) (initial_latches (netlist_of l.net)) (items_of (events_of l.events)))))
+    (values_from (netlist_of l.net) (initial_latches (netlist_of l.net)) (items_of (events_of l.events)))))
