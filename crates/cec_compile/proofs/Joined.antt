@@ -1,5 +1,5 @@
 -- What the passes joined give.
-use Rattle.std.proofs.Common.{◌≡◌, ℕ, ◌+◌, ◌-◌, ◌*◌, ◌<◌, ◌≤◌, List, [], ◌∷◌, length, map, get_or, Option, Some, None, refl, sym, ap, ◌∙◌, subst, ⊎_elim, arith}
+use Rattle.std.proofs.Common.{◌≡◌, ℕ, ◌+◌, ◌-◌, ◌*◌, ◌<◌, ◌≤◌, List, [], ◌∷◌, length, map, get_or, Option, refl, sym, ap, ◌∙◌, subst, ⊎_elim, arith}
 use Rattle.std.specs.Prelude.{Bool, true, false, All, Contains, is_some, slice_index}
 use Rattle.std.proofs.lemmas.Bool.{cases_lt}
 use Rattle.std.proofs.lemmas.List.Elements.{All-contains, All-map}
@@ -28,14 +28,13 @@ use Rattle.grc_dep.specs.Cycles.{numbered, numbers_of}
 use Rattle.grc_graph.specs.Edges.{Edge}
 use Rattle.grc_graph.specs.NumberedEdges.{AreEdgesOf}
 use Rattle.grc_graph.specs.Instances.{body_instances}
-use Rattle.grc_graph.specs.PlainGraphs.{formula_of, instances_of, names_of, wire_at, wire_of}
+use Rattle.grc_graph.specs.PlainGraphs.{formula_of, instances_of, names_of, wire_of}
 use Rattle.grc_graph.specs.Reads.{IsReadingOrder}
 use Rattle.grc_graph.specs.SelectionTrees.{body_leaves, body_tree}
 use Rattle.grc_graph.specs.TreeForms.{tree_node}
 use Rattle.grc_graph.specs.WireOrders.{WireEdge, AreRanks, IsWireOrder}
 use Rattle.grc_solutions_laws.proofs.Exports.{program_kernel}
 use Rattle.grc_share.specs.declared.shared_graph.SharedGraph.{SharedGraph}
-use Rattle.grc_share.specs.MemberRuns.{member_run}
 use Rattle.grc_share.specs.SharedGraphForms.{IsSharedGraphOf}
 use Rattle.grc_share.specs.SharedNumbers.{IsSharedWalk}
 use Rattle.grc_share.specs.SharedSizes.{shared_size}
@@ -58,12 +57,11 @@ use Rattle.cec_compile.specs.declared.compiler.Compiled.{Compiled}
 use Rattle.cec_compile.specs.declared.compiler.Graphed.{Graphed}
 use Rattle.cec_compile.specs.Compiling.{IsGraphed, IsCompiled, StandsForGraph, StandsForNet, StandsForText, StandsForC, StandsForVerilog}
 use Rattle.cec_compile.specs.Following.{FollowsGraph}
-use Rattle.cec_compile.specs.declared.members.Members.{Members}
 use Rattle.cec_compile.specs.Limits.{copying_refusal}
 use Rattle.cec_compile.specs.Graphs.{HasNoGraph, IsBuilt}
-use Rattle.cec_compile.specs.GraphsMade.{AreMembersOf, IsGraphIn, IsOwnOrShared, IsRanked, IsSharedOf}
+use Rattle.cec_compile.specs.GraphsMade.{IsGraphIn, IsOwnOrShared, IsRanked, IsSharedOf}
 use Rattle.cec_compile.specs.Refusals.{Compiles}
-use Rattle.cec_compile.specs.WireGroups.{AreMembers, HasSharedRank, SharesWires, graph_edges, graph_wires, is_shared, wire_groups}
+use Rattle.cec_compile.specs.WireGroups.{HasSharedRank, SharesWires, graph_edges, graph_wires, is_shared, wire_groups}
 use Rattle.cec_compile.proofs.GraphFacts.{acyclic, reading_order, shared_cycle}
 use Rattle.cec_compile.proofs.GraphsRead.{ReadsIn, graph_reads, next_count, shared_loops}
 use Rattle.cec_compile.proofs.Simplified.{interface_stays, instants_stay, runs_stay}
@@ -194,22 +192,6 @@ shared_ranked given s h ranked reading is =
 pub shared_shares : (p : Program) (s : SharedGraph) → IsSharedGraphOf p s → HasSharedRank p → SharesWires p (is_shared s.graph)
 shared_shares p s is ranked = subst (SharesWires p) (sym (shared_loops s.graph p is.program is.graph)) ranked
 
--- the members that are taken out of a shared graph are those of the shared wires
-pub shared_members : (p : Program) (s : SharedGraph) → IsSharedGraphOf p s → (kept : Option Members) → AreMembersOf s kept
-    → AreMembers p (is_shared s.graph) kept
-shared_members p s is (Some list) taken = subst (λ b. AreMembers p b (Some list)) (sym (shared_loops s.graph p is.program is.graph)) (record {
-  count = taken.count ∙ sym (length-map s.graph.wires.items (wire_of (instances_of s.graph))) ∙ ap length is.wires;
-  each = λ k l. subst (λ w. map (λ v. wire_at (program_wires p) v.0) (member_run w.items list.firsts.items k) ≡ members p (wire_at (shared_wires p) k))
-      (sym taken.wires)
-      (subst (λ f. map (λ v. wire_at (program_wires p) v.0) (member_run s.member_list.items f.items k) ≡ members p (wire_at (shared_wires p) k))
-      (sym taken.firsts) (is.members k l));
-})
-shared_members p s is None taken = absurd taken
-
--- no members are kept of a graph that is the program's own
-pub own_members : (g : Graphed) (p : Program) → IsGraphed g p → AreMembers p (is_shared g.graph) None
-own_members g p h = subst (λ b. AreMembers p b None) (sym (ap is_some h.graph.own)) tt
-
 -- a graph that is the program's, or that of its shared wires, has the program and names its wires
 pub its_program : (g : Graph) (p : Program) → IsOwnOrShared g p → program_of g.program ≡ p
 its_program g p is = by (is_shared g) is.graph
@@ -250,8 +232,8 @@ pub simplified_follows : (g : Graph) (order : Order) (net new : Net) → IsOwnOr
     → HasInterfaceOf g (netlist_of net) → length net.gates.items ≤ gates_at_most g (rows_at_most g) order.list.items
     → FollowsInstants g (netlist_of net) → FollowsRuns g (netlist_of net)
     → SameParts (netlist_of net) (netlist_of new) → SameInstants (netlist_of net) (netlist_of new) → SameRuns (netlist_of net) (netlist_of new)
-    → (members : Option Members) → FollowsGraph (record { graph = g; members = members; order = order; net = new })
-simplified_follows g order net new graph interface size instants runs parts same alike members =
+    → FollowsGraph (record { graph = g; order = order; net = new })
+simplified_follows g order net new graph interface size instants runs parts same alike =
     let few = given-few (program_of g.program) g.laid_out.formed in
     record {
       graph = graph;
@@ -283,11 +265,9 @@ pub compiled_is : (g : Graphed) (order : Order) (net : Net) → IsRanked g (prog
     → IsWireOrder g.edges.count g.edges.pairs.items order.list.items
     → carried net.gates.items ≡ map (λ v. v.0) order.list.items
     → length net.gates.items ≤ linear_bound (program_of g.graph.program)
-    → ((members : Option Members) → FollowsGraph (record { graph = g.graph; members = members; order = order; net = net }))
-    → IsSimple (netlist_of net) → (members : Option Members)
-    → IsCompiled (record { graph = g.graph; members = members; order = order; net = net }) (program_of g.graph.program)
-compiled_is g order net h along carries linear all simple members =
-    let follows = all members in
+    → FollowsGraph (record { graph = g.graph; order = order; net = net })
+    → IsSimple (netlist_of net) → IsCompiled (record { graph = g.graph; order = order; net = net }) (program_of g.graph.program)
+compiled_is g order net h along carries linear follows simple =
     let p = program_of g.graph.program in
     let kernel = kernel_of g.graph p refl in
     record {

@@ -1,5 +1,5 @@
 -- Contract: the graph that a program is compiled by, its own or that of its shared wires.
-use Rattle.std.specs.Prelude.{◌≡◌, ⊥, Bool, true, false, List, length, map, Option, Some, None}
+use Rattle.std.specs.Prelude.{◌≡◌, Bool, true, false, List, length, map}
 use Rattle.base_types.specs.declared.indices.WireId.{WireId}
 use Rattle.est_kernel.specs.Plain.{Program, program_of}
 use Rattle.est_kernel.specs.StaticCodes.{NoInstantLoop}
@@ -10,13 +10,11 @@ use Rattle.grc_graph.specs.NumberedEdges.{AreEdgesOf}
 use Rattle.grc_graph.specs.PlainGraphs.{formula_of, instances_of, names_of, node_form, plain_graph}
 use Rattle.grc_graph.specs.Reads.{IsReadingOrder}
 use Rattle.grc_graph.specs.WireOrders.{AreRanks, IsWireOrder}
-use Rattle.grc_share.specs.declared.shared_graph.SharedGraph.{SharedGraph}
 use Rattle.grc_share.specs.SharedGraphs.{shared_graph, shared_instances, shared_nodes}
 use Rattle.grc_share.specs.SharedWires.{shared_wires}
 use Rattle.cec_compile.specs.Refusals.{Compiles}
 use Rattle.cec_compile.specs.WireGroups.{HasSharedRank, graph_edges, is_shared}
 use Rattle.cec_compile.specs.declared.compiler.Graphed.{Graphed}
-use Rattle.cec_compile.specs.declared.members.Members.{Members}
 
 -- The graph is that of a program's shared wires, and the edges between these go up in some rank: its instances and
 -- wires are the shared ones, in order, and so are its nodes, equations and formulas of the next state.
@@ -53,13 +51,3 @@ pub record IsRanked (g : Graphed) (p : Program) : Type 0 where
   pub orders : (order : List WireId) → IsWireOrder g.edges.count g.edges.pairs.items order
       → IsReadingOrder (names_of g.graph)
       (map (formula_of (instances_of g.graph) (names_of g.graph)) g.graph.equations.items) order
-
--- The members of a shared graph's wires, taken out of it.
-pub record IsTakenFrom (s : SharedGraph) (list : Members) : Type 0 where
-  pub count : list.count ≡ length s.graph.wires.items
-  pub wires : list.list ≡ s.member_list
-  pub firsts : list.firsts ≡ s.first_members
-
-abbrev pub AreMembersOf : SharedGraph → Option Members → Type 0
-AreMembersOf s (Some list) = IsTakenFrom s list
-AreMembersOf s None = ⊥

@@ -3,19 +3,15 @@
 -- Wires that cannot be true in one instant except for one of them, as those of two starts of a statement under as many
 -- loops, are one shared wire (`one_wire` in grc_share). The graph that is compiled is that of the shared wires, where
 -- the edges between them have no cycle, and else the program's own, each wire of which stands for itself.
-use Rattle.std.specs.Prelude.{◌≡◌, ◌<◌, ℕ, ⊤, ⊥, Bool, true, false, List, [], ◌∷◌, length, map, Option, Some, None}
-use Rattle.std.specs.Prelude.{is_some}
+use Rattle.std.specs.Prelude.{ℕ, Bool, true, false, List, [], ◌∷◌, map, is_some}
 use Rattle.est_kernel.specs.Plain.{Program}
 use Rattle.grc_graph.specs.declared.graph.Graph.{Graph}
 use Rattle.grc_graph.specs.Edges.{Edge}
 use Rattle.grc_graph.specs.GraphRuns.{program_edges, program_wires}
 use Rattle.grc_graph.specs.Orders.{GoUp}
-use Rattle.grc_graph.specs.PlainGraphs.{wire_at}
 use Rattle.grc_graph.specs.Wires.{Wire}
-use Rattle.grc_share.specs.MemberRuns.{member_run}
 use Rattle.grc_share.specs.SharedWires.{members, shared_edges, shared_wires}
 use Rattle.cec_compile.specs.Cycles.{IsCycle}
-use Rattle.cec_compile.specs.declared.members.Members.{Members}
 
 -- whether a graph is one of shared wires: it keeps the loop bodies around its program's statements
 abbrev pub is_shared : Graph → Bool
@@ -48,16 +44,3 @@ pub record HasSharedCycle (p : Program) : Type 0 where
 abbrev pub SharesWires : Program → Bool → Type 0
 SharesWires p true = HasSharedRank p
 SharesWires p false = HasSharedCycle p
-
--- For each shared wire of a program, by number, the wires of the program's own graph that it stands for, by theirs.
-pub record IsMemberList (p : Program) (list : Members) : Type 0 where
-  pub count : list.count ≡ length (shared_wires p)
-  pub each : (k : ℕ) → k < length (shared_wires p)
-      → map (λ w. wire_at (program_wires p) w.0) (member_run list.list.items list.firsts.items k)
-      ≡ members p (wire_at (shared_wires p) k)
-
--- Such lists where wires are shared; where they are not, each wire stands for itself, and there is none.
-abbrev pub AreMembers : Program → Bool → Option Members → Type 0
-AreMembers p true (Some list) = IsMemberList p list
-AreMembers p false None = ⊤
-AreMembers p shared others = ⊥

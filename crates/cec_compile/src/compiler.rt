@@ -1,6 +1,6 @@
 // The compiler: its passes, in their order.
 
-ghost use Rattle.std.specs.Prelude.{◌≡◌, ◌≤◌, ℕ, false, List, Option, None, length, map, IfOk, IfErr, option_map};
+ghost use Rattle.std.specs.Prelude.{◌≡◌, ◌≤◌, ℕ, false, List, Option, length, map, IfOk, IfErr, option_map};
 ghost use Rattle.est_kernel.specs.CodeLists.{AreCodesOf};
 ghost use Rattle.est_kernel.specs.Plain.{program_of, term_of};
 ghost use Rattle.est_kernel.specs.StaticCodes.{NoInstantLoop};
@@ -19,15 +19,13 @@ ghost use Rattle.cec_compile.specs.Compiling.{StandsForC, StandsForVerilog, IsBl
 ghost use Rattle.cec_compile.specs.EncodedTexts.{StandsForEncoded, IsEncodedBlifOf};
 ghost use Rattle.cec_compile.specs.Following.{FollowsGraph};
 ghost use Rattle.cec_compile.specs.Graphs.{IsBuilt};
-ghost use Rattle.cec_compile.specs.GraphsMade.{AreMembersOf, IsOwnOrShared, IsRanked};
+ghost use Rattle.cec_compile.specs.GraphsMade.{IsOwnOrShared, IsRanked};
 ghost use Rattle.cec_compile.specs.Refusals.{DoesNotCompile, IsRefused};
-ghost use Rattle.cec_compile.specs.WireGroups.{AreMembers, SharesWires, is_shared};
-ghost use Rattle.cec_compile.specs.declared.members.Members.{Members};
+ghost use Rattle.cec_compile.specs.WireGroups.{SharesWires, is_shared};
 
 use crate::cycles::cycle_of;
 use crate::forms::TextForm;
 use crate::graphs::built_graph;
-use crate::members::Members;
 use crate::refusal::Refusal;
 use crate::source_texts::text_of;
 use base_types::{Limits, NoMemory};
@@ -37,7 +35,7 @@ use est_front::{Analysed, analyse};
 use grc_dep::{Ranked, cycle_or_rank, edges};
 use grc_graph::{Edges, Graph, Order, Ranks};
 use grc_order::{Picker, order};
-use grc_share::{SharedGraph, SharedOrFull, share};
+use grc_share::{SharedOrFull, share};
 use grc_share_laws::{shared_orders_are_reading_orders, shared_ranks_go_up};
 use net_gen::generate;
 use net_ir::Net;
@@ -58,8 +56,6 @@ pub struct Graphed {
 #[derive(Drop)]
 pub struct Compiled {
     pub graph: Graph,
-    /// The wires of the program's own graph that each shared wire stands for; none where the graph is that one.
-    pub members: Option<Members>,
     pub order: Order,
     pub net: Net,
 }
@@ -171,16 +167,14 @@ pub fn compile<P: Picker>(
     requires { length text.now ≤ Limits.SOURCE_BYTES }
     ensures compiles { IfOk result (StandsForNet text.now (option_map (λ m. m.now) main.entry)) }
     ensures shares { IfOk result (λ c. SharesWires (program_of c.graph.program) (is_shared c.graph)) }
-    ensures members { IfOk result (λ c. AreMembers (program_of c.graph.program) (is_shared c.graph) c.members) }
     ensures follows { IfOk result FollowsGraph }
     ensures refuses { IfErr result (IsRefused text.now (option_map (λ m. m.now) main.entry)) }
 {
     let found = source_graph(alloc, text, main)?;
-    let sharing = shared_where_possible(alloc, found)?;
-    let made = ordered_net(alloc, &sharing.ranked, picker)?;
+    let ranked = shared_where_possible(alloc, found)?;
+    let made = ordered_net(alloc, &ranked, picker)?;
     Ok(Compiled {
-        graph: sharing.ranked.graph,
-        members: sharing.members,
+        graph: ranked.graph,
         order: made.order,
         net: made.net,
     })
@@ -196,7 +190,6 @@ pub fn compile_unshared<P: Picker>(
     requires { length text.now ≤ Limits.SOURCE_BYTES }
     ensures compiles { IfOk result (StandsForNet text.now (option_map (λ m. m.now) main.entry)) }
     ensures own { IfOk result (λ c. is_shared c.graph ≡ false) }
-    ensures members { IfOk result (λ c. c.members ≡ None) }
     ensures follows { IfOk result FollowsGraph }
     ensures refuses { IfErr result (IsRefused text.now (option_map (λ m. m.now) main.entry)) }
 {
@@ -204,27 +197,17 @@ pub fn compile_unshared<P: Picker>(
     let made = ordered_net(alloc, &found, picker)?;
     Ok(Compiled {
         graph: found.graph,
-        members: None,
         order: made.order,
         net: made.net,
     })
 }
 
-/// The graph that a program is compiled by, with what its wires stand for where they are shared.
-#[derive(Drop)]
-struct Sharing {
-    ranked: Graphed,
-    members: Option<Members>,
-}
-
 // The graph of the shared wires, where the edges between these have no cycle, else the program's own as it is.
-fn shared_where_possible(alloc: Global, found: Graphed) -> Result<Sharing, NoMemory>
+fn shared_where_possible(alloc: Global, found: Graphed) -> Result<Graphed, NoMemory>
     requires { IsGraphed found (program_of found.graph.program) }
-    ensures program { IfOk result (λ s. program_of s.ranked.graph.program ≡ program_of found.graph.program) }
-    ensures ranked { IfOk result (λ s. IsRanked s.ranked (program_of found.graph.program)) }
-    ensures shares { IfOk result (λ s. SharesWires (program_of found.graph.program) (is_shared s.ranked.graph)) }
-    ensures members { IfOk result (λ s. AreMembers (program_of found.graph.program)
-        (is_shared s.ranked.graph) s.members) }
+    ensures program { IfOk result (λ g. program_of g.graph.program ≡ program_of found.graph.program) }
+    ensures ranked { IfOk result (λ g. IsRanked g (program_of found.graph.program)) }
+    ensures shares { IfOk result (λ g. SharesWires (program_of found.graph.program) (is_shared g.graph)) }
 {
     shared_ranks_go_up();
     shared_orders_are_reading_orders();
@@ -234,43 +217,16 @@ fn shared_where_possible(alloc: Global, found: Graphed) -> Result<Sharing, NoMem
         ranks,
     } = found;
     match share(alloc, graph, &edges)? {
-        SharedOrFull::Shared(shared) => Ok(shared_of(shared)),
-        SharedOrFull::Full(graph, _) => Ok(Sharing {
-            ranked: Graphed {
-                graph,
-                edges,
-                ranks,
-            },
-            members: None,
+        SharedOrFull::Shared(shared) => Ok(Graphed {
+            graph: shared.graph,
+            edges: shared.edges,
+            ranks: shared.ranks,
         }),
-    }
-}
-
-// A graph of shared wires, with their members apart.
-fn shared_of(shared: SharedGraph) -> Sharing
-    ensures ranked { result.ranked ≡ record { graph = shared.graph; edges = shared.edges; ranks = shared.ranks } }
-    ensures members { AreMembersOf shared result.members }
-{
-    let SharedGraph {
-        graph,
-        member_list,
-        first_members,
-        edges,
-        ranks,
-    } = shared;
-    let members = Members {
-        count: graph.wires.len(),
-        list: member_list,
-        firsts: first_members,
-    };
-    let ranked = Graphed {
-        graph,
-        edges,
-        ranks,
-    };
-    Sharing {
-        ranked,
-        members: Some(members),
+        SharedOrFull::Full(graph, _) => Ok(Graphed {
+            graph,
+            edges,
+            ranks,
+        }),
     }
 }
 
@@ -288,11 +244,11 @@ fn ordered_net<P: Picker>(
     picker: &mut P,
 ) -> Result<OrderedNet, NoMemory>
     requires { IsRanked found.now (program_of found.now.graph.program) }
-    ensures compiled { IfOk result (λ made. (members : Option Members) → IsCompiled
-        (record { graph = found.now.graph; members = members; order = made.order; net = made.net })
+    ensures compiled { IfOk result (λ made. IsCompiled
+        (record { graph = found.now.graph; order = made.order; net = made.net })
         (program_of found.now.graph.program)) }
-    ensures follows { IfOk result (λ made. (members : Option Members) → FollowsGraph
-        (record { graph = found.now.graph; members = members; order = made.order; net = made.net })) }
+    ensures follows { IfOk result (λ made. FollowsGraph
+        (record { graph = found.now.graph; order = made.order; net = made.net })) }
 {
     let order = order(alloc, &found.edges, &found.ranks, picker)?;
     let net = graph_net(alloc, &found.graph, &order)?;
@@ -308,8 +264,8 @@ fn graph_net(alloc: Global, graph: &Graph, order: &Order) -> Result<Net, NoMemor
         order.now.list.items }
     ensures order { IfOk result (λ net. carried net.gates.items ≡ map (λ v. v.0) order.now.list.items) }
     ensures linear { IfOk result (λ net. length net.gates.items ≤ linear_bound (program_of graph.now.program)) }
-    ensures follows { IfOk result (λ net. (members : Option Members) → FollowsGraph
-        (record { graph = graph.now; members = members; order = order.now; net = net })) }
+    ensures follows { IfOk result (λ net. FollowsGraph
+        (record { graph = graph.now; order = order.now; net = net })) }
     ensures simple { IfOk result (λ net. IsSimple (netlist_of net)) }
 {
     let drawn = generate(alloc, graph, order)?;

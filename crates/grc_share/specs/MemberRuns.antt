@@ -1,4 +1,4 @@
--- To believe: the members of shared wires in one list, one shared wire after another.
+-- Contract: the members of shared wires in one list, one shared wire after another.
 use Rattle.std.specs.Prelude.{◌≡◌, ◌≤◌, ◌<◌, ◌+◌, ℕ, List, [], length, slice_index, slice_index_or}
 use Rattle.std.specs.List.{slice_range}
 use Rattle.base_types.specs.declared.indices.WireId.{WireId}

@@ -12,10 +12,10 @@ pub struct SharedGraph {
     /// The graph: an equation for each shared wire. Each shared instance and each shared wire has the name of its least
     /// member.
     pub graph: Graph,
-    /// The wires of the given graph that the shared wires stand for, one shared wire after another.
-    pub member_list: Vec<WireId>,
-    /// Where in that list the members of each shared wire begin, and at last how many there are.
-    pub first_members: Vec<usize>,
+    // The wires of the given graph that the shared wires stand for, one shared wire after another, where those of each
+    // begin, and at last how many there are.
+    pub(crate) member_list: Vec<WireId>,
+    pub(crate) first_members: Vec<usize>,
     /// The edges between the shared wires, and ranks that grow along them.
     pub edges: Edges,
     pub ranks: Ranks,

@@ -1,5 +1,5 @@
 use Rattle.std.proofs.Common.{refl, ap}
-use Rattle.std.specs.Prelude.{is_some, None}
+use Rattle.std.specs.Prelude.{is_some}
 use Rattle.est_kernel.specs.Plain.{program_of}
 use Rattle.cec_compile.proofs.Joined.{own_graph, own_ranked, compiled_stands}
 use Rattle.cec_compile.proofs.compiler.compile_unshared.Goals as goal
@@ -12,12 +12,8 @@ ordered_net-requires g c =
 
 pub returns-clause-compiles : goal.returns-clause-compiles
 returns-clause-compiles g c =
-    let made = c.in_ok-made.made in
-    compiled_stands _ _ c.in_ok-found.found (record { graph = c.in_ok-found.found.graph; members = None; order = made.order; net = made.net })
-    c.in_ok-found.ensures.compiles refl (c.in_ok-made.ensures.compiled None)
+    compiled_stands _ _ c.in_ok-found.found (record { graph = c.in_ok-found.found.graph; order = c.in_ok-made.made.order; net = c.in_ok-made.made.net })
+    c.in_ok-found.ensures.compiles refl c.in_ok-made.ensures.compiled
 
 pub returns-clause-own : goal.returns-clause-own
 returns-clause-own g c = ap is_some c.in_ok-found.ensures.compiles.graphed.graph.own
-
-pub returns-clause-follows : goal.returns-clause-follows
-returns-clause-follows g c = c.in_ok-made.ensures.follows None
