@@ -7,6 +7,7 @@ use Rattle.est_kernel.specs.Plain.{Program, outgoing_names}
 use Rattle.est_front.specs.Sources.{StandsFor}
 use Rattle.net_ir.specs.NameLists.{is_among}
 use Rattle.cec_compile.specs.Refusals.{Compiles, IsRefused}
+use Rattle.cec_compile.specs.declared.refusal.Refusal.TheVariants as refusing
 use Rattle.cec_text_io.specs.Contents.{Content, Holds}
 use Rattle.cec_text_io.specs.Writings.{LeavesText}
 use Rattle.cec_prove_sources.specs.Verdicts.{AnswersBroken, AnswersHolds, IsNone, PlainQuestion}
@@ -39,6 +40,7 @@ SaysOf Refuted job text = (trace : List ℕ) × IsRefutation job text trace
 SaysOf (Undecided depth) job text = Answered text job (λ p q. ⊤)
 SaysOf NoSignal job text = Answered text job (λ p q. is_among q.signal (outgoing_names p) ≡ false)
 SaysOf NoAssumed job text = Answered text job (λ p q. IsNone p q.assumed)
+SaysOf (Refused refusing.NoMemory) job text = ⊥
 SaysOf (Refused refusal) job text = IsRefused text job.main refusal
 SaysOf WriteFault job text = (trace : List ℕ) × IsRefutation job text trace
 SaysOf NoMemory job text = ⊤
