@@ -33,6 +33,12 @@ def optimizer():
     return words if shutil.which(words[0]) else None
 
 
+def prover():
+    """The words that call the built cec-prove, or `$CEC_PROVE`; none where it is not there."""
+    words = shlex.split(os.environ.get("CEC_PROVE", "")) or [str(TOP / "crates/cec_prove/out/cec_prove")]
+    return words if shutil.which(words[0]) else None
+
+
 def program_file(folder, words, name="program"):
     """One executable file that is a program."""
     file = folder / name
@@ -59,6 +65,14 @@ def run(words, text="", folder=None, timeout=300):
 def tool(name, *words, text="", folder=None):
     """A run of a script of tools/."""
     return run([TOP / "tools" / name, *words], text, folder)
+
+
+def counter(bits):
+    """A source with a counter of some bits over A, which emits BAD when it is full."""
+    names = ["A", *("C%d" % number for number in range(1, bits)), "BAD"]
+    runs = "\n||\n".join("run BIT [signal %s/IN, %s/NEXT]" % pair for pair in zip(names, names[1:]))
+    bit = "module BIT:\ninput IN;\noutput NEXT;\nloop await 2 IN; emit NEXT end\nend module\n"
+    return "module M:\ninput A;\noutput BAD;\nsignal %s in\n%s\nend\nend module\n%s" % (", ".join(names[1:-1]), runs, bit)
 
 
 def groups_of(trace):
