@@ -20,15 +20,19 @@ from multiprocessing.pool import AsyncResult, Pool
 from pathlib import Path
 from typing import Iterator, Optional
 
-from fuzzing.cases import KINDS, Case, drawn_case
+from fuzzing.cases import KINDS, PROGRAMS, Case, drawn_case
 from fuzzing.fixed import ROWS
 from fuzzing.judging import judge
 from fuzzing.programs import Answer, Programs
 from fuzzing.shrinking import shrunk
 
 TOP = Path(__file__).resolve().parent.parent.parent
-BUILT = {"cec": "crates/cec/out/cec", "cec-opt": "crates/cec_opt/out/cec_opt"}
-VARIABLES = {"cec": "CEC", "cec-opt": "CEC_OPT"}
+BUILT = {
+    "cec": "crates/cec/out/cec",
+    "cec-opt": "crates/cec_opt/out/cec_opt",
+    "cec-prove": "crates/cec_prove/out/cec_prove",
+}
+VARIABLES = {"cec": "CEC", "cec-opt": "CEC_OPT", "cec-prove": "CEC_PROVE"}
 SMALL_ROW = 4096
 
 
@@ -223,6 +227,7 @@ def arguments(argv: list[str]) -> argparse.Namespace:
     )
     parser.add_argument("--cec", metavar="PROGRAM", help="default: $CEC, or " + BUILT["cec"])
     parser.add_argument("--cec-opt", metavar="PROGRAM", help="default: $CEC_OPT, or " + BUILT["cec-opt"])
+    parser.add_argument("--cec-prove", metavar="PROGRAM", help="default: $CEC_PROVE, or " + BUILT["cec-prove"])
     parser.add_argument("--out", default="fuzz_differences", metavar="FOLDER", help="where differences are kept")
     parser.add_argument("--shrink", type=float, default=60, metavar="SECONDS", help="time for shrinking (default: 60)")
     parser.add_argument(
@@ -246,7 +251,8 @@ def arguments(argv: list[str]) -> argparse.Namespace:
 def main(argv: list[str]) -> int:
     words = arguments(argv)
     options = Options(words)
-    for name, program in options.programs.items():
+    for name in sorted({"cec"} | {PROGRAMS.get(kind, "cec") for kind in options.kinds}):
+        program = options.programs[name]
         if shutil.which(program[0]) is None:
             print("fuzz: no program %s for %s: build it, or name one" % (program[0], name), file=sys.stderr)
             return 2

@@ -1,12 +1,13 @@
-"""Random cases: the words and the files of one call of `cec` or `cec-opt`, of each kind."""
+"""Random cases: the words and the files of one call of `cec`, `cec-opt` or `cec-prove`, of each kind."""
 
 from __future__ import annotations
 
 import random
+import re
 from typing import Callable, Optional
 
 from fuzzing.drawn_texts import MAKERS, circuit_text
-from fuzzing.sources import event_items, mutate_bytes, mutate_tokens, source, trace_text
+from fuzzing.sources import Maker, event_items, mutate_bytes, mutate_tokens, source, trace_text
 from rules.compiling import compile_source, text_of
 from rules.outcomes import Outcome
 from rules.text_faults import TextFault
@@ -253,6 +254,46 @@ def opt_case(rng: random.Random) -> Drawn:
     return [command, b"f"], {b"f": text}
 
 
+OBSERVERS = (
+    "every immediate [{one} and {other}] do emit WRONG end",
+    "every immediate [{one} and not {other}] do emit WRONG end",
+    "loop await {one}; abort await 2 tick; emit WRONG when immediate {other}; pause end",
+    "abort every immediate {one} do emit WRONG end when immediate {other}",
+    "await 3 {one}; await {other}; emit WRONG",
+)
+
+
+def observed(rng: random.Random, budget: int) -> tuple[bytes, list[str]]:
+    """A source in which a module runs alongside an observer of two of its signals; and the outgoing signals."""
+    maker = Maker(rng, 0)
+    text = maker.program(budget)
+    _, inputs, both, outputs = maker.shown
+    relations = re.findall(r"relation [^;]*;", text[: text.find(" module ")] if " module " in text else text)
+    words = ["module W:"] + relations[:1]
+    for word, names in (("input", inputs), ("inputoutput", both), ("output", outputs + ["WRONG"])):
+        words[1:1] = ["%s %s;" % (word, ", ".join(names))] if names else []
+    names = (inputs + both + outputs) or ["WRONG"]
+    observer = rng.choice(OBSERVERS).format(one=rng.choice(names), other=rng.choice(names))
+    words += ["run M ||", observer, "end module", text]
+    return " ".join(words).encode(), both + outputs + ["WRONG"] * 4
+
+
+def prove_case(rng: random.Random) -> Drawn:
+    """A claim about a small source."""
+    if rng.random() < 0.7:
+        text, outgoing = observed(rng, rng.choice([1, 2, 4, 6, 9]))
+    else:
+        text = source(rng, rng.choice([1, 2, 4, 6]), rng.choice([0, 0, 0, 0.05]))
+        outgoing = ["O", "P", "V", "A"]
+    words = [rng.choice(["never", "never", "always"]), rng.choice(outgoing), "f"]
+    if rng.random() < 0.2:
+        words += ["--assume", rng.choice(outgoing)]
+    words += ["--effort", rng.choice(["1", "2", "3"])]
+    if rng.random() < 0.05:
+        words += ["--main", rng.choice(["M", "N0", "ZZ"])]
+    return [word.encode() for word in words], {b"f": text}
+
+
 KINDS: dict[str, Callable[[random.Random], Drawn]] = {
     "source": source_case,
     "mutated": mutated_case,
@@ -261,9 +302,13 @@ KINDS: dict[str, Callable[[random.Random], Drawn]] = {
     "words": words_case,
     "gen": gen_case,
     "optimize": opt_case,
+    "prove": prove_case,
 }
-# A call of the optimizer or of `gen` takes far longer than one of the others.
-WEIGHTS = {"source": 6, "mutated": 4, "trace": 2, "exec": 6, "words": 2, "gen": 0.2, "optimize": 0.2}
+# The program that a kind calls, where it is not `cec`.
+PROGRAMS = {"optimize": "cec-opt", "prove": "cec-prove"}
+# A call of the optimizer or of `gen` takes far longer than one of the others, and so does the search that judges a
+# claim.
+WEIGHTS = {"source": 6, "mutated": 4, "trace": 2, "exec": 6, "words": 2, "gen": 0.2, "optimize": 0.2, "prove": 0.4}
 
 
 def drawn_case(seed: int, number: int, kinds: list[str]) -> Case:
@@ -271,4 +316,4 @@ def drawn_case(seed: int, number: int, kinds: list[str]) -> Case:
     rng = random.Random("%d/%d" % (seed, number))
     kind = rng.choices(kinds, [WEIGHTS[name] for name in kinds])[0]
     words, files = KINDS[kind](rng)
-    return Case(kind, "cec-opt" if kind == "optimize" else "cec", words, files)
+    return Case(kind, PROGRAMS.get(kind, "cec"), words, files)

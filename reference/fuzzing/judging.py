@@ -4,7 +4,7 @@ from __future__ import annotations
 
 from typing import Any, Optional
 
-from fuzzing import optimized
+from fuzzing import claims, optimized
 from fuzzing.cases import Case, Files
 from fuzzing.programs import TIMEOUT, Answer, Programs
 from fuzzing.semantics import check_kernel
@@ -14,6 +14,10 @@ from rules.outcomes import STATUS, Result
 from rules.text_faults import is_loop
 from rules.texts import uses_of_text
 from rules.words import Asked, read_words
+
+
+# Programs whose answers have some freedom: what is due is judged and not computed.
+JUDGES = {"cec-opt": optimized.judge, "cec-prove": claims.judge}
 
 
 class Judgement:
@@ -30,10 +34,10 @@ def judge(case: Case, programs: Programs) -> Judgement:
     got = programs.answer(case.program, case.words, case.files)
     if got[2] == TIMEOUT:
         return Judgement(TIMEOUT, TIMEOUT, got, None)
-    if case.program == "cec-opt":
+    if case.program in JUDGES:
         if got[2] == STATUS["NoMemory"]:
             return Judgement("out of memory", "NoMemory", got, None)
-        outcome, note = optimized.judge(case, (got[0], got[1], int(got[2])))
+        outcome, note = JUDGES[case.program](case, (got[0], got[1], int(got[2])))
         return Judgement(note, outcome, got, None)
     want = call(case.words, case.files)
     note = differences(case, got, want, programs)

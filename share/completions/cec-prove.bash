@@ -3,15 +3,20 @@ _cec_prove() {
     local now=${COMP_WORDS[COMP_CWORD]} file
     COMPREPLY=()
     if [ "$COMP_CWORD" -eq 1 ]; then
-        mapfile -t COMPREPLY < <(compgen -W "never always --help --version" -- "$now")
+        mapfile -t COMPREPLY < <(compgen -W "never always all same --help --version" -- "$now")
         return
     fi
     [[ ${COMP_WORDS[1]} != --help && ${COMP_WORDS[1]} != --version ]] || return
-    if [ "$COMP_CWORD" -ge 4 ] && [ $((COMP_CWORD % 2)) -eq 0 ]; then
-        mapfile -t COMPREPLY < <(compgen -W "--assume --main --effort" -- "$now")
+    local options="--assume --main --effort" first=3 last=3
+    case ${COMP_WORDS[1]} in
+    all) first=2 last=2 ;;
+    same) options="--main --effort" first=2 ;;
+    esac
+    if [ "$COMP_CWORD" -gt "$last" ] && [ $(((COMP_CWORD - last) % 2)) -eq 1 ]; then
+        mapfile -t COMPREPLY < <(compgen -W "$options" -- "$now")
         return
     fi
-    [ "$COMP_CWORD" -eq 3 ] || return
+    [ "$COMP_CWORD" -ge "$first" ] && [ "$COMP_CWORD" -le "$last" ] || return
     while IFS= read -r file; do
         if [ -d "$file" ]; then
             COMPREPLY+=("$file/")

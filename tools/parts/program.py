@@ -50,6 +50,18 @@ def command():
     return [found]
 
 
+def other_program(name):
+    """The words that call another program of the repository, `cec-opt` or `cec-prove`; none where it is not here."""
+    crate = name.replace("-", "_")
+    given = os.environ.get(crate.upper())
+    if given:
+        return shlex.split(given)
+    built = os.path.normpath(os.path.join(os.path.dirname(os.path.realpath(__file__)), "..", "..", "crates", crate, "out", crate))
+    beside = os.path.join(os.path.dirname(command()[0]), name)
+    found = next((it for it in (built, beside, shutil.which(name)) if it and os.access(it, os.X_OK) and os.path.isfile(it)), None)
+    return [found] if found else None
+
+
 def ask(*words):
     """What the program answers to these words."""
     try:

@@ -1,4 +1,5 @@
-"""Whether an output of a program is ever emitted: a search by berkeley-abc over the program's text, and a run of what it finds."""
+"""Whether an output of a program is ever emitted: what cec-prove answers, or a search by berkeley-abc over the program's text; and a
+run of the trace that one of them finds."""
 import os
 import re
 import shutil
@@ -8,14 +9,16 @@ import time
 from typing import NamedTuple
 
 from blif import Latch, blif_of
-from program import DONE, MISSING, UNDECIDED, USAGE, Stop, ask, main_words, read, text_of, write_file
+from program import DONE, MISSING, UNDECIDED, USAGE, Stop, ask, main_words, other_program, read, text_of, write_file
 from relations import check_pairs, forbidden_pairs
-from traces import trace_of
+from traces import groups_of, trace_of
 
 ABC = ("berkeley-abc", "yosys-abc", "abc")
 READ = "read_blif asked.blif; strash; zero; "
 # A trace of at most so many instants is looked for alone, for at most so many seconds.
 SHORT_INSTANTS, SHORT_SECONDS = 50, 3
+# Statuses of cec-prove.
+PROVED, REFUTED, OPEN, NO_SIGNAL = 0, 20, 21, 22
 
 
 def abc_program():
@@ -104,15 +107,16 @@ def confirm(folder, source, main, output, events):
     lines = answer.out.decode("latin-1").splitlines()
     hits = [number for number, line in enumerate(lines, 1) if output in line.partition(" | ")[0].split(" ")]
     if answer.status != DONE or not hits:
-        raise Stop(UNDECIDED, "the program does not confirm the trace of abc: %s" % answer.err.decode("latin-1").strip())
+        raise Stop(UNDECIDED, "the program does not confirm the trace: %s" % answer.err.decode("latin-1").strip())
     return events[: hits[0]], lines[: hits[0]]
 
 
 class Verdict(NamedTuple):
-    """That an output is never emitted, with no events; or events after which it is, with the program's lines."""
+    """That an output is never emitted, with no events; or events after which it is, with the program's lines; and who says so."""
 
     events: list
     lines: list
+    by: str = "by berkeley-abc"
 
 
 def decide(source, main, output, seconds):
@@ -133,3 +137,38 @@ def decide(source, main, output, seconds):
         if verdict == "never":
             return Verdict([], [])
         return Verdict(*confirm(folder, source, main, output, events_of_cex(found, blif.inputs, last)))
+
+
+def proved(source, main, output, seconds):
+    """What cec-prove answers about an output; a stop where it is not here, or where it does not decide in time."""
+    words = other_program("cec-prove")
+    if not words:
+        raise Stop(MISSING, "no cec-prove here")
+    try:
+        call = [*words, "never", output, source, *main_words(main)]
+        told = subprocess.run(call, stdin=subprocess.DEVNULL, capture_output=True, timeout=seconds, check=False)
+    except subprocess.TimeoutExpired as late:
+        raise Stop(UNDECIDED, "not decided in %d seconds" % seconds) from late
+    line = told.stderr.decode("latin-1").strip().removeprefix("cec-prove: ")
+    if told.returncode == PROVED:
+        return Verdict([], [], "proved by cec-prove")
+    if told.returncode == REFUTED:
+        with tempfile.TemporaryDirectory() as folder:
+            return Verdict(*confirm(folder, source, main, output, groups_of(told.stdout.decode("latin-1"))), "by cec-prove")
+    if told.returncode == NO_SIGNAL:
+        raise Stop(USAGE, "no output %s" % output)
+    raise Stop(UNDECIDED if told.returncode == OPEN else told.returncode, line)
+
+
+def proved_or_decided(source, main, output, seconds):
+    """What cec-prove answers; where it is not here or does not decide, what berkeley-abc says."""
+    try:
+        return proved(source, main, output, seconds)
+    except Stop as stop:
+        if stop.status not in (UNDECIDED, MISSING):
+            raise
+        try:
+            return decide(source, main, output, seconds)
+        except Stop as other:
+            # Where neither is here, the missing one is cec-prove.
+            raise (other if stop.status == MISSING and other.status != MISSING else stop) from other

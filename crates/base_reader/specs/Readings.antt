@@ -84,7 +84,7 @@ abbrev pub turn : {T A : Type 0} → Rule T (List A) → Option A → Rule T (Li
 turn more None = give []
 turn more (Some value) = mapped (λ others. value ∷ others) more
 
--- steps until one gives no value, at most so many
+-- steps until one gives no value, at most this many
 abbrev pub turns : {T A : Type 0} → ℕ → Rule T (Option A) → Rule T (List A)
 turns zero step tokens = Ok ([], tokens)
 turns (suc left) step tokens = follow (step tokens) (turn (turns left step))

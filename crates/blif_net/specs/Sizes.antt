@@ -23,7 +23,7 @@ cell_parts Any = 0
 cell_parts One = 1
 cell_parts Zero = 2
 
--- gates that join so many parts: one fewer than there are, and a constant where there is none
+-- gates that join this many parts: one fewer than there are, and a constant where there is none
 abbrev pub joining : ℕ → ℕ
 joining zero = 1
 joining (suc n) = n

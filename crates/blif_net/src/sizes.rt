@@ -61,7 +61,7 @@ fn room_behind_rows(room: u64, rows: &[Row]) -> Option<u64>
     Some(left)
 }
 
-// What is left of this room after the nets of a row of so many cells.
+// What is left of this room after the nets of a row of this many cells.
 fn room_behind_cells(room: u64, cells: u64) -> Option<u64>
     ensures { Leaves room (2 * cells + 2) result }
 {

@@ -11,7 +11,7 @@ use blif_text::{Cell, Row, Table};
 use run_steps::Plan;
 use std::alloc::Global;
 
-// The plan of tables in this order, where so many slots have names.
+// The plan of tables in this order, where this many slots have names.
 pub fn table_plan(
     alloc: Global,
     named: usize,

@@ -9,7 +9,7 @@ use Rattle.grc_graph.specs.Instances.{body_instances}
 use Rattle.grc_graph.specs.PlainInstances.{instance_of}
 use Rattle.grc_graph.specs.SelectionTrees.{body_leaves}
 use Rattle.grc_list.specs.Listings.{program_listing}
-use Rattle.cec_compile.specs.declared.compiler.Graphed.{Graphed}
+use Rattle.cec_compile.specs.declared.passes.Graphed.{Graphed}
 use Rattle.cec_compile.specs.Compiling.{IsGraphed, StandsForGraph}
 use Rattle.cec_compile.proofs.Exports.{own_graph, own_source, graph_compiles}
 use Rattle.cec_commands.specs.Answers.{StandsForListing, StandsForCounts, counts_line}

@@ -24,7 +24,7 @@ use Rattle.blif_text.proofs.TextLengths as blif_lengths
 use Rattle.csub_text.specs.Written as c_texts
 use Rattle.vlog_text.specs.Written as verilog_texts
 use Rattle.csub_text.proofs.TextLengths as c_lengths
-use Rattle.cec_compile.specs.declared.compiler.Compiled.{Compiled}
+use Rattle.cec_compile.specs.declared.passes.Compiled.{Compiled}
 use Rattle.cec_compile.specs.Graphs.{StandsForBuilt}
 use Rattle.cec_compile.specs.declared.forms.TextForm.{TextForm}
 use Rattle.cec_compile.specs.declared.forms.TextForm.TheVariants as forms

@@ -29,7 +29,7 @@ use std::alloc::Global;
 /// trace: one line for each instant, right after its reaction. `exec --via blif TEXT TRACE`, or `--via c`,
 /// `--via guard` or `--via verilog`, runs a text by its own meaning. By a guarded text both write the number of
 /// assignments of all calls after a whole run. `gen --start N --branches N` writes a generated source, with `--run N`
-/// the numbers of its run over so many drawn events, by its BLIF and by its C text, and `--help` the list of the
+/// the numbers of its run over a number of drawn events, by its BLIF and by its C text, and `--help` the list of the
 /// commands. `--main M` names the main module, `--pick first`, `--pick last` or `--pick N` says how the evaluation
 /// order of a text is chosen. With `--encode` the latches of the BLIF text, which `blif` writes and `run --via blif`
 /// runs, hold the state in a code.

@@ -21,7 +21,7 @@ use Rattle.net_state_enc.specs.EncodedCounts.{encoded_bits, encoded_count}
 use Rattle.net_state_enc.specs.Encodings.{IsTreeOf, SelectsWell, Encodes}
 use Rattle.net_state_enc.specs.Meeting.{LatchesMeet}
 use Rattle.blif_text.specs.Written.{Means, net_latch}
-use Rattle.cec_compile.specs.declared.compiler.Compiled.{Compiled}
+use Rattle.cec_compile.specs.declared.passes.Compiled.{Compiled}
 use Rattle.cec_compile.specs.Compiling.{IsCompiled, StandsForNet}
 use Rattle.cec_compile.specs.EncodedTexts.{IsEncoded, StandsForEncoded}
 use Rattle.cec_compile.specs.Following.{FollowsGraph}

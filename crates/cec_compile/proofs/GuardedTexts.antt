@@ -27,7 +27,7 @@ use Rattle.cec_compile.specs.MadeGuarded.{IsGuardedBy}
 use Rattle.cec_compile.specs.NetMeaning.{NetKeeps}
 use Rattle.cec_compile.specs.SourceTexts.{IsSourceText}
 use Rattle.cec_compile.specs.WireGroups.{is_shared}
-use Rattle.cec_compile.specs.declared.compiler.Compiled.{Compiled}
+use Rattle.cec_compile.specs.declared.passes.Compiled.{Compiled}
 use Rattle.cec_compile.specs.declared.forms.TextForm.TheVariants as forms
 use Rattle.cec_compile.proofs.Joined.{given-few, inputs_wide, kernel_of}
 use Rattle.cec_compile.proofs.Keeping.{called, calls-seen, map-variables, widths}

@@ -10,7 +10,7 @@ use Rattle.vlog_text.specs.Written as verilog_texts
 use Rattle.cec_text_io.specs.NetWriting.{IsWrittenIn}
 use Rattle.cec_text_io.specs.Writings.{LeavesPieces}
 use Rattle.cec_text_io.specs.declared.writing.Written.TheVariants.{Done}
-use Rattle.cec_compile.specs.declared.compiler.Compiled.{Compiled}
+use Rattle.cec_compile.specs.declared.passes.Compiled.{Compiled}
 use Rattle.cec_compile.specs.declared.forms.TextForm.{TextForm}
 use Rattle.cec_compile.specs.declared.forms.TextForm.TheVariants as forms
 use Rattle.cec_compile.specs.declared.made.Made.{Made}

@@ -27,8 +27,8 @@ use Rattle.cec_compile.specs.WireNames.{one_per_leaf, TextNames, CTextNames, Ver
 use Rattle.cec_compile.specs.NetMeaning.{NetKeeps}
 use Rattle.cec_compile.specs.Refusals.{Compiles}
 use Rattle.cec_compile.specs.WireGroups.{SharesWires, graph_edges, graph_wires, is_shared}
-use Rattle.cec_compile.specs.declared.compiler.Compiled.{Compiled}
-use Rattle.cec_compile.specs.declared.compiler.Graphed.{Graphed}
+use Rattle.cec_compile.specs.declared.passes.Compiled.{Compiled}
+use Rattle.cec_compile.specs.declared.passes.Graphed.{Graphed}
 
 -- The graph is the program's, and so are the tree and the edges; no edge lies on a cycle.
 pub record IsGraphed (g : Graphed) (p : Program) : Type 0 where

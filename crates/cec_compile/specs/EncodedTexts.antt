@@ -16,7 +16,7 @@ use Rattle.cec_compile.specs.NetMeaning.{NetKeeps}
 use Rattle.cec_compile.specs.Refusals.{Compiles}
 use Rattle.cec_compile.specs.WireGroups.{SharesWires, is_shared}
 use Rattle.cec_compile.specs.WireNames.{TextNames}
-use Rattle.cec_compile.specs.declared.compiler.Compiled.{Compiled}
+use Rattle.cec_compile.specs.declared.passes.Compiled.{Compiled}
 
 -- A netlist is one of a compiled program whose latches hold the state in a code. It has the names of the program's own
 -- netlist, and its carried wires in the same order. The first latch tells the first instant, and there is one for each

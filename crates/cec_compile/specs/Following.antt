@@ -6,7 +6,7 @@ use Rattle.net_gen.specs.Costs.{gates_at_most}
 use Rattle.net_gen.specs.Generated.{HasInterfaceOf, FollowsInstants, FollowsRuns}
 use Rattle.net_ir.specs.Runs.{netlist_of}
 use Rattle.cec_compile.specs.GraphsMade.{IsOwnOrShared}
-use Rattle.cec_compile.specs.declared.compiler.Compiled.{Compiled}
+use Rattle.cec_compile.specs.declared.passes.Compiled.{Compiled}
 
 -- The graph is that of its program or of the program's shared wires. The netlist has at most as many gates as the
 -- formulas of its graph need, the graph's interface, and the wires' values in each instant, whatever the state; and

@@ -14,7 +14,7 @@ use Rattle.grc_share.specs.SharedGraphs.{shared_graph, shared_instances, shared_
 use Rattle.grc_share.specs.SharedWires.{shared_wires}
 use Rattle.cec_compile.specs.Refusals.{Compiles}
 use Rattle.cec_compile.specs.WireGroups.{HasSharedRank, graph_edges, is_shared}
-use Rattle.cec_compile.specs.declared.compiler.Graphed.{Graphed}
+use Rattle.cec_compile.specs.declared.passes.Graphed.{Graphed}
 
 -- The graph is that of a program's shared wires, and the edges between these go up in some rank: its instances and
 -- wires are the shared ones, in order, and so are its nodes, equations and formulas of the next state.

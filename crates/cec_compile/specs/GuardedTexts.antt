@@ -17,7 +17,7 @@ use Rattle.cec_compile.specs.Compiling.{StandsForNet}
 use Rattle.cec_compile.specs.Meaning.{Keeps, Seen}
 use Rattle.cec_compile.specs.Refusals.{Compiles}
 use Rattle.cec_compile.specs.WireGroups.{is_shared}
-use Rattle.cec_compile.specs.declared.compiler.Compiled.{Compiled}
+use Rattle.cec_compile.specs.declared.passes.Compiled.{Compiled}
 
 -- what is seen of a call: the outputs in declared order, and the value returned
 abbrev pub guarded_seen : guarded.Program → Counted → Seen

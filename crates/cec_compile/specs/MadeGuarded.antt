@@ -8,7 +8,7 @@ use Rattle.csub_guard_blocks.specs.Owners.{owners}
 use Rattle.csub_guard_writer.specs.Regions.{region_by}
 use Rattle.csub_guard_writer_laws.specs.Guarded.{GuardedRuns}
 use Rattle.cec_compile.specs.MadeNets.{IsMade}
-use Rattle.cec_compile.specs.declared.compiler.Compiled.{Compiled}
+use Rattle.cec_compile.specs.declared.passes.Compiled.{Compiled}
 use Rattle.cec_compile.specs.declared.forms.TextForm.TheVariants.{Guarded}
 use Rattle.cec_compile.specs.declared.guarded_texts.GuardedMade.{GuardedMade}
 
@@ -21,9 +21,11 @@ pub record IsGuardedBy (c : Compiled) (text : List ℕ) : Type 0 where
       (owners (netlist_of c.net) (region_by (netlist_of c.net) regions))
   pub runs : GuardedRuns text (netlist_of c.net) regions
 
--- a text means the netlist with regions of its gates
+-- a text is written of the netlist by regions of its gates, and means it
 pub record MeansGuarded (text : List ℕ) (g : GuardedMade) : Type 0 where
   pub regions : List (Option WireId)
+  pub spelled : text ≡ guarded_text (netlist_of g.made.net)
+      (owners (netlist_of g.made.net) (region_by (netlist_of g.made.net) regions))
   pub runs : GuardedRuns text (netlist_of g.made.net) regions
 
 -- the bytes stand for the program, and the text means its netlist

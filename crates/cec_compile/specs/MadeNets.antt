@@ -7,7 +7,7 @@ use Rattle.cec_compile.specs.Compiling.{StandsForNet}
 use Rattle.cec_compile.specs.EncodedTexts.{IsEncoded}
 use Rattle.cec_compile.specs.Following.{FollowsGraph}
 use Rattle.cec_compile.specs.WireGroups.{SharesWires, is_shared}
-use Rattle.cec_compile.specs.declared.compiler.Compiled.{Compiled}
+use Rattle.cec_compile.specs.declared.passes.Compiled.{Compiled}
 use Rattle.cec_compile.specs.declared.forms.TextForm.{TextForm}
 use Rattle.cec_compile.specs.declared.forms.TextForm.TheVariants.{EncodedBlif, Guarded}
 use Rattle.cec_compile.specs.declared.made.Made.{Made}

@@ -15,9 +15,9 @@ ghost use Rattle.cec_compile.specs.SourceTexts.{IsSourceText};
 ghost use Rattle.cec_compile.specs.Sources.{IsSource};
 ghost use Rattle.cec_compile.specs.declared.forms.TextForm.TheVariants.{Guarded};
 
-use crate::compiler::{Compiled, compile_unshared};
 use crate::forms::TextForm;
 use crate::made::{Made, made_in};
+use crate::passes::{Compiled, compile_unshared};
 use crate::refusal::Refusal;
 use base_types::{Limits, NoMemory, Sink};
 use cec_text_io::{Written, write_in_pieces};

@@ -13,8 +13,8 @@ ghost use Rattle.cec_compile.specs.MadeNets.{IsMade, IsNetIn, IsSharedIn};
 ghost use Rattle.cec_compile.specs.Refusals.{IsRefused};
 ghost use Rattle.cec_compile.specs.WireGroups.{is_shared};
 
-use crate::compiler::{Compiled, compile, compile_unshared};
 use crate::forms::TextForm;
+use crate::passes::{Compiled, compile, compile_unshared};
 use crate::refusal::Refusal;
 use base_types::{Limits, NoMemory, Stop};
 use est_kernel::KernelProgram;

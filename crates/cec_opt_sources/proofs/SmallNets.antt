@@ -7,7 +7,7 @@ use Rattle.net_opt.specs.Optimized.{Optimizes}
 use Rattle.blif_text.specs.Written.{Means}
 use Rattle.csub_text.specs.Written as c_texts
 use Rattle.vlog_text.specs.Written as vlog_texts
-use Rattle.cec_compile.specs.declared.compiler.Compiled.{Compiled}
+use Rattle.cec_compile.specs.declared.passes.Compiled.{Compiled}
 use Rattle.cec_compile.specs.Compiling.{StandsForNet}
 use Rattle.cec_compile.specs.NetMeaning.{NetKeeps}
 use Rattle.cec_compile.proofs.Exports.{given-few, inputs_wide, widths, text_keeps, c_text_keeps, verilog_text_keeps}

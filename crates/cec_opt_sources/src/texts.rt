@@ -1,8 +1,11 @@
 // The small netlist of a source, and its texts.
 
-ghost use Rattle.std.specs.Prelude.{◌≤◌, length, IfOk, IfErr, option_map};
+ghost use Rattle.std.specs.Prelude.{◌≡◌, ◌≤◌, length, IfOk, IfErr, option_map};
+ghost use Rattle.est_kernel.specs.Plain.{program_of};
 ghost use Rattle.net_ir.specs.Runs.{netlist_of};
+ghost use Rattle.cec_compile.specs.Following.{FollowsGraph};
 ghost use Rattle.cec_compile.specs.Refusals.{IsRefused};
+ghost use Rattle.cec_compile.specs.WireGroups.{GivesMembers, is_shared};
 ghost use Rattle.cec_opt_sources.specs.SmallTexts.{StandsForSmallNet, StandsForSmallBlif, StandsForSmallC};
 ghost use Rattle.cec_opt_sources.specs.SmallTexts.{StandsForSmallVerilog, IsSmallSource, IsSmallBlifOf, IsSmallCOf};
 ghost use Rattle.cec_opt_sources.specs.SmallTexts.{IsSmallVerilogOf};
@@ -37,7 +40,8 @@ pub fn small_blif_of<P: Picker>(
     ensures refuses { IfErr result (IsRefused text.now (option_map (λ m. m.now) main.entry)) }
 {
     let small = small_net(alloc, text, main, picker)?;
-    let written = write_blif(alloc, &small.net)?;
+    let net = net_alone(small);
+    let written = write_blif(alloc, &net)?;
     Ok(written)
 }
 
@@ -56,7 +60,8 @@ pub fn small_c_of<P: Picker>(
     ensures refuses { IfErr result (IsRefused text.now (option_map (λ m. m.now) main.entry)) }
 {
     let small = small_net(alloc, text, main, picker)?;
-    let written = write_c(alloc, &small.net)?;
+    let net = net_alone(small);
+    let written = write_c(alloc, &net)?;
     Ok(written)
 }
 
@@ -75,7 +80,8 @@ pub fn small_verilog_of<P: Picker>(
     ensures refuses { IfErr result (IsRefused text.now (option_map (λ m. m.now) main.entry)) }
 {
     let small = small_net(alloc, text, main, picker)?;
-    let written = write_verilog(alloc, &small.net)?;
+    let net = net_alone(small);
+    let written = write_verilog(alloc, &net)?;
     Ok(written)
 }
 
@@ -99,9 +105,20 @@ pub fn small_net<P: Picker>(
     ensures compiles { IfOk result (λ s. StandsForSmallNet text.now
         (option_map (λ m. m.now) main.entry) (netlist_of s.net)) }
     ensures made { IfOk result (IsSmallSource text.now (option_map (λ m. m.now) main.entry)) }
+    ensures members { IfOk result (λ s. GivesMembers (is_shared s.compiled.graph)
+        (program_of s.compiled.graph.program) s.compiled.members) }
+    ensures follows { IfOk result (λ s. FollowsGraph s.compiled) }
     ensures refuses { IfErr result (IsRefused text.now (option_map (λ m. m.now) main.entry)) }
 {
     let compiled = compile(alloc, text, main, picker)?;
     let net = optimize(alloc, &compiled.net)?;
     Ok(SmallSource { compiled, net })
+}
+
+// The optimized netlist alone.
+fn net_alone(small: SmallSource) -> Net
+    ensures { result ≡ small.net }
+{
+    let SmallSource { net, .. } = small;
+    net
 }

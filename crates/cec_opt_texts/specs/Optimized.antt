@@ -22,6 +22,12 @@ pub record IsSmallNetOf (text : List ℕ) (net : Netlist) : Type 0 where
   pub reads : reading text ≡ Ok circuit
   pub small : IsSmallOf circuit net
 
+-- The text of a form, BLIF, C or Verilog, that is written of such a netlist.
+pub record IsSmallText (text : List ℕ) (written_of : Netlist → List ℕ) (written : List ℕ) : Type 0 where
+  pub net : Netlist
+  pub small : IsSmallNetOf text net
+  pub is : written ≡ written_of net
+
 -- The netlist of a text: that of the circuit that it describes.
 pub record IsTextNet (text : List ℕ) (net : Netlist) : Type 0 where
   pub circuit : Circuit

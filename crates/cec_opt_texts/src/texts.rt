@@ -5,13 +5,16 @@ ghost use Rattle.base_types.specs.Stops.{FaultIs, IfFault};
 ghost use Rattle.net_ir.specs.Runs.{netlist_of};
 ghost use Rattle.blif_text.specs.Circuits.{Circuit, reading};
 ghost use Rattle.blif_text.specs.Plain.{plain_circuit};
+ghost use Rattle.blif_text.specs.Written as blif_texts;
+ghost use Rattle.csub_text.specs.Written as c_texts;
+ghost use Rattle.vlog_text.specs.Written as verilog_texts;
 ghost use Rattle.blif_read.specs.declared.refusal.BlifError.TheVariants.{TooLong as is_too_long};
 ghost use Rattle.blif_run.specs.Loops.{IsDescribed};
 ghost use Rattle.blif_net.specs.Conversions.{IsNetOf};
 ghost use Rattle.blif_net.specs.Interfaces.{IsCircuitFault};
 ghost use Rattle.cec_opt_texts.specs.Faults.{IsOptFault, IsReadFault, IsNetFault};
 ghost use Rattle.cec_opt_texts.specs.Alike.{BlifKeeps, CKeeps, VerilogKeeps};
-ghost use Rattle.cec_opt_texts.specs.Optimized.{IsSmallNetOf, IsSmallOf, IsTextNet};
+ghost use Rattle.cec_opt_texts.specs.Optimized.{IsSmallNetOf, IsSmallOf, IsSmallText, IsTextNet};
 
 use crate::fault::OptFault;
 use base_types::{Limits, Stop};
@@ -31,6 +34,7 @@ use vlog_text::write_verilog;
 pub fn optimized_blif(alloc: Global, text: &[u8]) -> Result<Vec<u8>, Stop<OptFault>>
     requires { length text.now ≤ Limits.TEXT_BYTES }
     ensures keeps { IfOk result (λ written. BlifKeeps text.now written.items) }
+    ensures small { IfOk result (λ written. IsSmallText text.now blif_texts.written written.items) }
     ensures fault { IfFault result (IsOptFault text.now) }
 {
     let net = optimized_net(alloc, text)?;
@@ -42,6 +46,7 @@ pub fn optimized_blif(alloc: Global, text: &[u8]) -> Result<Vec<u8>, Stop<OptFau
 pub fn optimized_c(alloc: Global, text: &[u8]) -> Result<Vec<u8>, Stop<OptFault>>
     requires { length text.now ≤ Limits.TEXT_BYTES }
     ensures keeps { IfOk result (λ written. CKeeps text.now written.items) }
+    ensures small { IfOk result (λ written. IsSmallText text.now c_texts.written written.items) }
     ensures fault { IfFault result (IsOptFault text.now) }
 {
     let net = optimized_net(alloc, text)?;
@@ -53,6 +58,7 @@ pub fn optimized_c(alloc: Global, text: &[u8]) -> Result<Vec<u8>, Stop<OptFault>
 pub fn optimized_verilog(alloc: Global, text: &[u8]) -> Result<Vec<u8>, Stop<OptFault>>
     requires { length text.now ≤ Limits.TEXT_BYTES }
     ensures keeps { IfOk result (λ written. VerilogKeeps text.now written.items) }
+    ensures small { IfOk result (λ written. IsSmallText text.now verilog_texts.written written.items) }
     ensures fault { IfFault result (IsOptFault text.now) }
 {
     let net = optimized_net(alloc, text)?;

@@ -1,2 +1,3 @@
 mod Options
 pub mod Outcomes
+mod Comparisons

@@ -1,7 +1,7 @@
 -- Options of which one word was read, or both.
 use Rattle.std.specs.Prelude.{option_and_then}
 use Rattle.std.proofs.Common.{◌≡◌, ℕ, List, ◌∷◌, Option, Some, None, sym, ap, ◌∙◌}
-use Rattle.cec_prove_commands.specs.Words.{Job, job_with, misuse_behind, misuse_of_options, with_option}
+use Rattle.cec_prove_commands.specs.Words.{Job, job_with, misuse_of_rest, misuse_of_options, with_option}
 
 -- the words that are left, and before them the option that waits for its value
 abbrev pub with_key : Option (List ℕ) → List (List ℕ) → List (List ℕ)
@@ -21,4 +21,4 @@ pub two-faultless : (j n : Job) (key : Option (List ℕ)) (name : List ℕ) (wor
     → words ≡ word ∷ rest → key ≡ Some name → with_option j name word ≡ Some n → misuse_of_options j (with_key key words) ≡ all
     → misuse_of_options n rest ≡ all
 two-faultless j n key name words rest word all e some is so =
-    sym (ap (misuse_behind name (λ m. misuse_of_options m rest)) is) ∙ sym (λ i. misuse_of_options j (with_key (some i) (e i))) ∙ so
+    sym (ap (misuse_of_rest name (λ m. misuse_of_options m rest)) is) ∙ sym (λ i. misuse_of_options j (with_key (some i) (e i))) ∙ so

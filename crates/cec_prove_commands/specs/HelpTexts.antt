@@ -1,4 +1,4 @@
--- Contract: the list of the commands, and the version.
+-- To believe: the list of the commands, and the version.
 use Rattle.std.specs.Prelude.{ℕ, List, [], ◌∷◌, codes}
 use Rattle.std.specs.List.{concat}
 use Rattle.cec_prove_commands.specs.declared.words.About.{About}
@@ -8,7 +8,9 @@ abbrev pub help_text : List ℕ
 help_text =
     concat (codes "cec-prove never SIGNAL FILE    whether SIGNAL is never present\n"
     ∷ codes "cec-prove always SIGNAL FILE   whether SIGNAL is present in each instant\n"
-    ∷ codes "    --assume SIGNAL            where this signal is present in each instant\n"
+    ∷ codes "cec-prove all FILE             when each outgoing signal is present\n"
+    ∷ codes "cec-prove same FILE FILE       whether two sources do the same\n"
+    ∷ codes "    --assume SIGNAL            where this signal is present in each instant; not of same\n"
     ∷ codes "    --main M                   of the module M, not of the first one\n"
     ∷ codes "    --effort N                 how long to search, from 1 to 9; without it 5\n"
     ∷ codes "cec-prove --help               writes these lines\n"

@@ -1,19 +1,23 @@
--- Contract: the line that is written about an outcome.
+-- To believe: the line that is written about an outcome.
 use Rattle.std.specs.Prelude.{⊤, ℕ, List, [], ◌++◌, Option, Some, None, codes, decimal, unwrap_or}
 use Rattle.est_front.specs.Lines.{fault_text}
 use Rattle.cec_compile.specs.declared.refusal.Refusal.{Refusal}
 use Rattle.cec_compile.specs.declared.refusal.Refusal.TheVariants as refusing
 use Rattle.cec_text_io.specs.Contents.{Content, IsHeld}
 use Rattle.cec_text_io.specs.ErrorLines.{GainsLine}
-use Rattle.cec_prove_commands.specs.Words.{Job, Request, Tell, Ask, misuse_of}
+use Rattle.cec_prove_commands.specs.Words.{Job, Request, Tell, Do, Task, Ask, Survey, Compare, misuse_of}
 use Rattle.cec_prove_commands.specs.declared.outcome.ProveOutcome.{ProveOutcome}
-use Rattle.cec_prove_commands.specs.declared.outcome.ProveOutcome.TheVariants.{Told, Proved, Refuted, Undecided}
-use Rattle.cec_prove_commands.specs.declared.outcome.ProveOutcome.TheVariants.{NoSignal, NoAssumed, Usage, FileFault}
-use Rattle.cec_prove_commands.specs.declared.outcome.ProveOutcome.TheVariants.{Refused, WriteFault, NoMemory}
+use Rattle.cec_prove_commands.specs.declared.outcome.ProveOutcome.TheVariants.{Told, Proved, Refuted, Surveyed}
+use Rattle.cec_prove_commands.specs.declared.outcome.ProveOutcome.TheVariants.{PartlySurveyed, Undecided, NoSignal}
+use Rattle.cec_prove_commands.specs.declared.outcome.ProveOutcome.TheVariants.{NoAssumed, OtherGiven, OtherOutgoing}
+use Rattle.cec_prove_commands.specs.declared.outcome.ProveOutcome.TheVariants.{OtherRelations, Usage, FileFault}
+use Rattle.cec_prove_commands.specs.declared.outcome.ProveOutcome.TheVariants.{SecondFault, Refused, SecondRefused}
+use Rattle.cec_prove_commands.specs.declared.outcome.ProveOutcome.TheVariants.{WriteFault, NoMemory}
 
 -- what a line speaks of
 pub record Subject : Type 0 where
   pub name : List ℕ
+  pub other : List ℕ
   pub signal : List ℕ
   pub assumed : List ℕ
   pub main : List ℕ
@@ -21,50 +25,72 @@ pub record Subject : Type 0 where
 
 -- nothing to speak of
 abbrev pub nothing : Subject
-nothing = record { name = []; signal = []; assumed = []; main = []; source = [] }
+nothing = record { name = []; other = []; signal = []; assumed = []; main = []; source = [] }
 
 -- a line of this program
 abbrev pub own_line : List ℕ → List ℕ
 own_line said = codes "cec-prove: " ++ (said ++ codes "\n")
 
--- The line of a static fault is that of the compiler.
-abbrev pub refusal_line : Subject → Refusal → List ℕ
-refusal_line s (refusing.Static fault) = codes "cec: " ++ (fault_text s.source s.main fault ++ codes "\n")
-refusal_line s (refusing.Cyclic cycle) = own_line (codes "cyclic: " ++ cycle.text.items)
-refusal_line s (refusing.Limit limit) = own_line (codes "a limit is passed, see cec check " ++ s.name)
-refusal_line s refusing.NoMemory = own_line (codes "out of memory")
+-- The line of a source, in the file of this name, that does not compile. That of a static fault is the compiler's.
+abbrev pub refusal_line : Subject → (name : List ℕ) → Refusal → List ℕ
+refusal_line s name (refusing.Static fault) = codes "cec: " ++ (fault_text s.source s.main fault ++ codes "\n")
+refusal_line s name (refusing.Cyclic cycle) = own_line (codes "cyclic: " ++ cycle.text.items)
+refusal_line s name (refusing.Limit limit) = own_line (codes "a limit is passed, see cec check " ++ name)
+refusal_line s name refusing.NoMemory = own_line (codes "out of memory")
 
 -- the line of an outcome; none for Told
 abbrev pub line_of : Subject → ProveOutcome → List ℕ
 line_of s Told = []
 line_of s Proved = own_line (codes "proved")
 line_of s Refuted = own_line (codes "refuted")
+line_of s Surveyed = own_line (codes "all signals are decided")
+line_of s PartlySurveyed = own_line (codes "some signals are undecided")
 line_of s (Undecided depth) = own_line (codes "undecided, instants searched: " ++ decimal depth)
 line_of s NoSignal = own_line (codes "no outgoing signal " ++ s.signal)
 line_of s NoAssumed = own_line (codes "no outgoing signal " ++ s.assumed)
+line_of s OtherGiven = own_line (codes "the given signals differ")
+line_of s OtherOutgoing = own_line (codes "the outgoing signals differ")
+line_of s OtherRelations = own_line (codes "the relations differ")
 line_of s Usage = own_line (codes "no meaning")
 line_of s FileFault = own_line (codes "cannot read " ++ s.name)
-line_of s (Refused refusal) = refusal_line s refusal
+line_of s SecondFault = own_line (codes "cannot read " ++ s.other)
+line_of s (Refused refusal) = refusal_line s s.name refusal
+line_of s (SecondRefused refusal) = refusal_line s s.other refusal
 line_of s WriteFault = own_line (codes "cannot write")
 line_of s NoMemory = own_line (codes "out of memory")
+
+-- the signal that a task asks about
+abbrev pub asked_signal : Task → List ℕ
+asked_signal (Ask claim signal) = signal
+asked_signal Survey = []
+asked_signal (Compare other) = []
+
+-- the second file of a task
+abbrev pub second_of : Task → List ℕ
+second_of (Ask claim signal) = []
+second_of Survey = []
+second_of (Compare other) = other
 
 -- a line about a static fault speaks of the source that the file holds
 abbrev pub SpeaksOf : Content → Job → ProveOutcome → List ℕ → Type 0
 SpeaksOf content job (Refused (refusing.Static fault)) source = IsHeld content job.name source
 SpeaksOf content job (Refused others) source = ⊤
+SpeaksOf content job (SecondRefused (refusing.Static fault)) source = IsHeld content (second_of job.task) source
+SpeaksOf content job (SecondRefused others) source = ⊤
 SpeaksOf content job others source = ⊤
 
--- the subject of a question about a source with these bytes
+-- the subject of a task about a source with these bytes
 abbrev pub job_subject : Job → List ℕ → Subject
 job_subject job source = record {
   name = job.name;
-  signal = job.signal;
+  other = second_of job.task;
+  signal = asked_signal job.task;
   assumed = unwrap_or job.assumed [];
   main = unwrap_or job.main [];
   source = source;
 }
 
--- What `err` gained about a question: the whole line, or a prefix of it where its count of faults rose. A source of
+-- What `err` gained about a task: the whole line, or a prefix of it where its count of faults rose. A source of
 -- which the line speaks is the one that the file holds.
 pub record GainsJobErr (job : Job) (content : Content) (outcome : ProveOutcome) (old new : Option (List ℕ))
     (before now : ℕ) : Type 0 where
@@ -79,4 +105,4 @@ GainsErr words None content outcome old new before now =
     GainsLine old new before now (own_line (misuse_of words ++ codes ", see cec-prove --help"))
 GainsErr words (Some (Tell about)) content outcome old new before now =
     GainsLine old new before now (line_of nothing outcome)
-GainsErr words (Some (Ask job)) content outcome old new before now = GainsJobErr job content outcome old new before now
+GainsErr words (Some (Do job)) content outcome old new before now = GainsJobErr job content outcome old new before now

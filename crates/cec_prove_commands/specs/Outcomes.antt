@@ -1,55 +1,139 @@
--- Contract: what each outcome of the top call says.
-use Rattle.std.specs.Prelude.{◌≡◌, ℕ, ⊤, false, List, [], Option, Some, None}
+-- To believe: what each outcome of the top call says.
+use Rattle.std.specs.Prelude.{◌≡◌, ◌≢◌, ℕ, ⊤, Bool, true, false, List, [], Option, Some, None}
 use Rattle.base_types.specs.Reading.{KeepsFaults, Notes}
 use Rattle.base_types.specs.SinkChanges.{SinkChange}
 use Rattle.base_types.specs.Writing.{Appends}
-use Rattle.est_kernel.specs.Plain.{Program, outgoing_names}
+use Rattle.est_kernel.specs.Plain.{Program, given_names, outgoing_names}
 use Rattle.est_front.specs.Sources.{StandsFor}
 use Rattle.net_ir.specs.NameLists.{is_among}
 use Rattle.cec_compile.specs.Refusals.{Compiles, IsRefused}
+use Rattle.cec_compile.specs.declared.refusal.Refusal.{Refusal}
 use Rattle.cec_compile.specs.declared.refusal.Refusal.TheVariants as refusing
 use Rattle.cec_text_io.specs.Contents.{Content, Holds}
 use Rattle.cec_text_io.specs.Writings.{LeavesText}
-use Rattle.cec_prove_sources.specs.Verdicts.{AnswersBroken, AnswersHolds, IsNone, PlainQuestion}
+use Rattle.cec_prove_sources.specs.Sameness.{AreDifferent, AreSame, SharesInterface}
+use Rattle.cec_prove_sources.specs.Surveys.{IsSurveyText}
+use Rattle.cec_prove_sources.specs.Verdicts.{AnswersBroken, AnswersHolds, HasSignals, IsNone, PlainQuestion}
+use Rattle.cec_prove_sources.specs.declared.questions.Claim.{Claim}
+use Rattle.cec_prove_sources.specs.declared.questions.Layout.TheVariants.{LinePerInstant}
 use Rattle.cec_prove_commands.specs.HelpTexts.{own_text}
+use Rattle.cec_prove_commands.specs.Lines.{second_of}
 use Rattle.cec_prove_commands.specs.Statuses.{written_of}
-use Rattle.cec_prove_commands.specs.Words.{Job, Request, Tell, Ask}
+use Rattle.cec_prove_commands.specs.Words.{Job, Request, Tell, Do, Task, Ask, Survey, Compare}
 use Rattle.cec_prove_commands.specs.declared.outcome.ProveOutcome.{ProveOutcome}
-use Rattle.cec_prove_commands.specs.declared.outcome.ProveOutcome.TheVariants.{Told, Proved, Refuted, Undecided}
-use Rattle.cec_prove_commands.specs.declared.outcome.ProveOutcome.TheVariants.{NoSignal, NoAssumed, Usage, FileFault}
-use Rattle.cec_prove_commands.specs.declared.outcome.ProveOutcome.TheVariants.{Refused, WriteFault, NoMemory}
-
-abbrev pub question_of : Job → PlainQuestion
-question_of job = record { claim = job.claim; signal = job.signal; assumed = job.assumed }
+use Rattle.cec_prove_commands.specs.declared.outcome.ProveOutcome.TheVariants.{Told, Proved, Refuted, Surveyed}
+use Rattle.cec_prove_commands.specs.declared.outcome.ProveOutcome.TheVariants.{PartlySurveyed, Undecided, NoSignal}
+use Rattle.cec_prove_commands.specs.declared.outcome.ProveOutcome.TheVariants.{NoAssumed, OtherGiven, OtherOutgoing}
+use Rattle.cec_prove_commands.specs.declared.outcome.ProveOutcome.TheVariants.{OtherRelations, Usage, FileFault}
+use Rattle.cec_prove_commands.specs.declared.outcome.ProveOutcome.TheVariants.{SecondFault, Refused, SecondRefused}
+use Rattle.cec_prove_commands.specs.declared.outcome.ProveOutcome.TheVariants.{WriteFault, NoMemory}
 
 -- The bytes stand for a program that compiles, by its main module, and this is so of it.
-pub record Answered (text : List ℕ) (job : Job) (Says : Program → PlainQuestion → Type 0) : Type 0 where
+pub record Answered (text : List ℕ) (job : Job) (Says : Program → Type 0) : Type 0 where
   pub program : Program
   pub source : StandsFor text job.main program
   pub compiles : Compiles program
-  pub says : Says program (question_of job)
+  pub says : Says program
+
+-- the cause of a refusal; running out of memory is an outcome of its own
+abbrev pub IsRefusedFor : Job → Refusal → List ℕ → Type 0
+IsRefusedFor job refusing.NoMemory text = ⊥
+IsRefusedFor job refusal text = IsRefused text job.main refusal
+
+-- ---- claims
+
+abbrev pub question_of : Claim → (signal : List ℕ) → Job → PlainQuestion
+question_of claim signal job = record { claim = claim; signal = signal; assumed = job.assumed }
 
 -- the trace leads to a reaction that breaks the claim
-abbrev pub IsRefutation : Job → List ℕ → List ℕ → Type 0
-IsRefutation job text trace = Answered text job (λ p q. AnswersBroken p q trace)
+abbrev pub IsRefutation : PlainQuestion → Job → List ℕ → List ℕ → Type 0
+IsRefutation q job text trace = Answered text job (λ p. AnswersBroken LinePerInstant p q trace)
 
--- what an outcome says of the bytes that were read
-abbrev pub SaysOf : ProveOutcome → Job → List ℕ → Type 0
-SaysOf Proved job text = Answered text job AnswersHolds
-SaysOf Refuted job text = (trace : List ℕ) × IsRefutation job text trace
-SaysOf (Undecided depth) job text = Answered text job (λ p q. ⊤)
-SaysOf NoSignal job text = Answered text job (λ p q. is_among q.signal (outgoing_names p) ≡ false)
-SaysOf NoAssumed job text = Answered text job (λ p q. IsNone p q.assumed)
-SaysOf (Refused refusing.NoMemory) job text = ⊥
-SaysOf (Refused refusal) job text = IsRefused text job.main refusal
-SaysOf WriteFault job text = (trace : List ℕ) × IsRefutation job text trace
-SaysOf NoMemory job text = ⊤
-SaysOf others job text = ⊥
+abbrev pub ClaimSays : PlainQuestion → ProveOutcome → Job → List ℕ → Type 0
+ClaimSays q Proved job text = Answered text job (λ p. AnswersHolds p q)
+ClaimSays q Refuted job text = (trace : List ℕ) × IsRefutation q job text trace
+ClaimSays q (Undecided depth) job text = Answered text job (λ p. HasSignals p q)
+ClaimSays q NoSignal job text = Answered text job (λ p. is_among q.signal (outgoing_names p) ≡ false)
+ClaimSays q NoAssumed job text = Answered text job (λ p. IsNone p q.assumed)
+ClaimSays q (Refused refusal) job text = IsRefusedFor job refusal text
+ClaimSays q WriteFault job text = (trace : List ℕ) × IsRefutation q job text trace
+ClaimSays q NoMemory job text = ⊤
+ClaimSays q others job text = ⊥
+
+-- ---- surveys
+
+-- the lines are the survey of all outgoing signals, and each of them is decided, or not
+abbrev pub IsSurveyOf : Job → Bool → List ℕ → List ℕ → Type 0
+IsSurveyOf job whole text lines = Answered text job (λ p. IsSurveyText p job.assumed (outgoing_names p) lines whole)
+
+-- the lines of a survey that ended with an outcome
+abbrev pub IsSurveyBy : ProveOutcome → Job → List ℕ → List ℕ → Type 0
+IsSurveyBy Surveyed job text lines = IsSurveyOf job true text lines
+IsSurveyBy PartlySurveyed job text lines = IsSurveyOf job false text lines
+IsSurveyBy others job text lines = (whole : Bool) × IsSurveyOf job whole text lines
+
+abbrev pub SurveySays : ProveOutcome → Job → List ℕ → Type 0
+SurveySays Surveyed job text = (lines : List ℕ) × IsSurveyOf job true text lines
+SurveySays PartlySurveyed job text = (lines : List ℕ) × IsSurveyOf job false text lines
+SurveySays NoAssumed job text = Answered text job (λ p. IsNone p job.assumed)
+SurveySays (Refused refusal) job text = IsRefusedFor job refusal text
+SurveySays WriteFault job text = (whole : Bool) × ((lines : List ℕ) × IsSurveyOf job whole text lines)
+SurveySays NoMemory job text = ⊤
+SurveySays others job text = ⊥
+
+-- ---- comparisons
+
+-- The bytes of each of two texts stand for a program that compiles, and this is so of the two programs.
+pub record Compared (first second : List ℕ) (job : Job) (Says : Program → Program → Type 0) : Type 0 where
+  pub left : Program
+  pub left_source : StandsFor first job.main left
+  pub left_compiles : Compiles left
+  pub right : Program
+  pub right_source : StandsFor second job.main right
+  pub right_compiles : Compiles right
+  pub says : Says left right
+
+-- the trace leads to reactions that differ
+abbrev pub IsDistinction : Job → (first second trace : List ℕ) → Type 0
+IsDistinction job first second trace = Compared first second job (λ p q. AreDifferent p q trace)
+
+abbrev pub ComparisonSays : ProveOutcome → Job → (first second : List ℕ) → Type 0
+ComparisonSays Proved job first second = Compared first second job AreSame
+ComparisonSays Refuted job first second = (trace : List ℕ) × IsDistinction job first second trace
+ComparisonSays (Undecided depth) job first second = Compared first second job SharesInterface
+ComparisonSays OtherGiven job first second = Compared first second job (λ p q. given_names p ≢ given_names q)
+ComparisonSays OtherOutgoing job first second = Compared first second job (λ p q. outgoing_names p ≢ outgoing_names q)
+ComparisonSays OtherRelations job first second = Compared first second job (λ p q. p.relations ≢ q.relations)
+ComparisonSays (Refused refusal) job first second = IsRefusedFor job refusal first
+ComparisonSays (SecondRefused refusal) job first second = IsRefusedFor job refusal second
+ComparisonSays WriteFault job first second = (trace : List ℕ) × IsDistinction job first second trace
+ComparisonSays NoMemory job first second = ⊤
+ComparisonSays others job first second = ⊥
+
+-- ---- files
+
+-- a fact about the bytes in two files
+abbrev pub BothHold : Content → (first second : List ℕ) → (List ℕ → List ℕ → Type 0) → Type 0
+BothHold content first second fact = Holds content first (λ text. Holds content second (fact text))
 
 -- what an outcome says of the file with the source; a file fault says nothing of bytes
-abbrev pub AgreesOnFile : Content → Job → ProveOutcome → Type 0
-AgreesOnFile content job FileFault = ⊤
-AgreesOnFile content job others = Holds content job.name (SaysOf others job)
+abbrev pub AgreesOnFile : Content → (name : List ℕ) → (ProveOutcome → List ℕ → Type 0) → ProveOutcome → Type 0
+AgreesOnFile content name Says FileFault = ⊤
+AgreesOnFile content name Says others = Holds content name (Says others)
+
+-- the same of two files; where one of the sources is refused, it says nothing of the other one
+abbrev pub AgreesOnFiles : Content → Job → (other : List ℕ) → ProveOutcome → Type 0
+AgreesOnFiles content job other FileFault = ⊤
+AgreesOnFiles content job other SecondFault = ⊤
+AgreesOnFiles content job other (Refused refusal) = Holds content job.name (IsRefusedFor job refusal)
+AgreesOnFiles content job other (SecondRefused refusal) = Holds content other (IsRefusedFor job refusal)
+AgreesOnFiles content job other others = BothHold content job.name other (ComparisonSays others job)
+
+abbrev pub AgreesOnTask : Task → Content → Job → ProveOutcome → Type 0
+AgreesOnTask (Ask claim signal) content job outcome =
+    AgreesOnFile content job.name (λ o text. ClaimSays (question_of claim signal job) o job text) outcome
+AgreesOnTask Survey content job outcome = AgreesOnFile content job.name (λ o text. SurveySays o job text) outcome
+AgreesOnTask (Compare other) content job outcome = AgreesOnFiles content job other outcome
 
 -- how a command ends that reads no file
 abbrev pub IsWriting : ProveOutcome → Type 0
@@ -62,20 +146,34 @@ IsWriting others = ⊥
 abbrev pub IsOutcomeOf : Option Request → Content → ProveOutcome → Type 0
 IsOutcomeOf None content outcome = outcome ≡ Usage
 IsOutcomeOf (Some (Tell about)) content outcome = IsWriting outcome
-IsOutcomeOf (Some (Ask job)) content outcome = AgreesOnFile content job outcome
+IsOutcomeOf (Some (Do job)) content outcome = AgreesOnTask job.task content job outcome
 
 -- The count of faults of the files and the name that failed last: a file fault raised the count, and the name is the
 -- file's; every other outcome leaves both.
+abbrev pub CountsJob : Job → ProveOutcome → (before now : ℕ) (failed_before failed_now : List ℕ) → Type 0
+CountsJob job FileFault before now failed_before failed_now = Notes before now job.name failed_now
+CountsJob job SecondFault before now failed_before failed_now = Notes before now (second_of job.task) failed_now
+CountsJob job others before now failed_before failed_now = KeepsFaults before now failed_before failed_now
+
 abbrev pub CountsFiles : Option Request → ProveOutcome → (before now : ℕ) (failed_before failed_now : List ℕ) → Type 0
-CountsFiles (Some (Ask job)) FileFault before now failed_before failed_now = Notes before now job.name failed_now
-CountsFiles asked others before now failed_before failed_now = KeepsFaults before now failed_before failed_now
+CountsFiles (Some (Do job)) outcome before now failed_before failed_now =
+    CountsJob job outcome before now failed_before failed_now
+CountsFiles (Some (Tell about)) outcome before now failed_before failed_now =
+    KeepsFaults before now failed_before failed_now
+CountsFiles None outcome before now failed_before failed_now = KeepsFaults before now failed_before failed_now
 
--- a trace that refutes the claim about the source in the file
-abbrev pub IsTraceOf : Job → Content → List ℕ → Type 0
-IsTraceOf job content trace = Holds content job.name (λ text. IsRefutation job text trace)
+-- ---- what is written
 
--- what `out` gained: of a refutation the trace, and else nothing
+-- what a task writes about the sources in the files, where it ends with an outcome: a trace or a survey
+abbrev pub IsTextOf : Task → Job → Content → ProveOutcome → List ℕ → Type 0
+IsTextOf (Ask claim signal) job content outcome written =
+    Holds content job.name (λ text. IsRefutation (question_of claim signal job) job text written)
+IsTextOf Survey job content outcome written = Holds content job.name (λ text. IsSurveyBy outcome job text written)
+IsTextOf (Compare other) job content outcome written =
+    BothHold content job.name other (λ first second. IsDistinction job first second written)
+
+-- what `out` gained: what a task writes, or what the program writes about itself, and else nothing
 abbrev pub GainsOut : Option Request → Content → ProveOutcome → SinkChange → Type 0
 GainsOut None content outcome s = Appends s.before s.after s.faults_before s.faults_now []
 GainsOut (Some (Tell about)) content outcome s = LeavesText (λ written. written ≡ own_text about) s (written_of outcome)
-GainsOut (Some (Ask job)) content outcome s = LeavesText (IsTraceOf job content) s (written_of outcome)
+GainsOut (Some (Do job)) content outcome s = LeavesText (IsTextOf job.task job content outcome) s (written_of outcome)

@@ -1,31 +1,53 @@
 -- Inner: the plain form of what is asked for.
-use Rattle.std.specs.Prelude.{option_map}
+use Rattle.std.specs.Prelude.{ℕ, List, option_map}
 use Rattle.cec_prove_commands.specs.declared.lines.Subject as subjects
+use Rattle.cec_prove_commands.specs.declared.words.Command as commands
+use Rattle.cec_prove_commands.specs.declared.words.Command.TheVariants as commanded
 use Rattle.cec_prove_commands.specs.declared.words.Job as jobs
 use Rattle.cec_prove_commands.specs.declared.words.Request as requests
 use Rattle.cec_prove_commands.specs.declared.words.Request.TheVariants as asks
+use Rattle.cec_prove_commands.specs.declared.words.Task as tasks
+use Rattle.cec_prove_commands.specs.declared.words.Task.TheVariants as doing
+use Rattle.cec_prove_commands.specs.declared.outcome.ProveOutcome.{ProveOutcome}
+use Rattle.cec_prove_commands.specs.declared.outcome.ProveOutcome.TheVariants.{SecondRefused}
 use Rattle.cec_prove_commands.specs.Lines.{Subject}
-use Rattle.cec_prove_commands.specs.Words.{Job, Request, Tell, Ask}
+use Rattle.cec_prove_commands.specs.Words.{Command, Asks, Surveys, Compares, Job, Request, Tell, Do, Task, Ask, Survey}
+use Rattle.cec_prove_commands.specs.Words.{Compare}
 
-abbrev pub plain_job : jobs.Job → Job
-plain_job job = record {
-  claim = job.claim;
-  signal = job.signal.now;
+abbrev pub command_is : commands.Command → Command
+command_is (commanded.Asks claim) = Asks claim
+command_is commanded.Surveys = Surveys
+command_is commanded.Compares = Compares
+
+abbrev pub task_is : tasks.Task → Task
+task_is (doing.Ask claim signal) = Ask claim signal.now
+task_is doing.Survey = Survey
+task_is (doing.Compare other) = Compare other.now
+
+abbrev pub job_is : jobs.Job → Job
+job_is job = record {
+  task = task_is job.task;
   name = job.name.now;
   assumed = option_map (λ s. s.now) job.assumed;
   main = option_map (λ s. s.now) job.main;
   level = job.level;
 }
 
-abbrev pub plain_request : requests.Request → Request
-plain_request (asks.Tell about) = Tell about
-plain_request (asks.Ask job) = Ask (plain_job job)
+abbrev pub request_is : requests.Request → Request
+request_is (asks.Tell about) = Tell about
+request_is (asks.Do job) = Do (job_is job)
 
-abbrev pub plain_subject : subjects.Subject → Subject
-plain_subject s = record {
+abbrev pub subject_is : subjects.Subject → Subject
+subject_is s = record {
   name = s.name.now;
+  other = s.other.now;
   signal = s.signal.now;
   assumed = s.assumed.now;
   main = s.main.now;
   source = s.source.now;
 }
+
+-- the source that a line about a comparison speaks of: the second one where it is refused
+abbrev pub spoken_of : ProveOutcome → (first second : List ℕ) → List ℕ
+spoken_of (SecondRefused refusal) first second = second
+spoken_of others first second = first

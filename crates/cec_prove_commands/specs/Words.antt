@@ -1,16 +1,33 @@
--- Contract: what the words of a command line ask for.
-use Rattle.std.specs.Prelude.{ℕ, ◌-◌, ◌==◌, ◌&&◌, ◌||◌, Bool, false, not, if◌then◌else◌, List, [], ◌∷◌, ◌++◌, codes}
-use Rattle.std.specs.Prelude.{Option, Some, None, nat_le, option_and_then, option_map, is_some}
+-- To believe: what the words of a command line ask for.
+use Rattle.std.specs.Prelude.{ℕ, ◌-◌, ◌==◌, ◌&&◌, ◌||◌, Bool, true, false, not, if◌then◌else◌, List, [], ◌∷◌, ◌++◌}
+use Rattle.std.specs.Prelude.{codes, Option, Some, None, nat_le, option_and_then, option_map, is_some}
 use Rattle.base_types.specs.Names.{is_same_name}
 use Rattle.cec_prove_sources.specs.declared.questions.Claim.{Claim}
 use Rattle.cec_prove_sources.specs.declared.questions.Claim.TheVariants.{Never, Always}
 use Rattle.cec_prove_commands.specs.declared.words.About.{About}
 use Rattle.cec_prove_commands.specs.declared.words.About.TheVariants.{Commands, Version}
 
--- a question about the source in the file of this name
+-- a command
+pub data Command : Type 0 where
+  -- a claim about an outgoing signal
+  Asks : (claim : Claim) → Command
+  -- all outgoing signals
+  Surveys : Command
+  -- two sources
+  Compares : Command
+
+-- what a command finds out about a source
+pub data Task : Type 0 where
+  -- whether a claim about the outgoing signal of this name holds
+  Ask : (claim : Claim) (signal : List ℕ) → Task
+  -- when each outgoing signal is present
+  Survey : Task
+  -- whether the source in the file of this name does the same
+  Compare : (other : List ℕ) → Task
+
+-- a task about the source in the file of this name
 pub record Job : Type 0 where
-  pub claim : Claim
-  pub signal : List ℕ
+  pub task : Task
   pub name : List ℕ
   pub assumed : Option (List ℕ)
   pub main : Option (List ℕ)
@@ -20,18 +37,20 @@ pub record Job : Type 0 where
 pub data Request : Type 0 where
   -- what the program writes about itself
   Tell : (about : About) → Request
-  -- a question
-  Ask : (job : Job) → Request
+  -- a task
+  Do : (job : Job) → Request
 
 -- a name: not empty, and its first byte is not `-`
 abbrev pub is_plain : List ℕ → Bool
 is_plain [] = false
 is_plain (c ∷ cs) = not (c == 45)
 
-abbrev pub claim_of : List ℕ → Option Claim
-claim_of word =
-    if is_same_name word (codes "never") then Some Never
-    else if is_same_name word (codes "always") then Some Always
+abbrev pub command_of : List ℕ → Option Command
+command_of word =
+    if is_same_name word (codes "never") then Some (Asks Never)
+    else if is_same_name word (codes "always") then Some (Asks Always)
+    else if is_same_name word (codes "all") then Some Surveys
+    else if is_same_name word (codes "same") then Some Compares
     else None
 
 -- one word alone
@@ -43,9 +62,16 @@ word_asked word =
 
 -- ---- options, each at most once
 
+-- a comparison assumes nothing
+abbrev pub is_comparison : Task → Bool
+is_comparison (Ask claim signal) = false
+is_comparison Survey = false
+is_comparison (Compare other) = true
+
 abbrev pub with_assumed : Job → List ℕ → Option Job
 with_assumed job value =
-    if is_some job.assumed || not (is_plain value) then None else Some (record job { assumed = Some value })
+    if is_comparison job.task || (is_some job.assumed || not (is_plain value)) then None
+    else Some (record job { assumed = Some value })
 
 abbrev pub with_main : Job → List ℕ → Option Job
 with_main job value =
@@ -75,56 +101,96 @@ job_with job (key ∷ value ∷ more) = option_and_then (λ next. job_with next 
 
 -- ---- all words
 
-abbrev pub plain_asked : Claim → (signal name : List ℕ) → Job
-plain_asked claim signal name =
-    record { claim = claim; signal = signal; name = name; assumed = None; main = None; level = None }
+-- a task without options
+abbrev pub plain_job : Task → (name : List ℕ) → Job
+plain_job task name = record { task = task; name = name; assumed = None; main = None; level = None }
 
--- a command, a signal, a file and options
-abbrev pub job_asked : (command signal name : List ℕ) → List (List ℕ) → Option Request
-job_asked command signal name options = option_and_then (λ claim.
-    if not (is_plain signal) || not (is_plain name) then None
-    else option_map Ask (job_with (plain_asked claim signal name) options)) (claim_of command)
+-- a task about a file, with options
+abbrev pub job_asked : Task → (name : List ℕ) → List (List ℕ) → Option Request
+job_asked task name options = option_map Do (job_with (plain_job task name) options)
+
+-- after a claim come a signal and a file
+abbrev pub claim_asked : Claim → List (List ℕ) → Option Request
+claim_asked claim [] = None
+claim_asked claim (signal ∷ []) = None
+claim_asked claim (signal ∷ name ∷ options) =
+    if not (is_plain signal) || not (is_plain name) then None else job_asked (Ask claim signal) name options
+
+-- after `all` comes a file
+abbrev pub survey_asked : List (List ℕ) → Option Request
+survey_asked [] = None
+survey_asked (name ∷ options) = if not (is_plain name) then None else job_asked Survey name options
+
+-- after `same` come two files
+abbrev pub comparison_asked : List (List ℕ) → Option Request
+comparison_asked [] = None
+comparison_asked (name ∷ []) = None
+comparison_asked (name ∷ other ∷ options) =
+    if not (is_plain name) || not (is_plain other) then None else job_asked (Compare other) name options
+
+abbrev pub command_asked : Command → List (List ℕ) → Option Request
+command_asked (Asks claim) rest = claim_asked claim rest
+command_asked Surveys rest = survey_asked rest
+command_asked Compares rest = comparison_asked rest
 
 -- every other list of words has no meaning
 abbrev pub request_by : List (List ℕ) → Option Request
 request_by [] = None
 request_by (word ∷ []) = word_asked word
-request_by (command ∷ signal ∷ []) = None
-request_by (command ∷ signal ∷ name ∷ options) = job_asked command signal name options
+request_by (word ∷ next ∷ rest) =
+    option_and_then (λ command. command_asked command (next ∷ rest)) (command_of word)
 
 -- ---- what is wrong with words that have no meaning
 
-abbrev pub misuse_behind : (key : List ℕ) → (Job → List ℕ) → Option Job → List ℕ
-misuse_behind key rest None = codes "bad option: " ++ key
-misuse_behind key rest (Some next) = rest next
+abbrev pub misuse_of_rest : (key : List ℕ) → (Job → List ℕ) → Option Job → List ℕ
+misuse_of_rest key rest None = codes "bad option: " ++ key
+misuse_of_rest key rest (Some next) = rest next
 
 -- the first option without a value, unknown, given before, or with a value that it does not take
 abbrev pub misuse_of_options : Job → List (List ℕ) → List ℕ
 misuse_of_options job [] = codes "no fault"
 misuse_of_options job (key ∷ []) = codes "no value after " ++ key
 misuse_of_options job (key ∷ value ∷ more) =
-    misuse_behind key (λ next. misuse_of_options next more) (with_option job key value)
+    misuse_of_rest key (λ next. misuse_of_options next more) (with_option job key value)
 
--- after a command come a signal, a file, and options
-abbrev pub misuse_of_job : Claim → (command : List ℕ) → List (List ℕ) → List ℕ
-misuse_of_job claim command [] = codes "no signal after " ++ command
-misuse_of_job claim command (signal ∷ []) =
-    if not (is_plain signal) then codes "not a signal: " ++ signal else codes "no file after " ++ signal
-misuse_of_job claim command (signal ∷ name ∷ options) =
+-- in words that begin with a file: it, and then the options
+abbrev pub misuse_of_file : Task → (before : List ℕ) → List (List ℕ) → List ℕ
+misuse_of_file task before [] = codes "no file after " ++ before
+misuse_of_file task before (name ∷ options) =
+    if not (is_plain name) then codes "not a file: " ++ name else misuse_of_options (plain_job task name) options
+
+-- after a claim come a signal, a file, and options
+abbrev pub misuse_of_claim : Claim → (command : List ℕ) → List (List ℕ) → List ℕ
+misuse_of_claim claim command [] = codes "no signal after " ++ command
+misuse_of_claim claim command (signal ∷ rest) =
     if not (is_plain signal) then codes "not a signal: " ++ signal
-    else if not (is_plain name) then codes "not a file: " ++ name
-    else misuse_of_options (plain_asked claim signal name) options
+    else misuse_of_file (Ask claim signal) signal rest
+
+-- after `same` come two files, and options
+abbrev pub misuse_of_comparison : (command : List ℕ) → List (List ℕ) → List ℕ
+misuse_of_comparison command [] = codes "no file after " ++ command
+misuse_of_comparison command (name ∷ []) =
+    if not (is_plain name) then codes "not a file: " ++ name else codes "no file after " ++ name
+misuse_of_comparison command (name ∷ other ∷ options) =
+    if not (is_plain name) then codes "not a file: " ++ name
+    else if not (is_plain other) then codes "not a file: " ++ other
+    else misuse_of_options (plain_job (Compare other) name) options
+
+abbrev pub misuse_of_command : Command → (command : List ℕ) → List (List ℕ) → List ℕ
+misuse_of_command (Asks claim) command rest = misuse_of_claim claim command rest
+misuse_of_command Surveys command rest = misuse_of_file Survey command rest
+misuse_of_command Compares command rest = misuse_of_comparison command rest
 
 -- after a word that asks about the program comes none; such a word alone has a meaning
 abbrev pub misuse_of_own : (word : List ℕ) → List (List ℕ) → List ℕ
 misuse_of_own word [] = codes "unknown word: " ++ word
 misuse_of_own word (more ∷ others) = codes "one word too many: " ++ more
 
-abbrev pub misuse_after : (word : List ℕ) → Option Claim → Option Request → List (List ℕ) → List ℕ
-misuse_after word (Some claim) own rest = misuse_of_job claim word rest
+abbrev pub misuse_after : (word : List ℕ) → Option Command → Option Request → List (List ℕ) → List ℕ
+misuse_after word (Some command) own rest = misuse_of_command command word rest
 misuse_after word None (Some request) rest = misuse_of_own word rest
 misuse_after word None None rest = codes "unknown word: " ++ word
 
 abbrev pub misuse_of : List (List ℕ) → List ℕ
 misuse_of [] = codes "no command"
-misuse_of (word ∷ rest) = misuse_after word (claim_of word) (word_asked word) rest
+misuse_of (word ∷ rest) = misuse_after word (command_of word) (word_asked word) rest

@@ -1,26 +1,34 @@
 // The top call: what the words ask for, done.
 
-ghost use Rattle.std.specs.Prelude.{◌≡◌, ◌↔◌, length, map, Some, None};
+ghost use Rattle.std.specs.Prelude.{◌≡◌, ◌≤◌, ◌↔◌, length, map, Some, None};
 ghost use Rattle.std.specs.String.{string_bytes};
 ghost use Rattle.base_types.specs.SinkChanges.{change};
+ghost use Rattle.cec_text_io.specs.Contents.{IsHeld};
 ghost use Rattle.cec_text_io.specs.ErrorLines.{GainsLine};
 ghost use Rattle.cec_prove_commands.specs.HelpTexts.{own_text};
-ghost use Rattle.cec_prove_commands.specs.Lines.{GainsErr, GainsJobErr, job_subject, line_of, nothing};
-ghost use Rattle.cec_prove_commands.specs.Outcomes.{IsOutcomeOf, CountsFiles, GainsOut};
-ghost use Rattle.cec_prove_commands.specs.Views.{plain_job, plain_subject};
-ghost use Rattle.cec_prove_commands.specs.Words.{request_by, Ask, Tell};
+ghost use Rattle.cec_prove_commands.specs.Lines.{GainsErr, GainsJobErr, job_subject, line_of, nothing, second_of};
+ghost use Rattle.cec_prove_commands.specs.Lines.{asked_signal};
+ghost use Rattle.cec_text_io.specs.Writings.{LeavesText};
+ghost use Rattle.cec_prove_commands.specs.Outcomes.{ClaimSays, ComparisonSays, CountsFiles, GainsOut, IsDistinction};
+ghost use Rattle.cec_prove_commands.specs.Outcomes.{IsOutcomeOf, IsRefutation, IsSurveyBy, SurveySays, question_of};
+ghost use Rattle.cec_prove_commands.specs.Statuses.{written_of};
+ghost use Rattle.cec_prove_commands.specs.Views.{job_is, spoken_of, subject_is, task_is};
+ghost use Rattle.cec_prove_commands.specs.Words.{request_by, Compare, Do, Tell};
 
 use crate::lines::{Subject, report, report_misuse};
-use crate::outcome::{ProveOutcome, told_outcome, unread_outcome};
-use crate::sources::do_job;
-use crate::words::{About, Job, Request, request_by};
+use crate::outcome::{ProveOutcome, second_unread_outcome, unread_outcome, written_outcome};
+use crate::sources::{do_claim, do_comparison, do_survey};
+use crate::words::{About, Job, Request, Task, request_by};
 use base_types::{Files, Limits, Sink};
+use cec_prove_sources::Claim;
 use cec_text_io::write_whole;
 use std::alloc::Global;
 
 const HELP: &[u8] = b"cec-prove never SIGNAL FILE    whether SIGNAL is never present
 cec-prove always SIGNAL FILE   whether SIGNAL is present in each instant
-    --assume SIGNAL            where this signal is present in each instant
+cec-prove all FILE             when each outgoing signal is present
+cec-prove same FILE FILE       whether two sources do the same
+    --assume SIGNAL            where this signal is present in each instant; not of same
     --main M                   of the module M, not of the first one
     --effort N                 how long to search, from 1 to 9; without it 5
 cec-prove --help               writes these lines
@@ -31,16 +39,23 @@ const VERSION: &[u8] = b"cec-prove 0.1.0\n";
 
 /// Does what the words after the program's name ask for, and says how it ended.
 ///
-/// `never SIGNAL FILE` reads the source under that name and answers whether the outgoing signal is present in no
-/// reaction, `always SIGNAL FILE` whether it is present in each. `--assume SIGNAL` asks this of the runs in each of
-/// whose reactions another outgoing signal is present, `--main M` of the module M, and `--effort N` says how long to
-/// search. `--help` writes the list of the commands, and `--version` the program's name and version. Every other list
-/// of words is `Usage`. For every outcome but `Told` one line goes to `err`, which for `Usage` names the word at fault;
-/// a write to `err` that fails changes no outcome.
+/// - `never SIGNAL FILE` reads the source under that name and answers whether the outgoing signal is present in no
+///   reaction, `always SIGNAL FILE` whether it is present in each.
+/// - `all FILE` writes when each outgoing signal is present: in no reaction, in each one, or in some, with a trace to
+///   one in which it is present and a trace to one in which it is absent.
+/// - `same FILE FILE` answers whether two sources do the same.
+/// - `--assume SIGNAL` asks `never`, `always` and `all` of the runs in each of whose reactions another outgoing signal
+///   is present, `--main M` asks of the module M, and `--effort N` says how long to search.
+/// - `--help` writes the list of the commands, and `--version` the program's name and version.
 ///
-/// `Proved` holds of every list of events that meet the source's relations, and resets: each reaction is constructive,
-/// and in each the signal is as claimed (`ClaimHolds`), whatever the search does. For `Refuted` the trace that `out`
-/// gained leads to a reaction in which it is not (`IsBroken`). `Undecided` says nothing.
+/// Every other list of words is `Usage`. For every outcome but `Told` one line goes to `err`, which for `Usage` names
+/// the word at fault; a write to `err` that fails changes no outcome.
+///
+/// `Proved` of a claim holds of every list of events that meet the source's relations, and resets: each reaction is
+/// constructive, and in each the signal is as claimed (`ClaimHolds`), whatever the search does. For `Refuted` the trace
+/// that `out` gained leads to a reaction in which it is not (`IsBroken`). Of a comparison `Proved` says that both
+/// sources have the same reactions (`SameAnswers`), and the trace of `Refuted` leads to reactions that differ
+/// (`IsDifference`). `Undecided` says only that the signals exist, or that the interfaces are the same.
 pub fn cec_prove<F: Files, O: Sink, E: Sink>(
     alloc: Global,
     words: &[String],
@@ -60,7 +75,7 @@ pub fn cec_prove<F: Files, O: Sink, E: Sink>(
         (E.told err.old) (E.told err.new) (E.faults err.old) (E.faults err.new) }
 {
     match request_by(words) {
-        Some(Request::Ask(job)) => do_file(alloc, job, files, out, err),
+        Some(Request::Do(job)) => do_file(alloc, job, files, out, err),
         Some(Request::Tell(about)) => tell(about, out, err),
         None => {
             report_misuse(err, words);
@@ -76,18 +91,19 @@ fn tell<O: Sink, E: Sink>(about: About, out: &mut O, err: &mut E) -> ProveOutcom
     ensures err { GainsLine (E.told err.old) (E.told err.new) (E.faults err.old) (E.faults err.new)
         (line_of nothing result) }
 {
-    let outcome = told_outcome(write_whole(own_text(about), out));
+    let outcome = written_outcome(ProveOutcome::Told, write_whole(own_text(about), out));
     report(err, subject_of_none(), &outcome);
     outcome
 }
 
 // Nothing to speak of.
 fn subject_of_none() -> Subject<'static>
-    ensures none { plain_subject result ≡ nothing }
+    ensures none { subject_is result ≡ nothing }
     ensures short { length result.source.now ≡ 0 }
 {
     Subject {
         name: "",
+        other: "",
         signal: b"",
         assumed: b"",
         main: b"",
@@ -104,21 +120,42 @@ fn own_text(about: About) -> &'static [u8]
     }
 }
 
-// What a line about a question speaks of.
+// The signal that a task asks about.
+fn asked_signal(task: Task<'_>) -> &[u8]
+    ensures { result.now ≡ asked_signal (task_is task.entry) }
+{
+    match task {
+        Task::Ask(_, signal) => signal,
+        Task::Survey | Task::Compare(_) => b"",
+    }
+}
+
+// The second file of a task.
+fn second_of(task: Task<'_>) -> &str
+    ensures { result.now ≡ second_of (task_is task.entry) }
+{
+    match task {
+        Task::Ask(_, _) | Task::Survey => "",
+        Task::Compare(other) => other,
+    }
+}
+
+// What a line about a task speaks of.
 fn subject_of<'a>(job: Job<'a>, source: &'a [u8]) -> Subject<'a>
-    ensures subject { plain_subject result ≡ job_subject (plain_job job.entry) source.now }
+    ensures subject { subject_is result ≡ job_subject (job_is job.entry) source.now }
     ensures source { result.source.now ≡ source.now }
 {
     Subject {
         name: job.name,
-        signal: job.signal,
+        other: second_of(job.task),
+        signal: asked_signal(job.task),
         assumed: job.assumed.unwrap_or(b""),
         main: job.main.unwrap_or(b""),
         source,
     }
 }
 
-// Answers a question about the source in a file.
+// Does a task about the source in a file.
 fn do_file<F: Files, O: Sink, E: Sink>(
     alloc: Global,
     job: Job<'_>,
@@ -126,25 +163,159 @@ fn do_file<F: Files, O: Sink, E: Sink>(
     out: &mut O,
     err: &mut E,
 ) -> ProveOutcome
-    ensures agrees { IsOutcomeOf (Some (Ask (plain_job job.entry))) (F.content files.old) result }
-    ensures files_counted { CountsFiles (Some (Ask (plain_job job.entry))) result
+    ensures agrees { IsOutcomeOf (Some (Do (job_is job.entry))) (F.content files.old) result }
+    ensures files_counted { CountsFiles (Some (Do (job_is job.entry))) result
         (F.faults files.old) (F.faults files.new) (F.last_failed files.old) (F.last_failed files.new) }
     ensures files_stay { F.content files.new ≡ F.content files.old }
-    ensures out { GainsOut (Some (Ask (plain_job job.entry))) (F.content files.old) result
+    ensures out { GainsOut (Some (Do (job_is job.entry))) (F.content files.old) result
         (change O.told O.faults out.old out.new) }
-    ensures err { GainsJobErr (plain_job job.entry) (F.content files.old) result
+    ensures err { GainsJobErr (job_is job.entry) (F.content files.old) result
         (E.told err.old) (E.told err.new) (E.faults err.old) (E.faults err.new) }
 {
     match files.read(alloc, job.name, Limits::SOURCE_BYTES) {
-        Ok(text) => {
-            let outcome = do_job(alloc, job, &text, out);
-            report(err, subject_of(job, &text), &outcome);
-            outcome
-        }
+        Ok(text) => do_text(alloc, job, &text, files, out, err),
         Err(fault) => {
             let outcome = unread_outcome(fault);
             report(err, subject_of(job, b""), &outcome);
             outcome
         }
+    }
+}
+
+// Does a task about the source that was read.
+fn do_text<F: Files, O: Sink, E: Sink>(
+    alloc: Global,
+    job: Job<'_>,
+    text: &[u8],
+    files: &mut F,
+    out: &mut O,
+    err: &mut E,
+) -> ProveOutcome
+    requires short { length text.now ≤ Limits.SOURCE_BYTES }
+    requires held { IsHeld (F.content files.old) job.name.now text.now }
+    ensures agrees { IsOutcomeOf (Some (Do (job_is job.entry))) (F.content files.old) result }
+    ensures files_counted { CountsFiles (Some (Do (job_is job.entry))) result
+        (F.faults files.old) (F.faults files.new) (F.last_failed files.old) (F.last_failed files.new) }
+    ensures files_stay { F.content files.new ≡ F.content files.old }
+    ensures out { GainsOut (Some (Do (job_is job.entry))) (F.content files.old) result
+        (change O.told O.faults out.old out.new) }
+    ensures err { GainsJobErr (job_is job.entry) (F.content files.old) result
+        (E.told err.old) (E.told err.new) (E.faults err.old) (E.faults err.new) }
+{
+    match job.task {
+        Task::Ask(claim, signal) => told_claim(alloc, job, claim, signal, text, out, err),
+        Task::Survey => told_survey(alloc, job, text, out, err),
+        Task::Compare(other) => do_second(alloc, job, other, text, files, out, err),
+    }
+}
+
+// Answers a claim about a text, and writes the line of the outcome.
+fn told_claim<O: Sink, E: Sink>(
+    alloc: Global,
+    job: Job<'_>,
+    claim: Claim,
+    signal: &[u8],
+    text: &[u8],
+    out: &mut O,
+    err: &mut E,
+) -> ProveOutcome
+    requires { length text.now ≤ Limits.SOURCE_BYTES }
+    ensures says { ClaimSays (question_of claim signal.now (job_is job.entry)) result (job_is job.entry) text.now }
+    ensures out { LeavesText
+        (IsRefutation (question_of claim signal.now (job_is job.entry)) (job_is job.entry) text.now)
+        (change O.told O.faults out.old out.new) (written_of result) }
+    ensures err { GainsLine (E.told err.old) (E.told err.new) (E.faults err.old) (E.faults err.new)
+        (line_of (job_subject (job_is job.entry) text.now) result) }
+{
+    let outcome = do_claim(alloc, job, claim, signal, text, out);
+    report(err, subject_of(job, text), &outcome);
+    outcome
+}
+
+// Writes the survey of a text, and the line of the outcome.
+fn told_survey<O: Sink, E: Sink>(
+    alloc: Global,
+    job: Job<'_>,
+    text: &[u8],
+    out: &mut O,
+    err: &mut E,
+) -> ProveOutcome
+    requires { length text.now ≤ Limits.SOURCE_BYTES }
+    ensures says { SurveySays result (job_is job.entry) text.now }
+    ensures out { LeavesText (IsSurveyBy result (job_is job.entry) text.now)
+        (change O.told O.faults out.old out.new) (written_of result) }
+    ensures err { GainsLine (E.told err.old) (E.told err.new) (E.faults err.old) (E.faults err.new)
+        (line_of (job_subject (job_is job.entry) text.now) result) }
+{
+    let outcome = do_survey(alloc, job, text, out);
+    report(err, subject_of(job, text), &outcome);
+    outcome
+}
+
+// Compares two texts, and writes the line of the outcome.
+fn told_comparison<O: Sink, E: Sink>(
+    alloc: Global,
+    job: Job<'_>,
+    first: &[u8],
+    second: &[u8],
+    out: &mut O,
+    err: &mut E,
+) -> ProveOutcome
+    requires first { length first.now ≤ Limits.SOURCE_BYTES }
+    requires second { length second.now ≤ Limits.SOURCE_BYTES }
+    ensures says { ComparisonSays result (job_is job.entry) first.now second.now }
+    ensures out { LeavesText (IsDistinction (job_is job.entry) first.now second.now)
+        (change O.told O.faults out.old out.new) (written_of result) }
+    ensures err { GainsLine (E.told err.old) (E.told err.new) (E.faults err.old) (E.faults err.new)
+        (line_of (job_subject (job_is job.entry) (spoken_of result first.now second.now)) result) }
+{
+    let outcome = do_comparison(alloc, job, first, second, out);
+    report(
+        err,
+        subject_of(job, spoken_of(&outcome, first, second)),
+        &outcome,
+    );
+    outcome
+}
+
+// Does a comparison of the source that was read with that in a file.
+fn do_second<F: Files, O: Sink, E: Sink>(
+    alloc: Global,
+    job: Job<'_>,
+    other: &str,
+    text: &[u8],
+    files: &mut F,
+    out: &mut O,
+    err: &mut E,
+) -> ProveOutcome
+    requires short { length text.now ≤ Limits.SOURCE_BYTES }
+    requires held { IsHeld (F.content files.old) job.name.now text.now }
+    requires compares { task_is job.task ≡ Compare other.now }
+    ensures agrees { IsOutcomeOf (Some (Do (job_is job.entry))) (F.content files.old) result }
+    ensures files_counted { CountsFiles (Some (Do (job_is job.entry))) result
+        (F.faults files.old) (F.faults files.new) (F.last_failed files.old) (F.last_failed files.new) }
+    ensures files_stay { F.content files.new ≡ F.content files.old }
+    ensures out { GainsOut (Some (Do (job_is job.entry))) (F.content files.old) result
+        (change O.told O.faults out.old out.new) }
+    ensures err { GainsJobErr (job_is job.entry) (F.content files.old) result
+        (E.told err.old) (E.told err.new) (E.faults err.old) (E.faults err.new) }
+{
+    match files.read(alloc, other, Limits::SOURCE_BYTES) {
+        Ok(second) => told_comparison(alloc, job, text, &second, out, err),
+        Err(fault) => {
+            let outcome = second_unread_outcome(fault);
+            report(err, subject_of(job, b""), &outcome);
+            outcome
+        }
+    }
+}
+
+// The source that a line speaks of: the second one where it is refused.
+fn spoken_of<'a>(outcome: &ProveOutcome, first: &'a [u8], second: &'a [u8]) -> &'a [u8]
+    ensures { result.now ≡ spoken_of outcome.now first.now second.now }
+{
+    match outcome {
+        ProveOutcome::SecondRefused(_) => second,
+        _ => first,
     }
 }

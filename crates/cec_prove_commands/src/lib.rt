@@ -1,8 +1,9 @@
 //! The prover of properties as a program: the top call, from the words of a command line on.
 //!
-//! `cec_prove` reads the words, reads a source, and answers whether an outgoing signal of it is never, or always,
-//! present (`cec_prove_sources`). Its contract says that `Proved` holds of every run of the source, and that the trace
-//! of `Refuted` leads to a reaction that shows otherwise.
+//! `cec_prove` reads the words and a source, and answers whether an outgoing signal of it is never, or always, present,
+//! surveys all of its outgoing signals, or compares it with another source (`cec_prove_sources`). Its contract says
+//! that `Proved` holds of every run of the source, and that the trace of `Refuted` leads to a reaction that shows
+//! otherwise.
 #![tactic(auto)]
 
 mod command;

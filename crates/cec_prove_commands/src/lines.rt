@@ -5,7 +5,7 @@ ghost use Rattle.std.specs.String.{string_bytes};
 ghost use Rattle.base_types.specs.Writing.{Wrote};
 ghost use Rattle.cec_text_io.specs.ErrorLines.{GainsLine};
 ghost use Rattle.cec_prove_commands.specs.Lines.{line_of, own_line, refusal_line};
-ghost use Rattle.cec_prove_commands.specs.Views.{plain_subject};
+ghost use Rattle.cec_prove_commands.specs.Views.{subject_is};
 ghost use Rattle.cec_prove_commands.specs.Words.{misuse_of};
 
 use crate::outcome::ProveOutcome;
@@ -15,10 +15,11 @@ use cec_compile::Refusal;
 use est_front::put_fault;
 use itoa::Buffer;
 
-/// What a line speaks of: the name of the file, the signals, the main module, and the source.
+/// What a line speaks of: the names of the files, the signals, the main module, and the source.
 #[derive(Clone, Copy)]
 pub(crate) struct Subject<'a> {
     pub(crate) name: &'a str,
+    pub(crate) other: &'a str,
     pub(crate) signal: &'a [u8],
     pub(crate) assumed: &'a [u8],
     pub(crate) main: &'a [u8],
@@ -29,7 +30,7 @@ pub(crate) struct Subject<'a> {
 pub(crate) fn report<E: Sink>(err: &mut E, subject: Subject<'_>, outcome: &ProveOutcome)
     requires { length subject.source.now ≤ Limits.SOURCE_BYTES }
     ensures { GainsLine (E.told err.old) (E.told err.new) (E.faults err.old) (E.faults err.new)
-        (line_of (plain_subject subject.entry) outcome.now) }
+        (line_of (subject_is subject.entry) outcome.now) }
 {
     let _ = put_line(err, subject, outcome);
 }
@@ -77,18 +78,25 @@ fn put_line<E: Sink>(
 ) -> Result<(), SinkFault>
     requires { length subject.source.now ≤ Limits.SOURCE_BYTES }
     ensures { Wrote (E.told err.old) (E.told err.new) (E.faults err.old) (E.faults err.new)
-        (line_of (plain_subject subject.entry) outcome.now) result }
+        (line_of (subject_is subject.entry) outcome.now) result }
 {
     match outcome {
         ProveOutcome::Told => Ok(()),
         ProveOutcome::Proved => put_said(err, b"proved", b""),
         ProveOutcome::Refuted => put_said(err, b"refuted", b""),
+        ProveOutcome::Surveyed => put_said(err, b"all signals are decided", b""),
+        ProveOutcome::PartlySurveyed => put_said(err, b"some signals are undecided", b""),
         ProveOutcome::Undecided(depth) => put_depth(err, *depth),
         ProveOutcome::NoSignal => put_said(err, b"no outgoing signal ", subject.signal),
         ProveOutcome::NoAssumed => put_said(err, b"no outgoing signal ", subject.assumed),
+        ProveOutcome::OtherGiven => put_said(err, b"the given signals differ", b""),
+        ProveOutcome::OtherOutgoing => put_said(err, b"the outgoing signals differ", b""),
+        ProveOutcome::OtherRelations => put_said(err, b"the relations differ", b""),
         ProveOutcome::Usage => put_said(err, b"no meaning", b""),
         ProveOutcome::FileFault => put_said(err, b"cannot read ", subject.name.as_bytes()),
-        ProveOutcome::Refused(refusal) => put_refusal(err, subject, refusal),
+        ProveOutcome::SecondFault => put_said(err, b"cannot read ", subject.other.as_bytes()),
+        ProveOutcome::Refused(refusal) => put_refusal(err, subject, subject.name, refusal),
+        ProveOutcome::SecondRefused(refusal) => put_refusal(err, subject, subject.other, refusal),
         ProveOutcome::WriteFault => put_said(err, b"cannot write", b""),
         ProveOutcome::NoMemory => put_said(err, b"out of memory", b""),
     }
@@ -107,15 +115,16 @@ fn put_depth<E: Sink>(err: &mut E, depth: usize) -> Result<(), SinkFault>
     )
 }
 
-// The line of a source that does not compile.
+// The line of a source, in the file of this name, that does not compile.
 fn put_refusal<E: Sink>(
     err: &mut E,
     subject: Subject<'_>,
+    name: &str,
     refusal: &Refusal,
 ) -> Result<(), SinkFault>
     requires { length subject.source.now ≤ Limits.SOURCE_BYTES }
     ensures { Wrote (E.told err.old) (E.told err.new) (E.faults err.old) (E.faults err.new)
-        (refusal_line (plain_subject subject.entry) refusal.now) result }
+        (refusal_line (subject_is subject.entry) name.now refusal.now) result }
 {
     match refusal {
         Refusal::Static(fault) => {
@@ -126,13 +135,7 @@ fn put_refusal<E: Sink>(
             put_fault(err, subject, fault)
         }
         Refusal::Cyclic(cycle) => put_said(err, b"cyclic: ", cycle.text.as_slice()),
-        Refusal::Limit(_) => {
-            put_said(
-                err,
-                b"a limit is passed, see cec check ",
-                subject.name.as_bytes(),
-            )
-        }
+        Refusal::Limit(_) => put_said(err, b"a limit is passed, see cec check ", name.as_bytes()),
         Refusal::NoMemory => put_said(err, b"out of memory", b""),
     }
 }

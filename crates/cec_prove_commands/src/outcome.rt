@@ -1,8 +1,8 @@
 // How a command ended.
 
 ghost use Rattle.std.specs.Prelude.{◌≡◌};
-ghost use Rattle.cec_prove_commands.specs.Statuses.{refusal_outcome, status_of, told_outcome, trace_outcome};
-ghost use Rattle.cec_prove_commands.specs.Statuses.{unread_outcome};
+ghost use Rattle.cec_prove_commands.specs.Statuses.{written_outcome, refusal_outcome, second_refusal_outcome};
+ghost use Rattle.cec_prove_commands.specs.Statuses.{second_unread_outcome, status_of, unread_outcome};
 
 use base_types::FileFault;
 use cec_compile::{Limit, Refusal};
@@ -13,45 +13,48 @@ use cec_text_io::Written;
 pub enum ProveOutcome {
     /// What the program writes about itself was written.
     Told,
-    /// The claim holds.
+    /// The claim holds, or the two sources do the same.
     Proved,
-    /// The claim does not hold: the trace was written.
+    /// The claim does not hold, or the two sources do not do the same: the trace was written.
     Refuted,
-    /// Neither was found. No trace of at most so many instants was found.
+    /// The survey was written, and each signal is decided.
+    Surveyed,
+    /// The survey was written, and a signal is undecided.
+    PartlySurveyed,
+    /// Neither was found. No trace of at most this number of instants was found.
     Undecided(usize),
     /// No outgoing signal has the name.
     NoSignal,
     /// No outgoing signal has the name that is assumed.
     NoAssumed,
+    /// The given signals of the two sources differ.
+    OtherGiven,
+    /// The outgoing signals of the two sources differ.
+    OtherOutgoing,
+    /// The relations of the two sources differ.
+    OtherRelations,
     /// The words have no meaning.
     Usage,
     /// The file was not read: the count of faults of the files rose, and the name that failed last is that of the file.
     FileFault,
+    /// The same of the second file of a comparison.
+    SecondFault,
     /// The source does not compile.
     Refused(Refusal),
+    /// The second source of a comparison does not compile.
+    SecondRefused(Refusal),
     /// The output was not taken: its count of faults rose.
     WriteFault,
     /// Running out of memory.
     NoMemory,
 }
 
-/// How the writing about the program ended.
-pub(crate) fn told_outcome(written: Written) -> ProveOutcome
-    ensures { result ≡ told_outcome written }
+/// The outcome of a writing that ended so, where it is this one when all is written.
+pub(crate) fn written_outcome(done: ProveOutcome, written: Written) -> ProveOutcome
+    ensures { result ≡ written_outcome done written }
 {
     match written {
-        Written::Done => ProveOutcome::Told,
-        Written::WriteFault => ProveOutcome::WriteFault,
-        Written::NoMemory => ProveOutcome::NoMemory,
-    }
-}
-
-/// How the writing of a trace ended.
-pub(crate) fn trace_outcome(written: Written) -> ProveOutcome
-    ensures { result ≡ trace_outcome written }
-{
-    match written {
-        Written::Done => ProveOutcome::Refuted,
+        Written::Done => done,
         Written::WriteFault => ProveOutcome::WriteFault,
         Written::NoMemory => ProveOutcome::NoMemory,
     }
@@ -67,6 +70,16 @@ pub(crate) fn refusal_outcome(refusal: Refusal) -> ProveOutcome
     }
 }
 
+/// The same of the second source of a comparison.
+pub(crate) fn second_refusal_outcome(refusal: Refusal) -> ProveOutcome
+    ensures { result ≡ second_refusal_outcome refusal }
+{
+    match refusal {
+        Refusal::NoMemory => ProveOutcome::NoMemory,
+        others => ProveOutcome::SecondRefused(others),
+    }
+}
+
 /// The outcome of a file that was not read.
 pub(crate) fn unread_outcome(fault: FileFault) -> ProveOutcome
     ensures { result ≡ unread_outcome fault }
@@ -78,21 +91,34 @@ pub(crate) fn unread_outcome(fault: FileFault) -> ProveOutcome
     }
 }
 
+/// The same of the second file of a comparison.
+pub(crate) fn second_unread_outcome(fault: FileFault) -> ProveOutcome
+    ensures { result ≡ second_unread_outcome fault }
+{
+    match fault {
+        FileFault::Failed => ProveOutcome::SecondFault,
+        FileFault::TooLong => ProveOutcome::SecondRefused(Refusal::Limit(Limit::Source)),
+        FileFault::NoMemory => ProveOutcome::NoMemory,
+    }
+}
+
 impl ProveOutcome {
     /// The status that the program ends with. It takes no memory.
     pub fn number(&self) -> u8
         ensures { result ≡ status_of self.now }
     {
         match self {
-            ProveOutcome::Told | ProveOutcome::Proved => 0,
+            ProveOutcome::Told | ProveOutcome::Proved | ProveOutcome::Surveyed => 0,
             ProveOutcome::Usage => 2,
-            ProveOutcome::FileFault => 3,
-            ProveOutcome::Refused(_) => 4,
+            ProveOutcome::FileFault | ProveOutcome::SecondFault => 3,
+            ProveOutcome::Refused(_) | ProveOutcome::SecondRefused(_) => 4,
             ProveOutcome::WriteFault => 9,
             ProveOutcome::NoMemory => 10,
             ProveOutcome::Refuted => 20,
-            ProveOutcome::Undecided(_) => 21,
+            ProveOutcome::PartlySurveyed | ProveOutcome::Undecided(_) => 21,
             ProveOutcome::NoSignal | ProveOutcome::NoAssumed => 22,
+            ProveOutcome::OtherGiven | ProveOutcome::OtherOutgoing | ProveOutcome::OtherRelations =>
+                23,
         }
     }
 }

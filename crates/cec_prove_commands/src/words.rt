@@ -2,19 +2,28 @@
 
 ghost use Rattle.std.specs.Prelude.{◌≡◌, ◌++◌, map, option_map};
 ghost use Rattle.std.specs.String.{string_bytes};
-ghost use Rattle.cec_prove_commands.specs.Views.{plain_job, plain_request};
+ghost use Rattle.cec_prove_commands.specs.Views.{command_is, job_is, request_is, task_is};
 ghost use Rattle.cec_prove_commands.specs.Words.{
-  claim_of,
+  claim_asked,
+  command_asked,
+  command_of,
+  comparison_asked,
+  is_comparison,
   is_plain,
   job_asked,
   job_with,
   level_of,
   misuse_after,
   misuse_of,
-  misuse_of_job,
+  misuse_of_claim,
+  misuse_of_command,
+  misuse_of_comparison,
+  misuse_of_file,
   misuse_of_options,
   misuse_of_own,
+  plain_job,
   request_by,
+  survey_asked,
   with_assumed,
   with_level,
   with_main,
@@ -33,11 +42,32 @@ pub(crate) enum About {
     Version,
 }
 
-/// A question about the source in a file.
+/// A command.
+#[derive(Clone, Copy)]
+pub(crate) enum Command {
+    /// A claim about an outgoing signal.
+    Asks(Claim),
+    /// All outgoing signals.
+    Surveys,
+    /// Two sources.
+    Compares,
+}
+
+/// What a command finds out about a source.
+#[derive(Clone, Copy)]
+pub(crate) enum Task<'a> {
+    /// Whether a claim about the outgoing signal of this name holds.
+    Ask(Claim, &'a [u8]),
+    /// When each outgoing signal is present.
+    Survey,
+    /// Whether the source in the file of this name does the same.
+    Compare(&'a str),
+}
+
+/// A task about the source in a file.
 #[derive(Clone, Copy)]
 pub(crate) struct Job<'a> {
-    pub(crate) claim: Claim,
-    pub(crate) signal: &'a [u8],
+    pub(crate) task: Task<'a>,
     /// The name of the file.
     pub(crate) name: &'a str,
     /// The signal that is assumed.
@@ -53,25 +83,25 @@ pub(crate) struct Job<'a> {
 pub(crate) enum Request<'a> {
     /// What the program writes about itself.
     Tell(About),
-    /// A question.
-    Ask(Job<'a>),
+    /// A task.
+    Do(Job<'a>),
 }
 
 /// What the words ask for; `None` where they have no meaning. It takes no memory.
 pub(crate) fn request_by(words: &[String]) -> Option<Request<'_>>
-    ensures { option_map plain_request result ≡ request_by (map string_bytes words.now) }
+    ensures { option_map request_is result ≡ request_by (map string_bytes words.now) }
 {
-    let (command, behind) = words.split_first()?;
-    let Some((signal, more)) = behind.split_first() else {
-        return word_asked(command.as_bytes());
-    };
-    let (name, options) = more.split_first()?;
-    job_asked(command.as_bytes(), signal.as_bytes(), name, options)
+    let (word, rest) = words.split_first()?;
+    if rest.is_empty() {
+        return word_asked(word.as_bytes());
+    }
+    let command = command_of(word.as_bytes())?;
+    command_asked(command, rest)
 }
 
 // What one word alone asks for.
 fn word_asked<'a>(word: &[u8]) -> Option<Request<'a>>
-    ensures { option_map plain_request result ≡ word_asked word.now }
+    ensures { option_map request_is result ≡ word_asked word.now }
 {
     if word == b"--help".as_slice() {
         Some(Request::Tell(About::Commands))
@@ -82,38 +112,67 @@ fn word_asked<'a>(word: &[u8]) -> Option<Request<'a>>
     }
 }
 
-// What a command, a signal, a file and options ask for.
-fn job_asked<'a>(
-    command: &[u8],
-    signal: &'a [u8],
-    name: &'a str,
-    options: &'a [String],
-) -> Option<Request<'a>>
-    ensures { option_map plain_request result
-        ≡ job_asked command.now signal.now name.now (map string_bytes options.now) }
+// What a command and the words after it ask for.
+fn command_asked<'a>(command: Command, rest: &'a [String]) -> Option<Request<'a>>
+    ensures { option_map request_is result ≡ command_asked (command_is command) (map string_bytes rest.now) }
 {
-    let claim = claim_of(command)?;
-    if !is_plain(signal) || !is_plain(name.as_bytes()) {
-        return None;
+    match command {
+        Command::Asks(claim) => claim_asked(claim, rest),
+        Command::Surveys => survey_asked(rest),
+        Command::Compares => comparison_asked(rest),
     }
-    let job = job_with(plain(claim, signal, name), options)?;
-    Some(Request::Ask(job))
 }
 
-// A question without options.
-fn plain<'a>(claim: Claim, signal: &'a [u8], name: &'a str) -> Job<'a>
-    ensures { plain_job result ≡ record {
-      claim = claim;
-      signal = signal.now;
-      name = name.now;
-      assumed = None;
-      main = None;
-      level = None;
-    } }
+// What a claim and the words after it ask for: a signal, a file and options.
+fn claim_asked<'a>(claim: Claim, rest: &'a [String]) -> Option<Request<'a>>
+    ensures { option_map request_is result ≡ claim_asked claim (map string_bytes rest.now) }
+{
+    let (signal, more) = rest.split_first()?;
+    let (name, options) = more.split_first()?;
+    if !is_plain(signal.as_bytes()) || !is_plain(name.as_bytes()) {
+        return None;
+    }
+    job_asked(Task::Ask(claim, signal.as_bytes()), name, options)
+}
+
+// What a file and options ask for.
+fn survey_asked<'a>(rest: &'a [String]) -> Option<Request<'a>>
+    ensures { option_map request_is result ≡ survey_asked (map string_bytes rest.now) }
+{
+    let (name, options) = rest.split_first()?;
+    if !is_plain(name.as_bytes()) {
+        return None;
+    }
+    job_asked(Task::Survey, name, options)
+}
+
+// What two files and options ask for.
+fn comparison_asked<'a>(rest: &'a [String]) -> Option<Request<'a>>
+    ensures { option_map request_is result ≡ comparison_asked (map string_bytes rest.now) }
+{
+    let (name, more) = rest.split_first()?;
+    let (other, options) = more.split_first()?;
+    if !is_plain(name.as_bytes()) || !is_plain(other.as_bytes()) {
+        return None;
+    }
+    job_asked(Task::Compare(other), name, options)
+}
+
+// What a task about a file asks for, with options.
+fn job_asked<'a>(task: Task<'a>, name: &'a str, options: &'a [String]) -> Option<Request<'a>>
+    ensures { option_map request_is result
+        ≡ job_asked (task_is task.entry) name.now (map string_bytes options.now) }
+{
+    let job = job_with(plain_job(task, name), options)?;
+    Some(Request::Do(job))
+}
+
+// A task without options.
+fn plain_job<'a>(task: Task<'a>, name: &'a str) -> Job<'a>
+    ensures { job_is result ≡ plain_job (task_is task.entry) name.now }
 {
     Job {
-        claim,
-        signal,
+        task,
         name,
         assumed: None,
         main: None,
@@ -121,14 +180,18 @@ fn plain<'a>(claim: Claim, signal: &'a [u8], name: &'a str) -> Job<'a>
     }
 }
 
-// The claim of a command.
-fn claim_of(word: &[u8]) -> Option<Claim>
-    ensures { result ≡ claim_of word.now }
+// The command that a word is.
+fn command_of(word: &[u8]) -> Option<Command>
+    ensures { option_map command_is result ≡ command_of word.now }
 {
     if word == b"never".as_slice() {
-        Some(Claim::Never)
+        Some(Command::Asks(Claim::Never))
     } else if word == b"always".as_slice() {
-        Some(Claim::Always)
+        Some(Command::Asks(Claim::Always))
+    } else if word == b"all".as_slice() {
+        Some(Command::Surveys)
+    } else if word == b"same".as_slice() {
+        Some(Command::Compares)
     } else {
         None
     }
@@ -144,9 +207,9 @@ fn is_plain(word: &[u8]) -> bool
     }
 }
 
-// The question with options, each of which is two words.
+// The task with options, each of which is two words.
 fn job_with<'a>(job: Job<'a>, options: &'a [String]) -> Option<Job<'a>>
-    ensures { option_map plain_job result ≡ job_with (plain_job job.entry) (map string_bytes options.now) }
+    ensures { option_map job_is result ≡ job_with (job_is job.entry) (map string_bytes options.now) }
 {
     let mut with = job;
     let mut key: Option<&[u8]> = None;
@@ -165,9 +228,9 @@ fn job_with<'a>(job: Job<'a>, options: &'a [String]) -> Option<Job<'a>>
     }
 }
 
-// The question with one option.
+// The task with one option.
 fn with_option<'a>(job: Job<'a>, key: &[u8], value: &'a [u8]) -> Option<Job<'a>>
-    ensures { option_map plain_job result ≡ with_option (plain_job job.entry) key.now value.now }
+    ensures { option_map job_is result ≡ with_option (job_is job.entry) key.now value.now }
 {
     if key == b"--assume".as_slice() {
         with_assumed(job, value)
@@ -180,10 +243,20 @@ fn with_option<'a>(job: Job<'a>, key: &[u8], value: &'a [u8]) -> Option<Job<'a>>
     }
 }
 
-fn with_assumed<'a>(job: Job<'a>, value: &'a [u8]) -> Option<Job<'a>>
-    ensures { option_map plain_job result ≡ with_assumed (plain_job job.entry) value.now }
+// Whether a task is a comparison, which assumes nothing.
+fn is_comparison(task: Task<'_>) -> bool
+    ensures { result ≡ is_comparison (task_is task.entry) }
 {
-    if job.assumed.is_some() || !is_plain(value) {
+    match task {
+        Task::Ask(_, _) | Task::Survey => false,
+        Task::Compare(_) => true,
+    }
+}
+
+fn with_assumed<'a>(job: Job<'a>, value: &'a [u8]) -> Option<Job<'a>>
+    ensures { option_map job_is result ≡ with_assumed (job_is job.entry) value.now }
+{
+    if is_comparison(job.task) || job.assumed.is_some() || !is_plain(value) {
         return None;
     }
     Some(Job {
@@ -193,7 +266,7 @@ fn with_assumed<'a>(job: Job<'a>, value: &'a [u8]) -> Option<Job<'a>>
 }
 
 fn with_main<'a>(job: Job<'a>, value: &'a [u8]) -> Option<Job<'a>>
-    ensures { option_map plain_job result ≡ with_main (plain_job job.entry) value.now }
+    ensures { option_map job_is result ≡ with_main (job_is job.entry) value.now }
 {
     if job.main.is_some() || !is_plain(value) {
         return None;
@@ -205,7 +278,7 @@ fn with_main<'a>(job: Job<'a>, value: &'a [u8]) -> Option<Job<'a>>
 }
 
 fn with_level<'a>(job: Job<'a>, value: &'a [u8]) -> Option<Job<'a>>
-    ensures { option_map plain_job result ≡ with_level (plain_job job.entry) value.now }
+    ensures { option_map job_is result ≡ with_level (job_is job.entry) value.now }
 {
     if job.level.is_some() {
         return None;
@@ -261,10 +334,10 @@ pub(crate) fn misuse_of(words: &[String]) -> Misuse<'_>
 // The same after a first word.
 fn misuse_after<'a>(word: &'a [u8], rest: &'a [String]) -> Misuse<'a>
     ensures { result.fault.now ++ result.word.now
-        ≡ misuse_after word.now (claim_of word.now) (word_asked word.now) (map string_bytes rest.now) }
+        ≡ misuse_after word.now (command_of word.now) (word_asked word.now) (map string_bytes rest.now) }
 {
-    match claim_of(word) {
-        Some(claim) => misuse_of_job(claim, word, rest),
+    match command_of(word) {
+        Some(command) => misuse_of_command(command, word, rest),
         None => match word_asked(word) {
             Some(_) => misuse_of_own(word, rest),
             None => faulty(b"unknown word: ", word),
@@ -273,9 +346,21 @@ fn misuse_after<'a>(word: &'a [u8], rest: &'a [String]) -> Misuse<'a>
 }
 
 // The same after a command.
-fn misuse_of_job<'a>(claim: Claim, command: &'a [u8], rest: &'a [String]) -> Misuse<'a>
+fn misuse_of_command<'a>(command: Command, word: &'a [u8], rest: &'a [String]) -> Misuse<'a>
     ensures { result.fault.now ++ result.word.now
-        ≡ misuse_of_job claim command.now (map string_bytes rest.now) }
+        ≡ misuse_of_command (command_is command) word.now (map string_bytes rest.now) }
+{
+    match command {
+        Command::Asks(claim) => misuse_of_claim(claim, word, rest),
+        Command::Surveys => misuse_of_file(Task::Survey, word, rest),
+        Command::Compares => misuse_of_comparison(word, rest),
+    }
+}
+
+// The same after a claim: a signal, a file, and options.
+fn misuse_of_claim<'a>(claim: Claim, command: &'a [u8], rest: &'a [String]) -> Misuse<'a>
+    ensures { result.fault.now ++ result.word.now
+        ≡ misuse_of_claim claim command.now (map string_bytes rest.now) }
 {
     let Some((signal, more)) = rest.split_first() else {
         return faulty(b"no signal after ", command);
@@ -283,19 +368,46 @@ fn misuse_of_job<'a>(claim: Claim, command: &'a [u8], rest: &'a [String]) -> Mis
     if !is_plain(signal.as_bytes()) {
         return faulty(b"not a signal: ", signal.as_bytes());
     }
-    let Some((name, options)) = more.split_first() else {
-        return faulty(b"no file after ", signal.as_bytes());
+    misuse_of_file(Task::Ask(claim, signal.as_bytes()), signal.as_bytes(), more)
+}
+
+// The same in words that begin with a file.
+fn misuse_of_file<'a>(task: Task<'a>, before: &'a [u8], rest: &'a [String]) -> Misuse<'a>
+    ensures { result.fault.now ++ result.word.now
+        ≡ misuse_of_file (task_is task.entry) before.now (map string_bytes rest.now) }
+{
+    let Some((name, options)) = rest.split_first() else {
+        return faulty(b"no file after ", before);
     };
     if !is_plain(name.as_bytes()) {
         return faulty(b"not a file: ", name.as_bytes());
     }
-    misuse_of_options(plain(claim, signal.as_bytes(), name), options)
+    misuse_of_options(plain_job(task, name), options)
+}
+
+// The same after `same`: two files, and options.
+fn misuse_of_comparison<'a>(command: &'a [u8], rest: &'a [String]) -> Misuse<'a>
+    ensures { result.fault.now ++ result.word.now ≡ misuse_of_comparison command.now (map string_bytes rest.now) }
+{
+    let Some((name, more)) = rest.split_first() else {
+        return faulty(b"no file after ", command);
+    };
+    if !is_plain(name.as_bytes()) {
+        return faulty(b"not a file: ", name.as_bytes());
+    }
+    let Some((other, options)) = more.split_first() else {
+        return faulty(b"no file after ", name.as_bytes());
+    };
+    if !is_plain(other.as_bytes()) {
+        return faulty(b"not a file: ", other.as_bytes());
+    }
+    misuse_of_options(plain_job(Task::Compare(other), name), options)
 }
 
 // The same in options.
 fn misuse_of_options<'a>(job: Job<'a>, options: &'a [String]) -> Misuse<'a>
     ensures { result.fault.now ++ result.word.now
-        ≡ misuse_of_options (plain_job job.entry) (map string_bytes options.now) }
+        ≡ misuse_of_options (job_is job.entry) (map string_bytes options.now) }
 {
     let mut with = job;
     let mut key: Option<&'a [u8]> = None;

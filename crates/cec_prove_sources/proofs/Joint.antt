@@ -26,13 +26,14 @@ use Rattle.cec_compile.specs.NetMeaning.{NetKeeps, net_seen}
 use Rattle.cec_prove_sources.specs.Claims.{ClaimHolds, IsBroken, claimed, is_present, meets_assumed}
 use Rattle.cec_prove_sources.specs.NetClaims.{allowed_clauses, assumed_clauses, bad_literal, output_net}
 use Rattle.cec_prove_sources.specs.RelationClauses.{all_relation_clauses}
-use Rattle.cec_prove_sources.specs.TraceTexts.{trace_text}
-use Rattle.cec_prove_sources.specs.Verdicts.{AnswersBroken, AnswersHolds, AsksOf, HasPlace, HasPlaceIfAny, PlainQuestion}
+use Rattle.cec_prove_sources.specs.Verdicts.{AnswersBroken, AnswersHolds, AsksOf, HasPlace, HasPlaceIfAny, IsTraceOf, PlainQuestion}
 use Rattle.cec_prove_sources.specs.declared.questions.Claim.{Claim}
 use Rattle.cec_prove_sources.specs.declared.questions.Claim.TheVariants.{Never, Always}
+use Rattle.cec_prove_sources.specs.declared.questions.Layout.{Layout}
+use Rattle.cec_prove_sources.proofs.TextRuns.{texts-show}
 use Rattle.cec_prove_sources.proofs.Relating.{IsOver, relations-met}
 
-each-event : (P Q : List Bool → Type 0) → ((event : List Bool) → P event → Q event) → (items : List Item) → EachEvent P items → EachEvent Q items
+pub each-event : (P Q : List Bool → Type 0) → ((event : List Bool) → P event → Q event) → (items : List Item) → EachEvent P items → EachEvent Q items
 each-event P Q more [] each = tt
 each-event P Q more (Event event ∷ items) each = (more event each.0, each-event P Q more items each.1)
 each-event P Q more (Reset ∷ items) each = each-event P Q more items each
@@ -45,7 +46,7 @@ inputs-values net latches inputs given wide n low =
     value_in-gate_values (inputs ++ latches) net.gates n within ∙ get_or_append_left inputs latches false n (omega arith)
 
 -- what the program's relations allow is allowed in each instant
-allowed : (net : Netlist) (p : Program) → All (RelatesGiven (given_count p)) p.relations → (items : List Item) (latches : List Bool) → AreItems p items
+pub allowed : (net : Netlist) (p : Program) → All (RelatesGiven (given_count p)) p.relations → (items : List Item) (latches : List Bool) → AreItems p items
     → AllByRecursion (λ values. IsModel (value_in values) (all_relation_clauses p.relations)) (values_from net latches items)
 allowed net p fits [] latches are = tt
 allowed net p fits (Event inputs ∷ items) latches are = (
@@ -185,7 +186,7 @@ assumed-range net p keeps None (Some k) has = absurd has
 assumed-range net p keeps (Some name) None has = absurd has
 assumed-range net p keeps (Some name) (Some k) has = count-outputs net p keeps name k has
 
-inputs-count : (net : Netlist) (p : Program) → IsWellFormed p → NetKeeps net p → length net.inputs ≡ given_count p
+pub inputs-count : (net : Netlist) (p : Program) → IsWellFormed p → NetKeeps net p → length net.inputs ≡ given_count p
 inputs-count net p fits keeps =
     let count : given_count p ≤ length p.signals = let i = fits.interface in omega arith in
     ap length keeps.inputs ∙ length-take-le (given_count p) p.signals count
@@ -202,44 +203,57 @@ replaced-keeps net new p fits keeps o = record {
       (found.0, found.1, o.replaces.followed.runs items (each-event (IsEvent p) (FitsInputs net) (λ event is. is.wide ∙ count) items are) ∙ found.2);
 }
 
+-- what it is that events reach a literal
+pub reached-parts : (net : Netlist) (clauses : List (List Literal)) (bad : Literal) (events : List (List Bool)) → is_reached net clauses bad events ≡ true
+    → (list_all (are_met clauses) (net_values_run net (items_of events)) ≡ true)
+    × (last_or false (map (λ values. literal_value (value_in values) bad) (net_values_run net (items_of events))) ≡ true)
+reached-parts net clauses bad events reached =
+    let runs = net_values_run net (items_of events) in
+    let wide = list_all (λ (event : List Bool). nat_eq (length event) (length net.inputs)) events in
+    let met = list_all (are_met clauses) runs in
+    let ends = last_or false (map (λ (values : List Bool). literal_value (value_in values) bad) runs) in
+    and_parts met ends (and_parts wide (met && ends) reached).1
+
+claim-holds : (net : Netlist) (p : Program) (q : PlainQuestion) (place : ℕ) (assumed : Option ℕ) → IsWellFormed p → NetKeeps net p
+    → AsksOf p q place assumed → IsNever net (allowed_clauses p.relations net.outputs assumed) (bad_literal net.outputs q.claim place)
+    → ClaimHolds p q.claim place assumed
+claim-holds net p q place assumed fits keeps asks never = λ items are.
+    let count = sym (inputs-count net p fits keeps) in
+    let low = count-outputs net p keeps q.signal place asks.signal in
+    let range = assumed-range net p keeps q.assumed assumed asks.assumes in
+    let wide = each-event (IsEvent p) (FitsInputs net) (λ event is. is.wide ∙ count) items are in
+    let r = keeps.runs items are in
+    let known = allowed net p fits.relations items (initial_latches net) are in (
+      r.0,
+      r.1,
+      λ meets.
+          each-claimed net q.claim place low (net_values_run net items) r.0 r.2 (never items wide
+          (all-allowed net (all_relation_clauses p.relations) assumed range (net_values_run net items) r.0 r.2 meets known)),
+    )
+
 pub verdict-holds : (net : Netlist) (p : Program) (q : PlainQuestion) (place : ℕ) (assumed : Option ℕ) → IsWellFormed p → NetKeeps net p
     → AsksOf p q place assumed → IsNever net (allowed_clauses p.relations net.outputs assumed) (bad_literal net.outputs q.claim place) → AnswersHolds p q
-verdict-holds net p q place assumed fits keeps asks never = record {
-  place = place;
-  assumed = assumed;
-  asks = asks;
-  holds = λ items are.
-      let count = sym (inputs-count net p fits keeps) in
-      let low = count-outputs net p keeps q.signal place asks.signal in
-      let range = assumed-range net p keeps q.assumed assumed asks.assumes in
-      let wide = each-event (IsEvent p) (FitsInputs net) (λ event is. is.wide ∙ count) items are in
-      let r = keeps.runs items are in
-      let known = allowed net p fits.relations items (initial_latches net) are in (
-        r.0,
-        r.1,
-        λ meets.
-            each-claimed net q.claim place low (net_values_run net items) r.0 r.2 (never items wide
-            (all-allowed net (all_relation_clauses p.relations) assumed range (net_values_run net items) r.0 r.2 meets known)),
-      );
-}
+verdict-holds net p q place assumed fits keeps asks never =
+    let holds = claim-holds net p q place assumed fits keeps asks never in record {
+      place = place;
+      assumed = assumed;
+      asks = asks;
+      holds = holds;
+      texts = texts-show p q.claim place assumed holds;
+    }
 
-pub verdict-broken : (net : Netlist) (p : Program) (q : PlainQuestion) (place : ℕ) (assumed : Option ℕ) (events : List (List Bool)) → NetKeeps net p
-    → AsksOf p q place assumed → AreItems p (items_of events)
+pub verdict-broken : (layout : Layout) (net : Netlist) (p : Program) (q : PlainQuestion) (place : ℕ) (assumed : Option ℕ) (events : List (List Bool))
+    (trace : List ℕ) → NetKeeps net p → AsksOf p q place assumed → AreItems p (items_of events)
     → is_reached net (allowed_clauses p.relations net.outputs assumed) (bad_literal net.outputs q.claim place) events ≡ true
-    → AnswersBroken p q (trace_text net.inputs events)
-verdict-broken net p q place assumed events keeps asks are reached =
+    → IsTraceOf layout p events trace → AnswersBroken layout p q trace
+verdict-broken layout net p q place assumed events trace keeps asks are reached is_trace =
     let low = count-outputs net p keeps q.signal place asks.signal in
     let range = assumed-range net p keeps q.assumed assumed asks.assumes in
     let runs = net_values_run net (items_of events) in
     let r = keeps.runs (items_of events) are in
-    let clauses = allowed_clauses p.relations net.outputs assumed in
-    let wide = list_all (λ (event : List Bool). nat_eq (length event) (length net.inputs)) events in
-    let met = list_all (are_met clauses) runs in
-    let ends = last_or false (map (λ (values : List Bool). literal_value (value_in values) (bad_literal net.outputs q.claim place)) runs) in
-    let behind = and_parts wide (met && ends) reached in
-    let parts = and_parts met ends behind.1 in
+    let reaches = reached-parts net (allowed_clauses p.relations net.outputs assumed) (bad_literal net.outputs q.claim place) events reached in
     let last = subst (λ b. last_or b (map (λ (values : List Bool). literal_value (value_in values) (bad_literal net.outputs q.claim place)) runs) ≡ true)
-    (sym (unbroken q.claim)) parts.1 in
+    (sym (unbroken q.claim)) reaches.1 in
     record {
       place = place;
       assumed = assumed;
@@ -249,11 +263,11 @@ verdict-broken net p q place assumed events keeps asks are reached =
         items_fit = are;
         answers = r.0;
         runs = r.1;
-        assumes = all-assumed net (all_relation_clauses p.relations) assumed range runs r.0 r.2 parts.0;
+        assumes = all-assumed net (all_relation_clauses p.relations) assumed range runs r.0 r.2 reaches.0;
         breaks = ap (last_or (claimed q.claim)) (presents-shown net place low runs r.0 r.2)
             ∙ last-broken q.claim (output_net net.outputs place) (claimed q.claim) runs last;
       };
-      spelled = ap (λ names. trace_text names events) keeps.inputs;
+      is_trace = is_trace;
     }
 
 -- the same by clauses and a literal that are these

@@ -1,6 +1,13 @@
 pub mod Claims
+pub mod Findings
+pub mod Interfaces
 pub mod NetClaims
+pub mod PairRuns
+pub mod Reading
 pub mod RelationClauses
+pub mod Sameness
+pub mod Surveys
+pub mod TextClaims
 pub mod TraceTexts
 pub mod Verdicts
 pub mod Views

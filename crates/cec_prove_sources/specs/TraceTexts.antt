@@ -1,6 +1,8 @@
--- Contract: the trace of events, in the form that `cec run` reads.
+-- To believe: the trace of events, in the form that `cec run` reads.
 use Rattle.std.specs.Prelude.{ℕ, ◌+◌, Bool, false, List, [], ◌∷◌, ◌++◌, codes, slice_index_or, if◌then◌else◌}
 use Rattle.std.specs.List.{flat_map}
+use Rattle.cec_prove_sources.specs.declared.questions.Layout.{Layout}
+use Rattle.cec_prove_sources.specs.declared.questions.Layout.TheVariants.{LinePerInstant, OneLine}
 
 -- the name of the given signal with this place and a space, where it is present in the event
 abbrev pub present_word : List Bool → ℕ → List ℕ → List ℕ
@@ -11,9 +13,17 @@ abbrev pub present_text : List Bool → ℕ → List (List ℕ) → List ℕ
 present_text event place [] = []
 present_text event place (name ∷ names) = present_word event place name ++ present_text event (place + 1) names
 
--- a line for each instant
-abbrev pub instant_text : List (List ℕ) → List Bool → List ℕ
-instant_text names event = present_text event 0 names ++ codes ";\n"
+-- what comes before and after the names of an instant
+abbrev pub before_instant : Layout → List ℕ
+before_instant LinePerInstant = []
+before_instant OneLine = codes " "
 
-abbrev pub trace_text : List (List ℕ) → List (List Bool) → List ℕ
-trace_text names events = flat_map (instant_text names) events
+abbrev pub after_instant : Layout → List ℕ
+after_instant LinePerInstant = codes ";\n"
+after_instant OneLine = codes ";"
+
+abbrev pub instant_text : Layout → List (List ℕ) → List Bool → List ℕ
+instant_text layout names event = before_instant layout ++ (present_text event 0 names ++ after_instant layout)
+
+abbrev pub trace_text : Layout → List (List ℕ) → List (List Bool) → List ℕ
+trace_text layout names events = flat_map (instant_text layout names) events

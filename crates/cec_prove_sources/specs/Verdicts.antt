@@ -1,12 +1,18 @@
--- Contract: what the answer to a question says of a source. `Open` says nothing.
-use Rattle.std.specs.Prelude.{◌≡◌, ◌<◌, ℕ, Bool, false, List, [], length, Option, Some, None, slice_index_or, ⊤}
+-- To believe: what the answer to a question says of a source. `Open` says only that the program has the signals.
+use Rattle.std.specs.Prelude.{◌≡◌, ◌<◌, ◌≤◌, ℕ, Bool, false, List, [], length, Option, Some, None, slice_index_or, ⊤}
+use Rattle.base_types.specs.declared.bounds.TheConstants.Limits.{TRACE_BYTES}
 use Rattle.est_kernel.specs.Plain.{Program, given_names, outgoing_names}
 use Rattle.est_front.specs.Sources.{StandsFor}
 use Rattle.net_ir.specs.NameLists.{is_among}
+use Rattle.net_never.specs.Reached.{items_of}
+use Rattle.run_trace_io.specs.Answers.{IsTrace, beginning}
 use Rattle.cec_compile.specs.Refusals.{Compiles}
 use Rattle.cec_prove_sources.specs.Claims.{ClaimHolds, IsBroken}
+use Rattle.cec_prove_sources.specs.TextClaims.{TextsShow}
 use Rattle.cec_prove_sources.specs.TraceTexts.{trace_text}
 use Rattle.cec_prove_sources.specs.declared.questions.Claim.{Claim}
+use Rattle.cec_prove_sources.specs.declared.questions.Layout.{Layout}
+use Rattle.cec_prove_sources.specs.declared.questions.Layout.TheVariants.{LinePerInstant}
 use Rattle.cec_prove_sources.specs.declared.questions.Verdict.{Verdict}
 use Rattle.cec_prove_sources.specs.declared.questions.Verdict.TheVariants.{Holds, Broken, Open, NoSignal, NoAssumed}
 
@@ -33,19 +39,34 @@ pub record AsksOf (p : Program) (q : PlainQuestion) (place : ℕ) (assumed : Opt
   pub signal : HasPlace (outgoing_names p) q.signal place
   pub assumes : HasPlaceIfAny (outgoing_names p) q.assumed assumed
 
+-- the program has the signals of a question
+pub record HasSignals (p : Program) (q : PlainQuestion) : Type 0 where
+  pub place : ℕ
+  pub assumed : Option ℕ
+  pub asks : AsksOf p q place assumed
+
+-- A text is the trace of these events in one of the two layouts. `cec run` reads it: it is not too long, its items are
+-- these events, and each of them meets the relations.
+pub record IsTraceOf (layout : Layout) (p : Program) (events : List (List Bool)) (trace : List ℕ) : Type 0 where
+  pub spelled : trace ≡ trace_text layout (given_names p) events
+  pub short : length trace ≤ TRACE_BYTES
+  pub reads : IsTrace (beginning trace (given_names p) p.relations) (items_of events) None
+
+-- the claim holds of the program, and of the texts that are made of it
 pub record AnswersHolds (p : Program) (q : PlainQuestion) : Type 0 where
   pub place : ℕ
   pub assumed : Option ℕ
   pub asks : AsksOf p q place assumed
   pub holds : ClaimHolds p q.claim place assumed
+  pub texts : TextsShow p q.claim place assumed
 
-pub record AnswersBroken (p : Program) (q : PlainQuestion) (trace : List ℕ) : Type 0 where
+pub record AnswersBroken (layout : Layout) (p : Program) (q : PlainQuestion) (trace : List ℕ) : Type 0 where
   pub place : ℕ
   pub assumed : Option ℕ
   pub asks : AsksOf p q place assumed
   pub events : List (List Bool)
   pub broken : IsBroken p q.claim place assumed events
-  pub spelled : trace ≡ trace_text (given_names p) events
+  pub is_trace : IsTraceOf layout p events trace
 
 -- a name is given, and no outgoing signal has it
 abbrev pub IsNone : Program → Option (List ℕ) → Type 0
@@ -54,8 +75,8 @@ IsNone p (Some name) = is_among name (outgoing_names p) ≡ false
 
 abbrev pub IsVerdict : Program → PlainQuestion → Verdict → Type 0
 IsVerdict p q Holds = AnswersHolds p q
-IsVerdict p q (Broken trace) = AnswersBroken p q trace.items
-IsVerdict p q (Open depth) = ⊤
+IsVerdict p q (Broken trace) = AnswersBroken LinePerInstant p q trace.items
+IsVerdict p q (Open depth) = HasSignals p q
 IsVerdict p q NoSignal = is_among q.signal (outgoing_names p) ≡ false
 IsVerdict p q NoAssumed = IsNone p q.assumed
 

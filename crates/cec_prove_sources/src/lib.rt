@@ -1,16 +1,26 @@
 //! Properties of sources: from the bytes of a source to the answer that an outgoing signal is never, or always,
-//! present.
+//! present, to a survey of all outgoing signals, and to the answer that two sources do the same.
 //!
 //! A source is compiled by `cec_compile`, its netlist is optimized by `net_opt`, and `net_search` decides whether the
-//! net of the signal, or its negation, is ever true where the relations of the source are met. What the netlist keeps
-//! of the source carries the answer back to the reactions of the source.
+//! net of the signal, or its negation, is ever true where the relations of the source are met. Of two sources
+//! `net_pair` makes one netlist, whose one net is true where they differ. What the netlist keeps of the source carries
+//! the answer back to the reactions of the source.
 #![tactic(auto)]
 
+mod comparing;
 mod events;
+mod findings;
+mod interfaces;
+mod places;
+mod presences;
 mod questions;
+mod reading;
 mod relations;
+mod surveys;
 mod traces;
 mod verdicts;
 
-pub use questions::{Claim, Question, Verdict};
+pub use comparing::comparison_of;
+pub use questions::{Claim, Comparison, PairRefusal, Question, Survey, Verdict};
+pub use surveys::survey_of;
 pub use verdicts::verdict_of;

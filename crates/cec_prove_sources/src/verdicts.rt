@@ -1,156 +1,24 @@
 // Whether a claim about an outgoing signal holds.
 
-ghost use Rattle.std.specs.Prelude.{◌≡◌, ◌≤◌, [], ◌∷◌, ◌++◌, length, map, None, false, true, option_map};
-ghost use Rattle.std.specs.Prelude.{IfErr, IfOk, IfSome, IsTrue, OnOk};
+ghost use Rattle.std.specs.Prelude.{◌≡◌, ◌≤◌, length, option_map, IfErr, IfOk};
 ghost use Rattle.est_kernel.specs.Plain.{outgoing_names, program_of};
 ghost use Rattle.est_kernel.specs.WellFormed.{IsWellFormed};
-ghost use Rattle.net_ir.specs.NameLists.{is_among};
 ghost use Rattle.net_ir.specs.Runs.{netlist_of};
-ghost use Rattle.sat_kernel.specs.Clauses.{plain_assumed};
-ghost use Rattle.net_never.specs.GateClauses.{signed};
-ghost use Rattle.net_never.specs.Reached.{events_of, is_reached};
 ghost use Rattle.cec_compile.specs.NetMeaning.{NetKeeps};
 ghost use Rattle.cec_compile.specs.Refusals.{IsRefused};
-ghost use Rattle.cec_prove_sources.specs.Claims.{claimed};
-ghost use Rattle.cec_prove_sources.specs.NetClaims.{allowed_clauses, assumed_clauses, bad_literal, output_net};
 ghost use Rattle.cec_prove_sources.specs.Verdicts.{AsksOf, HasPlace, HasVerdict, IsVerdict};
 ghost use Rattle.cec_prove_sources.specs.Views.{plain_question};
 
-use crate::events::are_events;
-use crate::questions::{Claim, Question, Verdict};
-use crate::relations::push_relations;
-use crate::traces::trace_text;
+use crate::findings::{Placed, found};
+use crate::places::place_of;
+use crate::questions::{Finding, Layout, Question, Verdict};
 use base_types::{Limits, NoMemory};
 use cec_compile::{Refusal, compile};
 use est_kernel::KernelProgram;
 use grc_order::Picker;
-use net_ir::{Net, NetOut};
+use net_ir::Net;
 use net_opt::optimize;
-use net_search::{Decision, decide};
-use sat_kernel::{Clause, Literal};
 use std::alloc::Global;
-
-// The place of an outgoing signal by its name.
-fn place_of(program: &KernelProgram, net: &Net, name: &[u8]) -> Option<usize>
-    requires keeps { NetKeeps (netlist_of net.now) (program_of program.now) }
-    ensures found { IfSome result (HasPlace (outgoing_names (program_of program.now)) name.now) }
-    ensures none { result ≡ None → is_among name.now (outgoing_names (program_of program.now)) ≡ false }
-{
-    place_among(&net.outputs, name)
-}
-
-// The place of the output of this name.
-fn place_among(outputs: &[NetOut], name: &[u8]) -> Option<usize>
-    ensures found { IfSome result (HasPlace (map (λ o. o.name) outputs.now) name.now) }
-    ensures none { result ≡ None → is_among name.now (map (λ o. o.name) outputs.now) ≡ false }
-{
-    for (k, output) in outputs.iter().enumerate() {
-        if name == output.name.bytes() {
-            return Some(k);
-        }
-    }
-    None
-}
-
-// The net of the output with this place.
-fn output_net(outputs: &[NetOut], place: usize) -> u32
-    ensures { result ≡ output_net outputs.now place }
-{
-    if place < outputs.len() {
-        outputs[place].net.0
-    } else {
-        0
-    }
-}
-
-// Whether the signal of a claim is present.
-fn claimed(claim: Claim) -> bool
-    ensures { result ≡ claimed claim }
-{
-    match claim {
-        Claim::Never => false,
-        Claim::Always => true,
-    }
-}
-
-// What breaks a claim about the output with this place.
-fn bad_literal(net: &Net, claim: Claim, place: usize) -> Literal
-    ensures { result ≡ bad_literal net.now.outputs.items claim place }
-{
-    Literal {
-        variable: output_net(&net.outputs, place),
-        positive: !claimed(claim),
-    }
-}
-
-// The clauses of the relations, and of the output that is assumed.
-fn allowed_clauses(
-    alloc: Global,
-    program: &KernelProgram,
-    net: &Net,
-    assumed: Option<usize>,
-) -> Result<Vec<Clause>, NoMemory>
-    ensures { IfOk result (λ list. plain_assumed list.items
-        ≡ allowed_clauses (program_of program.now).relations net.now.outputs.items assumed) }
-{
-    let mut list = Vec::new(alloc);
-    push_relations(alloc, &mut list, &program.relations)?;
-    push_assumed(alloc, &mut list, net, assumed)?;
-    Ok(list)
-}
-
-// The output that is assumed is true.
-fn push_assumed(
-    alloc: Global,
-    list: &mut Vec<Clause>,
-    net: &Net,
-    assumed: Option<usize>,
-) -> Result<(), NoMemory>
-    ensures { OnOk result (plain_assumed list.new.items
-        ≡ plain_assumed list.old.items ++ assumed_clauses net.now.outputs.items assumed) }
-{
-    match assumed {
-        None => Ok(()),
-        Some(place) => push_true(alloc, list, output_net(&net.outputs, place)),
-    }
-}
-
-// A net is true.
-fn push_true(alloc: Global, list: &mut Vec<Clause>, net: u32) -> Result<(), NoMemory>
-    ensures { OnOk result (plain_assumed list.new.items
-        ≡ plain_assumed list.old.items ++ (signed net true ∷ []) ∷ []) }
-{
-    let mut clause = Vec::with_capacity(alloc, 1)?;
-    clause.push(Literal {
-        variable: net,
-        positive: true,
-    })?;
-    list.push(clause)?;
-    Ok(())
-}
-
-// The answer where events were found that break the claim by the netlist: they are tested against the relations.
-fn broken_by(
-    alloc: Global,
-    program: &KernelProgram,
-    net: &Net,
-    question: Question<'_>,
-    place: usize,
-    assumed: Option<usize>,
-    events: &[Vec<bool>],
-) -> Result<Verdict, NoMemory>
-    requires keeps { NetKeeps (netlist_of net.now) (program_of program.now) }
-    requires asks { AsksOf (program_of program.now) (plain_question question) place assumed }
-    requires reached { IsTrue (is_reached (netlist_of net.now)
-        (allowed_clauses (program_of program.now).relations net.now.outputs.items assumed)
-        (bad_literal net.now.outputs.items question.claim place) (events_of events.now)) }
-    ensures { IfOk result (IsVerdict (program_of program.now) (plain_question question.entry)) }
-{
-    if !are_events(program, events) {
-        return Ok(Verdict::Open(0));
-    }
-    Ok(Verdict::Broken(trace_text(alloc, &net.inputs, events)?))
-}
 
 // The answer about the signals with these places.
 fn decided(
@@ -167,14 +35,16 @@ fn decided(
     requires asks { AsksOf (program_of program.now) (plain_question question) place assumed }
     ensures { IfOk result (IsVerdict (program_of program.now) (plain_question question.entry)) }
 {
-    let allowed = allowed_clauses(alloc, program, net, assumed)?;
-    let bad = bad_literal(net, question.claim, place);
-    match decide(alloc, net, &allowed, bad, effort)? {
-        Decision::Never => Ok(Verdict::Holds),
-        Decision::Reached(events) => {
-            broken_by(alloc, program, net, question, place, assumed, &events)
-        }
-        Decision::Unknown(depth) => Ok(Verdict::Open(depth)),
+    let asked = Placed {
+        question,
+        place,
+        assumed,
+        layout: Layout::LinePerInstant,
+    };
+    match found(alloc, program, net, asked, effort)? {
+        Finding::Holds => Ok(Verdict::Holds),
+        Finding::Broken(trace) => Ok(Verdict::Broken(trace)),
+        Finding::Open(depth) => Ok(Verdict::Open(depth)),
     }
 }
 

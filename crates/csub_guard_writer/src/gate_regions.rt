@@ -28,7 +28,7 @@ pub fn gate_regions(
     Ok(found)
 }
 
-// For each of so many wires the place of the first gate that carries it.
+// For each of this many wires the place of the first gate that carries it.
 fn wire_places(alloc: Global, net: &Net, count: usize) -> Result<Vec<Option<usize>>, NoMemory>
     ensures count { IfOk result (λ places. length places.items ≡ count) }
     ensures are { IfOk result (λ places. (w : ℕ) → w < count

@@ -1,6 +1,6 @@
 // The machine of a program.
 
-ghost use Rattle.std.specs.Prelude.{◌≡◌, ◌<◌, ◌≤◌, map, length, take, All, IfOk};
+ghost use Rattle.std.specs.Prelude.{◌≡◌, ◌<◌, ◌≤◌, map, length, take, drop, All, IfOk};
 ghost use Rattle.csub_text.specs.Names.{declared, inputs_of};
 ghost use Rattle.csub_text.specs.Views.{program_of};
 ghost use Rattle.csub_run.specs.Runners.{KeepsNames, program_in, Reacts, Resets, IsFresh, outputs_shown};
@@ -131,6 +131,7 @@ pub fn put_front(values: &mut [bool], front: &[bool])
     requires { length front.now ≤ length values.old }
     ensures len { length values.new ≡ length values.old }
     ensures front { take (length front.now) values.new ≡ front.now }
+    ensures rest { drop (length front.now) values.new ≡ drop (length front.now) values.old }
 {
     let (first, _) = values.split_at_mut(front.len());
     first.copy_from_slice(front);

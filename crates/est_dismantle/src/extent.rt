@@ -89,7 +89,7 @@ impl Extent {
         }
     }
 
-    /// That of so many copies of this part in one sequence.
+    /// That of this part, this many times in one sequence.
     #[tactic(auto, unfolding(crate::specs::Extents::IsExtent, crate::specs::Measures::copied, crate::specs::Measures::leaf))]
     pub(crate) fn copied(self, count: u128) -> Extent
         ensures { (p : Measures) → IsExtent self p → IsExtent result (copied count p) }
@@ -106,7 +106,7 @@ impl Extent {
         }
     }
 
-    /// That of so many nodes, one over another, over this part.
+    /// That of this many nodes, one over another, over this part.
     #[tactic(auto, unfolding(crate::specs::Extents::IsExtent, crate::specs::Measures::raised))]
     pub(crate) fn raised(self, count: usize) -> Extent
         ensures { (p : Measures) → IsExtent self p → IsExtent result (raised count p) }

@@ -5,7 +5,7 @@ ghost use Rattle.std.specs.Prelude.{◌≡◌, ◌++◌, IfOk, map, replicate, c
 use base_types::{NoMemory, SignalInfo, Text};
 use std::alloc::Global;
 
-/// These signals, and after them so many new ones, each of the name `x`.
+/// These signals, and after them this many new ones, each of the name `x`.
 pub(crate) fn signals_with(
     alloc: Global,
     signals: Vec<SignalInfo>,

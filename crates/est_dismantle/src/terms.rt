@@ -119,7 +119,7 @@ pub(crate) fn parallel_of(alloc: Global, parts: Vec<Box<Kernel>>) -> Result<Box<
     Ok(whole)
 }
 
-/// So many copies of the part in one sequence.
+/// The part, this many times in one sequence.
 pub(crate) fn repeated(
     alloc: Global,
     count: u128,
@@ -135,7 +135,7 @@ pub(crate) fn repeated(
     Ok(sequence_of(alloc, copies)?)
 }
 
-// So many copies of the part.
+// The part, this many times.
 fn copies_of(alloc: Global, count: u128, part: &Kernel) -> Result<Vec<Box<Kernel>>, NoMemory>
     ensures { IfOk result (λ v. map boxed_term v.items ≡ times count (term_of part.now)) }
 {

@@ -14,7 +14,7 @@ pub(crate) enum Traps<'a> {
     New(&'a Traps<'a>),
 }
 
-/// The code of an exit that leaves the source trap with so many source traps between.
+/// The code of an exit that leaves the source trap with this many source traps between.
 #[tactic(auto, using(crate::proofs::Exits::exit_rows))]
 pub(crate) fn code(traps: &Traps, between: u32) -> u8
     requires { length (traps_of traps.now) ≤ TRAPS }

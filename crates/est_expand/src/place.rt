@@ -11,7 +11,7 @@ use est_ast::Module;
 use est_names::{ModuleTable, NameSet};
 
 /// A program: its modules with their table, and the number of inputs of the main module, which have the
-/// first numbers. So many more statements may stand one in another.
+/// first numbers. At most `room` more statements may be nested.
 #[derive(Clone, Copy)]
 pub struct Source<'a> {
     pub modules: &'a [Module],
@@ -21,7 +21,7 @@ pub struct Source<'a> {
     ghost named: { table.now.names ≡ module_names (map module_of modules.now) },
 }
 
-/// A statement that is walked: the program, where so many more may be in one that is in it, and its place.
+/// A statement that is walked: the program, where this many more may be nested, and its place.
 #[derive(Clone, Copy)]
 pub struct Site<'a> {
     pub source: Source<'a>,

@@ -109,7 +109,7 @@ impl<'a> Scope<'a> {
         Ok(())
     }
 
-    /// Takes so many nearest binders away.
+    /// Takes this many of the nearest binders away.
     #[inline(never)]
     pub fn unbind_all(&mut self, count: usize)
         ensures { self.new ≡ drop count self.old }

@@ -7,5 +7,6 @@ mod SourceNames
 mod FormedPrograms
 mod OneProgram
 pub mod Unrefused
+mod Lacking
 mod worked
 pub mod Exports

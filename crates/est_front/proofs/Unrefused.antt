@@ -43,17 +43,17 @@ no_place tokens tree fault spells least = least.stuck tree least.rest refl (subs
 has_tokens : (text : List ℕ) (tree : source.SourceProgram) (other : Lexing) (r : SourceReadsAs text tree) → LexesAs text other → Tokens r.tokens ≡ other
 has_tokens text tree other r lexes = at_most_one text (Tokens r.tokens) other r.lexes lexes
 
-no_bad_byte : (text : List ℕ) (tree : source.SourceProgram) (place : ℕ) → SourceReadsAs text tree → LexesAs text (lexing.BadByte place) → ⊥
+pub no_bad_byte : (text : List ℕ) (tree : source.SourceProgram) (place : ℕ) → SourceReadsAs text tree → LexesAs text (lexing.BadByte place) → ⊥
 no_bad_byte text tree place r lexes =
     let same = has_tokens text tree (lexing.BadByte place) r lexes in
     cc
 
-no_open_comment : (text : List ℕ) (tree : source.SourceProgram) (place : ℕ) → SourceReadsAs text tree → LexesAs text (lexing.OpenComment place) → ⊥
+pub no_open_comment : (text : List ℕ) (tree : source.SourceProgram) (place : ℕ) → SourceReadsAs text tree → LexesAs text (lexing.OpenComment place) → ⊥
 no_open_comment text tree place r lexes =
     let same = has_tokens text tree (lexing.OpenComment place) r lexes in
     cc
 
-no_big_number : (text : List ℕ) (tree : source.SourceProgram) (place : ℕ) → SourceReadsAs text tree → LexesAs text (lexing.BigNumber place) → ⊥
+pub no_big_number : (text : List ℕ) (tree : source.SourceProgram) (place : ℕ) → SourceReadsAs text tree → LexesAs text (lexing.BigNumber place) → ⊥
 no_big_number text tree place r lexes =
     let same = has_tokens text tree (lexing.BigNumber place) r lexes in
     cc
@@ -68,10 +68,10 @@ all_pass text tree tokens fault r lexes least =
     tokens_same : {a b : List Token} → Tokens a ≡ Tokens b → a ≡ b
     tokens_same is = cc
 
-no_syntax : (text : List ℕ) (tree : source.SourceProgram) (token : ℕ) → SourceReadsAs text tree → Misspells text (parsing.Syntax token) → ⊥
+pub no_syntax : (text : List ℕ) (tree : source.SourceProgram) (token : ℕ) → SourceReadsAs text tree → Misspells text (parsing.Syntax token) → ⊥
 no_syntax text tree token r m = all_pass text tree m.tokens m.first.0 r m.lexes m.first.2
 
-no_nesting : (text : List ℕ) (tree : source.SourceProgram) (token : ℕ) → SourceReadsAs text tree → Misspells text (parsing.TooNested token) → ⊥
+pub no_nesting : (text : List ℕ) (tree : source.SourceProgram) (token : ℕ) → SourceReadsAs text tree → Misspells text (parsing.TooNested token) → ⊥
 no_nesting text tree token r m = all_pass text tree m.tokens m.first.0 r m.lexes m.first.2
 
 -- ---- names
@@ -80,15 +80,15 @@ none_first : (all : List NameFault) (fault : NameFault) → all ≡ [] → first
 none_first [] fault empty is = cc
 none_first (f ∷ fs) fault empty is = cc
 
-no_name_fault : (text : List ℕ) (main : Option (List ℕ)) (tree : source.SourceProgram) (fault : NameFault) → Declares text main tree → Misnames text main fault
-    → ⊥
+pub no_name_fault : (text : List ℕ) (main : Option (List ℕ)) (tree : source.SourceProgram) (fault : NameFault) → Declares text main tree
+    → Misnames text main fault → ⊥
 no_name_fault text main tree fault d m =
     none_first (name_faults main m.tree) fault (subst (λ t. name_faults main t ≡ []) (one_tree text tree m.tree d.reads m.reads) d.names) m.first
 
 -- ---- the flat form
 
-no_unflattened : (text : List ℕ) (main : Option (List ℕ)) (flat : Flat) (fault : flattening.FlattenFault) → Flattens text main flat
-    → Unflattened text main fault → ⊥
+pub no_unflattened : (text : List ℕ) (main : Option (List ℕ)) (flat : Flat) (fault : flattening.FlattenFault)
+    → Flattens text main flat → Unflattened text main fault → ⊥
 no_unflattened text main flat fault f u =
     let tree = one_tree text f.tree u.tree f.declares.reads u.declares.reads in
     let module_is = some_same (sym f.is_main ∙ (ap (main_module main) tree ∙ u.is_main)) in
@@ -105,23 +105,23 @@ one_expansion : (text : List ℕ) (main : Option (List ℕ)) (p : Program) (answ
     → expansions.Expanded p ≡ answer
 one_expansion text main p answer e u = sym e.expands ∙ (ap expansion (one_flat text main e.flat u.flat e.flattens u.flattens) ∙ u.ends)
 
-no_bad_count : (text : List ℕ) (main : Option (List ℕ)) (p : Program) (place : Span) → Expands text main p
+pub no_bad_count : (text : List ℕ) (main : Option (List ℕ)) (p : Program) (place : Span) → Expands text main p
     → Unexpanded text main (expansions.BadCount place) → ⊥
 no_bad_count text main p place e u =
     let same = one_expansion text main p (expansions.BadCount place) e u in
     cc
 
-not_too_large : (text : List ℕ) (main : Option (List ℕ)) (p : Program) → Expands text main p → Unexpanded text main expansions.TooLarge → ⊥
+pub not_too_large : (text : List ℕ) (main : Option (List ℕ)) (p : Program) → Expands text main p → Unexpanded text main expansions.TooLarge → ⊥
 not_too_large text main p e u =
     let same = one_expansion text main p expansions.TooLarge e u in
     cc
 
-not_too_high : (text : List ℕ) (main : Option (List ℕ)) (p : Program) → Expands text main p → Unexpanded text main expansions.TooHigh → ⊥
+pub not_too_high : (text : List ℕ) (main : Option (List ℕ)) (p : Program) → Expands text main p → Unexpanded text main expansions.TooHigh → ⊥
 not_too_high text main p e u =
     let same = one_expansion text main p expansions.TooHigh e u in
     cc
 
-few_traps : (text : List ℕ) (main : Option (List ℕ)) (p : Program) → Expands text main p → Unexpanded text main expansions.TooManyTraps → ⊥
+pub few_traps : (text : List ℕ) (main : Option (List ℕ)) (p : Program) → Expands text main p → Unexpanded text main expansions.TooManyTraps → ⊥
 few_traps text main p e u =
     let same = one_expansion text main p expansions.TooManyTraps e u in
     cc

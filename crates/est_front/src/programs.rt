@@ -15,6 +15,7 @@ ghost use Rattle.est_dismantle.specs.Expansions.{expansion};
 ghost use Rattle.est_expand.specs.Faults as flattening;
 ghost use Rattle.est_expand.specs.Answers.{AnswersAsDefined, fault_of};
 ghost use Rattle.est_front.specs.Sources.{SourceReadsAs, Flattens, Expands};
+ghost use Rattle.est_front.specs.Lacks.{HasNoExpansion, HasNoFlat};
 ghost use Rattle.est_front.specs.Refusals.{IsSourceRefused, Unflattened};
 
 use crate::refusal::{Fault, Quantity, SourceRefusal};
@@ -38,8 +39,13 @@ pub fn kernel_program(
     requires { length text.now ≤ Limits.SOURCE_BYTES }
     ensures program { IfOk result (λ p. Expands text.now (option_map (λ m. m.now) main.entry) (program_of p)) }
     ensures refusal { IfErr result (IsSourceRefused text.now (option_map (λ m. m.now) main.entry)) }
+    ensures lacks { IfErr result (HasNoExpansion text.now (option_map (λ m. m.now) main.entry)) }
 {
-    let flat = Box::new(alloc, flat_program(alloc, text, main)?)?;
+    let flat = match flat_program(alloc, text, main) {
+        Ok(flat) => flat,
+        Err(refusal) => return Err(refusal),
+    };
+    let flat = Box::new(alloc, flat)?;
     match dismantle(alloc, flat) {
         Ok(program) => Ok(program),
         Err(stop) => Err(expansion_refusal(stop)),
@@ -52,6 +58,7 @@ pub fn flat_program(alloc: Global, text: &[u8], main: Option<&[u8]>) -> Result<F
     requires { length text.now ≤ Limits.SOURCE_BYTES }
     ensures flat { IfOk result (λ flat. Flattens text.now (option_map (λ m. m.now) main.entry) (flat_of flat)) }
     ensures refusal { IfErr result (IsSourceRefused text.now (option_map (λ m. m.now) main.entry)) }
+    ensures lacks { IfErr result (HasNoFlat text.now (option_map (λ m. m.now) main.entry)) }
 {
     let tree = match read_source(alloc, text) {
         Ok(tree) => tree,
@@ -66,6 +73,8 @@ fn flat_tree(alloc: Global, tree: &Program, main: Option<&[u8]>) -> Result<Flat,
         → IfOk result (λ flat. Flattens text (option_map (λ m. m.now) main.entry) (flat_of flat)) }
     ensures refusal { (text : List ℕ) → SourceReadsAs text (source_of tree.now)
         → IfErr result (IsSourceRefused text (option_map (λ m. m.now) main.entry)) }
+    ensures lacks { (text : List ℕ) → SourceReadsAs text (source_of tree.now)
+        → IfErr result (HasNoFlat text (option_map (λ m. m.now) main.entry)) }
 {
     let table = match check_modules(alloc, tree, main) {
         Ok(table) => table,
@@ -93,8 +102,10 @@ fn flat_form<'a, 't>(
 
 // The refusal of a source for its names.
 fn name_refusal(stop: Stop<NameFault>) -> SourceRefusal
-    ensures { (text : List ℕ) (main : Option (List ℕ)) (tree : PlainProgram)
-        → SourceReadsAs text tree → FaultIs (IsFirst (name_faults main tree)) stop → IsSourceRefused text main result }
+    ensures refusal { (text : List ℕ) (main : Option (List ℕ)) (tree : PlainProgram) → SourceReadsAs text tree
+        → FaultIs (IsFirst (name_faults main tree)) stop → IsSourceRefused text main result }
+    ensures lacks { (text : List ℕ) (main : Option (List ℕ)) (tree : PlainProgram) → SourceReadsAs text tree
+        → FaultIs (IsFirst (name_faults main tree)) stop → HasNoFlat text main result }
 {
     match stop {
         Stop::Fault(fault) => SourceRefusal::Static(Fault::Name(fault)),
@@ -104,9 +115,12 @@ fn name_refusal(stop: Stop<NameFault>) -> SourceRefusal
 
 // The refusal of a source that has no flat form.
 fn flattening_refusal(fault: ExpandFault) -> SourceRefusal
-    ensures { (text : List ℕ) (main : Option (List ℕ))
+    ensures refusal { (text : List ℕ) (main : Option (List ℕ))
         → ((plain : flattening.FlattenFault) → fault_of fault ≡ Some plain → Unflattened text main plain)
         → IsSourceRefused text main result }
+    ensures lacks { (text : List ℕ) (main : Option (List ℕ))
+        → ((plain : flattening.FlattenFault) → fault_of fault ≡ Some plain → Unflattened text main plain)
+        → HasNoFlat text main result }
 {
     match fault {
         ExpandFault::Scope(fault) => SourceRefusal::Static(Fault::Scope(fault)),
@@ -119,16 +133,28 @@ fn flattening_refusal(fault: ExpandFault) -> SourceRefusal
 
 // The refusal of a flat program that has no kernel program.
 fn expansion_refusal(stop: Stop<DismantleFault>) -> SourceRefusal
-    ensures { (text : List ℕ) (main : Option (List ℕ)) (flat : PlainFlat)
+    ensures refusal { (text : List ℕ) (main : Option (List ℕ)) (flat : PlainFlat)
         → Flattens text main flat → FaultIs (FaultHasCause (expansion flat)) stop → IsSourceRefused text main result }
+    ensures lacks { (text : List ℕ) (main : Option (List ℕ)) (flat : PlainFlat)
+        → Flattens text main flat → FaultIs (FaultHasCause (expansion flat)) stop → HasNoExpansion text main result }
 {
     match stop {
-        Stop::Fault(DismantleFault::BadCount(place)) => SourceRefusal::Static(Fault::BadCount(
-            place,
-        )),
-        Stop::Fault(DismantleFault::TooLarge) => SourceRefusal::Limit(Quantity::Kernel),
-        Stop::Fault(DismantleFault::TooHigh) => SourceRefusal::Limit(Quantity::Height),
-        Stop::Fault(DismantleFault::TooManyTraps) => SourceRefusal::Limit(Quantity::Traps),
+        Stop::Fault(fault) => fault_refusal(fault),
         Stop::NoMemory => SourceRefusal::NoMemory,
+    }
+}
+
+// The refusal for a fault of the expansion.
+fn fault_refusal(fault: DismantleFault) -> SourceRefusal
+    ensures refusal { (text : List ℕ) (main : Option (List ℕ)) (flat : PlainFlat)
+        → Flattens text main flat → FaultHasCause (expansion flat) fault → IsSourceRefused text main result }
+    ensures lacks { (text : List ℕ) (main : Option (List ℕ)) (flat : PlainFlat)
+        → Flattens text main flat → FaultHasCause (expansion flat) fault → HasNoExpansion text main result }
+{
+    match fault {
+        DismantleFault::BadCount(place) => SourceRefusal::Static(Fault::BadCount(place)),
+        DismantleFault::TooLarge => SourceRefusal::Limit(Quantity::Kernel),
+        DismantleFault::TooHigh => SourceRefusal::Limit(Quantity::Height),
+        DismantleFault::TooManyTraps => SourceRefusal::Limit(Quantity::Traps),
     }
 }

@@ -6,6 +6,7 @@ ghost use Rattle.est_lex.specs.Faults.{LexesAsFault};
 ghost use Rattle.est_front.specs.Sources.{SourceReadsAs};
 ghost use Rattle.est_ast.specs.Lexing.{LexesAs, Tokens};
 ghost use Rattle.est_parse.specs.Faults.{IsFirstFault};
+ghost use Rattle.est_front.specs.Lacks.{HasNoTree};
 ghost use Rattle.est_front.specs.Refusals.{IsSourceRefused, token_place};
 
 use crate::refusal::{Fault, Quantity, SourceRefusal};
@@ -20,6 +21,7 @@ pub fn read_source(alloc: Global, text: &[u8]) -> Result<Program, SourceRefusal>
     requires { length text.now ≤ Limits.SOURCE_BYTES }
     ensures tree { IfOk result (λ tree. SourceReadsAs text.now (program_of tree)) }
     ensures refusal { IfErr result (λ r. (main : Option (List ℕ)) → IsSourceRefused text.now main r) }
+    ensures lacks { IfErr result (HasNoTree text.now) }
 {
     let tokens = match lex(alloc, text) {
         Ok(tokens) => tokens,
@@ -33,7 +35,9 @@ pub fn read_source(alloc: Global, text: &[u8]) -> Result<Program, SourceRefusal>
 
 // The refusal of a text that has no tokens.
 fn token_refusal(fault: LexError) -> SourceRefusal
-    ensures { (text : List ℕ) (main : Option (List ℕ)) → LexesAsFault text fault → IsSourceRefused text main result }
+    ensures refusal { (text : List ℕ) (main : Option (List ℕ)) → LexesAsFault text fault
+        → IsSourceRefused text main result }
+    ensures lacks { (text : List ℕ) → LexesAsFault text fault → HasNoTree text result }
 {
     match fault {
         LexError::BadByte(place) => SourceRefusal::Static(Fault::BadByte(place)),
@@ -48,7 +52,8 @@ fn grammar_refusal(text: &[u8], tokens: &[Token], fault: ParseError) -> SourceRe
     requires short { length text.now ≤ Limits.SOURCE_BYTES }
     requires tokens { LexesAs text.now (Tokens tokens.now) }
     requires first { IsFirstFault Limits.NESTING tokens.now fault }
-    ensures { (main : Option (List ℕ)) → IsSourceRefused text.now main result }
+    ensures refusal { (main : Option (List ℕ)) → IsSourceRefused text.now main result }
+    ensures lacks { HasNoTree text.now result }
 {
     match fault {
         ParseError::Syntax(token) => {

@@ -108,7 +108,7 @@ fn wire_runs(
     })
 }
 
-/// For each of so many statements the number of its first instance, of instances that ascend, and at last the number
+/// For each of this many statements the number of its first instance, of instances that ascend, and at last the number
 /// of instances. The time is linear in the statements except for a logarithm; its only error is out of memory.
 pub fn first_instances(alloc: Global, live: &[Instance], count: u32) -> Result<Vec<u32>, NoMemory>
     requires ascend { Ascending live.now }

@@ -75,7 +75,7 @@ pub fn list_statements(
     Ok(list)
 }
 
-// The scope of a program's body, as a table of so many signals.
+// The scope of a program's body, as a table of this many signals.
 fn program_scope(
     alloc: Global,
     inputs: u32,

@@ -134,7 +134,7 @@ impl<'a> Search<'a> {
     }
 }
 
-// Whether a statement's number is that of what a path leads to, in a body of so many statements. What is not
+// Whether a statement's number is that of what a path leads to, in a body of this many statements. What is not
 // in the body has the body's path.
 fn is_at(count: u64, target: Option<Target>, number: PathId) -> bool
     ensures { (t : Term) (steps : List ℕ) → count ≡ capped (statement_count t) → Leads t steps target

@@ -7,6 +7,7 @@ pub mod SharedPairs
 pub mod SharedGraphs
 pub mod Renamings
 pub mod MemberRuns
+pub mod MembersAt
 pub mod Tables
 pub mod SharedGraphForms
 pub mod SharedParts

@@ -1,6 +1,5 @@
 -- Contract: the graph of a program's shared wires by number, and when a program has one.
 use Rattle.std.specs.Prelude.{◌≡◌, ◌<◌, ℕ, Bool, true, false, List, length, map}
-use Rattle.base_types.specs.declared.indices.WireId.{WireId}
 use Rattle.est_kernel.specs.Plain.{Program, program_of}
 use Rattle.grc_graph.specs.declared.graph.Graph.{Graph}
 use Rattle.grc_graph.specs.GraphRuns.{program_wires}
@@ -10,14 +9,10 @@ use Rattle.grc_graph.specs.WireOrders.{AreRanks}
 use Rattle.grc_share.specs.declared.shared_graph.SharedGraph.{SharedGraph}
 use Rattle.grc_share.specs.declared.graphs.SharedOrFull.{SharedOrFull}
 use Rattle.grc_share.specs.declared.graphs.SharedOrFull.TheVariants.{Shared, Full}
-use Rattle.grc_share.specs.MemberRuns.{member_run}
+use Rattle.grc_share.specs.MembersAt.{members_at}
 use Rattle.grc_share.specs.SharedGraphs.{shared_graph, shared_instances, shared_nodes}
 use Rattle.grc_share.specs.SharedNumbers.{IsSharedWalk}
 use Rattle.grc_share.specs.SharedWires.{members, shared_edges, shared_wires}
-
--- the members of the shared wire with this number
-abbrev pub members_at : SharedGraph → ℕ → List WireId
-members_at s k = member_run s.member_list.items s.first_members.items k
 
 -- The graph is that of the shared wires of a program: its instances and wires are the shared ones, in order, and so are
 -- its nodes, equations and formulas of the next state. The members of each wire are those of the shared wire, and the
@@ -29,7 +24,7 @@ pub record IsSharedGraphOf (p : Program) (s : SharedGraph) : Type 0 where
   pub nodes : map (node_form (instances_of s.graph) (names_of s.graph)) s.graph.nodes.items ≡ shared_nodes p
   pub graph : plain_graph s.graph ≡ shared_graph p
   pub members : (k : ℕ) → k < length (shared_wires p)
-      → map (λ w. wire_at (program_wires p) w.0) (members_at s k) ≡ members p (wire_at (shared_wires p) k)
+      → map (λ w. wire_at (program_wires p) w.0) (members_at s.members k) ≡ members p (wire_at (shared_wires p) k)
   pub count : s.edges.count ≡ length s.graph.wires.items
   pub edges : AreEdgesOf (shared_wires p) (shared_edges p) s.edges.pairs.items
   pub ranks : AreRanks s.edges.count s.edges.pairs.items s.ranks.of.items

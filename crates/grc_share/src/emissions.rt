@@ -13,19 +13,19 @@ ghost use Rattle.grc_share.specs.SharedGraphs.{emitted_on};
 ghost use Rattle.grc_share.specs.SharedInstances.{body_sharing};
 ghost use Rattle.grc_share.specs.SharedWires.{shared_wire, shared_wires};
 
-use crate::placing::{empty_lists, push_wire};
+use crate::placing::{FewWires, empty_lists, push_wire};
 use crate::renaming::Numbers;
 use base_types::{InstId, NoMemory, WireId};
 use grc_graph::{Graph, Node};
 use std::alloc::Global;
 
-/// For each of a graph's shared wires, which are so many, the `go` of each shared instance that emits on it.
+/// For each of a graph's shared wires, of which there are `count`, the `go` of each shared instance that emits on it.
 pub(crate) fn emission_lists(
     alloc: Global,
     graph: &Graph,
     numbers: &Numbers,
     count: usize,
-) -> Result<Vec<Vec<WireId>>, NoMemory>
+) -> Result<Vec<FewWires>, NoMemory>
     requires built { IsGraphOf graph.now (program_of graph.now.program) }
     requires numbers { AreNumbersOf graph.now numbers.now.least.now numbers.now.instances.now numbers.now.wires.now }
     requires count { count ≡ length (shared_wires (program_of graph.now.program)) }
@@ -46,7 +46,7 @@ fn push_emission(
     graph: &Graph,
     numbers: &Numbers,
     i: InstId,
-    lists: &mut Vec<Vec<WireId>>,
+    lists: &mut Vec<FewWires>,
 ) -> Result<(), NoMemory>
     requires built { IsGraphOf graph.now (program_of graph.now.program) }
     requires numbers { AreNumbersOf graph.now numbers.now.least.now numbers.now.instances.now numbers.now.wires.now }

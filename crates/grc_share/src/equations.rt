@@ -33,7 +33,7 @@ pub(crate) fn shared_equations(
     };
     let mut formulas: Vec<Formula> = Vec::with_capacity(alloc, least.len())?;
     for k in 0..least.len() {
-        let formula = shared_formula(alloc, graph, &given, &emissions[k], least[k])?;
+        let formula = shared_formula(alloc, graph, &given, emissions[k].as_slice(), least[k])?;
         formulas.push(formula)?;
     }
     Ok(formulas)

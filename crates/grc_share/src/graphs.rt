@@ -230,8 +230,7 @@ fn joined(graph: Graph, parts: Parts) -> SharedGraph
     } = parts;
     SharedGraph {
         graph: joined_graph(graph, lists),
-        member_list: members.list,
-        first_members: members.firsts,
+        members,
         edges,
         ranks,
     }

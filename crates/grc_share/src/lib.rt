@@ -28,6 +28,8 @@ mod tables;
 mod walking;
 
 pub use graphs::{SharedOrFull, share};
+pub use members::Members;
+pub use placing::FewWires;
 pub use shared_graph::SharedGraph;
 pub use sharing::{SharedWires, shared_wires};
 pub use walking::shared_ranks_or_walk;

@@ -4,14 +4,18 @@ ghost use Rattle.std.specs.Prelude.{◌≡◌, ◌++◌, ◌<◌, ◌^◌, [], �
 ghost use Rattle.grc_share.specs.LeastMembers.{places_of};
 
 use base_types::{NoMemory, WireId};
+use smallvec::SmallVec;
 use std::alloc::Global;
+
+/// A few wires. Most such lists are in the value itself, and need no memory.
+pub type FewWires = SmallVec<WireId, 4>;
 
 /// For each number the places that have it, ascending.
 pub(crate) fn places_by_number(
     alloc: Global,
     count: usize,
     numbers: &[u32],
-) -> Result<Vec<Vec<WireId>>, NoMemory>
+) -> Result<Vec<FewWires>, NoMemory>
     requires few { length numbers.now < 2 ^ 32 }
     requires within { All (λ k. k < count) numbers.now }
     ensures each { IfOk result (λ v. length v.items ≡ count) }
@@ -25,21 +29,21 @@ pub(crate) fn places_by_number(
     Ok(lists)
 }
 
-/// So many empty lists.
-pub(crate) fn empty_lists(alloc: Global, count: usize) -> Result<Vec<Vec<WireId>>, NoMemory>
+/// This many empty lists.
+pub(crate) fn empty_lists(alloc: Global, count: usize) -> Result<Vec<FewWires>, NoMemory>
     ensures length { IfOk result (λ v. length v.items ≡ count) }
     ensures empty { IfOk result (λ v. All (λ list. list ≡ []) (map (λ list. list.items) v.items)) }
 {
     let mut lists = Vec::with_capacity(alloc, count)?;
     for made in 0..count {
-        lists.push(Vec::new(alloc))?;
+        lists.push(SmallVec::new(alloc))?;
     }
     Ok(lists)
 }
 
 /// Appends a wire to one of the lists.
 pub(crate) fn push_wire(
-    lists: &mut Vec<Vec<WireId>>,
+    lists: &mut Vec<FewWires>,
     place: usize,
     wire: WireId,
 ) -> Result<(), NoMemory>

@@ -11,7 +11,7 @@ ghost use Rattle.grc_share.specs.SharedNumbers.{AreMemberLists, AreSharedWires};
 use crate::least_members::{least_instances, least_wires};
 use crate::loop_counts::loop_bodies;
 use crate::numbering::{Numbered, number_members};
-use crate::placing::places_by_number;
+use crate::placing::{FewWires, places_by_number};
 use base_types::{NoMemory, WireId};
 use grc_graph::Graph;
 use std::alloc::Global;
@@ -24,7 +24,7 @@ pub struct SharedWires {
     /// For each wire of the graph the number of its shared wire.
     pub numbers: Vec<u32>,
     /// The members of each shared wire, ascending.
-    pub members: Vec<Vec<WireId>>,
+    pub members: Vec<FewWires>,
 }
 
 /// The shared wires of a graph. The time is linear in the wires but for the search of status wires among the instances

@@ -10,7 +10,7 @@ use base_types::NoMemory;
 use std::alloc::Global;
 
 /// What is known of each node of a system, and a list of decided nodes whose readers are still to be
-/// looked at: the front of `stack`, of so many nodes.
+/// looked at: the front of `stack`, of this many nodes.
 #[derive(Drop)]
 pub struct Solver {
     pub values: Vec<Value>,
@@ -19,7 +19,7 @@ pub struct Solver {
 }
 
 impl Solver {
-    /// Room for so many nodes. Its only error is out of memory.
+    /// Room for this many nodes. Its only error is out of memory.
     pub fn new(alloc: Global, nodes: usize) -> Result<Solver, NoMemory>
         ensures { IfOk result (λ s. Fits nodes s) }
     {

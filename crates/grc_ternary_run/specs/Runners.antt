@@ -1,7 +1,7 @@
 -- Contract: what a runner of a graph does in an instant, and what that is for the program.
 use Rattle.std.specs.Prelude.{◌≡◌, Bool, true, false, ◌==◌, List, length, map, replicate, All, Some, None}
 use Rattle.std.specs.List.{list_any}
-use Rattle.est_kernel.specs.Plain.{Program, program_of, interface_of}
+use Rattle.est_kernel.specs.Plain.{Program, program_of, interface_of, outgoing_count}
 use Rattle.est_kernel.specs.Reactions.{Reaction, react}
 use Rattle.grc_graph.specs.declared.graph.Graph.{Graph}
 use Rattle.grc_graph.specs.GraphRuns.{graph_of, program_wires, formula_value, shown}
@@ -39,6 +39,11 @@ pub record IsFresh (r : Runner) : Type 0 where
   pub selected : r.selected ≡ replicate (length r.graph.next.items) false
   pub outputs : All (λ b. b ≡ false) r.outputs
   pub unknown : All (λ b. b ≡ false) r.unknown
+
+-- a value for each outgoing signal, and one for each wire of the graph
+pub record HasPlaces (r : Runner) : Type 0 where
+  pub outputs : length r.outputs ≡ outgoing_count (program_in r)
+  pub unknown : length r.unknown ≡ length r.graph.wires.items
 
 -- In the least solution each wire is known: it tells what goes out, whether the program pauses, and the next state.
 pub record Steps (old : Runner) (inputs : List Bool) (paused : Bool) (new : Runner) : Type 0 where

@@ -4,7 +4,8 @@ ghost use Rattle.std.specs.Prelude.{◌≡◌, length, map, IfErr, IfOk};
 ghost use Rattle.est_kernel.specs.Plain.{given_count, program_of, term_of};
 ghost use Rattle.est_kernel.specs.StaticCodes.{NoInstantLoop};
 ghost use Rattle.grc_graph.specs.BuiltGraphs.{IsGraphOf};
-ghost use Rattle.grc_ternary_run.specs.Runners.{IsFresh, IsStuck, Resets, Stays, Steps, TriReacts, program_in};
+ghost use Rattle.grc_ternary_run.specs.Runners.{HasPlaces, IsFresh, IsStuck, Resets, Stays, Steps};
+ghost use Rattle.grc_ternary_run.specs.Runners.{TriReacts, program_in};
 
 use crate::state::{NotConstructive, State};
 use crate::systems::make_system;
@@ -49,6 +50,7 @@ impl<'a> TriRunner<'a> {
         requires graph { IsGraphOf graph.now (program_of graph.now.program) }
         ensures graph { IfOk result (λ r. r.graph ≡ graph.now) }
         ensures fresh { IfOk result IsFresh }
+        ensures places { IfOk result HasPlaces }
     {
         let words = words(alloc, graph)?;
         let system = make_system(alloc, graph, &words)?;
@@ -93,7 +95,8 @@ impl<'a> TriRunner<'a> {
 
     /// Puts the runner back to its beginning. It takes no memory.
     pub fn reset(&mut self)
-        ensures { Resets self.old self.new }
+        ensures resets { Resets self.old self.new }
+        ensures places { HasPlaces self.new }
     {
         let graph = self.graph;
         self.state.reset(graph, &self.words, &self.system);

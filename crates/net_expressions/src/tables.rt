@@ -11,7 +11,7 @@ use std::alloc::Global;
 use std::collections::HashSet;
 
 /// A set of names, and the first of them that stood among others before or stands a second time. Where there is such a
-/// name, the set ends before it.
+/// name, nothing is said of the set.
 #[derive(Drop)]
 pub struct NameTable<'a> {
     pub names: HashSet<&'a [u8]>,

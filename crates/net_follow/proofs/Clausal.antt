@@ -11,7 +11,7 @@ use Rattle.net_follow.specs.Literals.{IsSteady, holds, opposite, constant, Meets
 use Rattle.net_follow.specs.Coding.{coded_clause, valuation}
 use Rattle.net_follow.specs.Proving.{Models, KeepsProof, Shown, Begins, Noted, Entails}
 use Rattle.net_follow.proofs.Coded.{coded-value, opposite-value, model-more, opposites-twice}
-use Rattle.sat_kernel.specs.Clauses.{Follows, IsModel, clause_value, opposite as kernel_opposite}
+use Rattle.sat_kernel.specs.Clauses.{IsImplied, IsModel, clause_value, opposite as kernel_opposite}
 use Rattle.sat_kernel.specs.declared.literals.Literal as kernel
 
 -- ---- the clauses of an equation
@@ -129,7 +129,7 @@ shown-always c p always = record { stays = λ h V models. models; claims = λ h 
 -- a clause whose denial is refuted
 pub shown-refuted : (c : Clause) (literals denial : List kernel.Literal) (old new : Prover) (shown : Bool) → literals ≡ coded_clause c
     → denial ≡ map kernel_opposite literals → new.kernel.assumed ≡ old.kernel.assumed
-    → (shown ≡ true → Follows new.kernel.assumed (map kernel_opposite denial)) → Shown (λ V. meets_clause V c ≡ true) old new shown
+    → (shown ≡ true → IsImplied new.kernel.assumed (map kernel_opposite denial)) → Shown (λ V. meets_clause V c ≡ true) old new shown
 shown-refuted c literals denial old new shown is denied same follows = record {
   stays = λ h V models. models-same V old new same models;
   claims = λ h V models.

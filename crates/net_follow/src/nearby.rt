@@ -19,7 +19,7 @@ const CLAUSES: usize = 12;
 // How often the clauses of these variables are looked at, one after another.
 const SWEEPS: usize = 3;
 
-// After this many questions in vain only one of so many is tried.
+// After this many questions in vain only one of this many is tried.
 const PATIENCE: usize = 16;
 
 const SELDOM: usize = 16;

@@ -1,7 +1,7 @@
 // Equations that follow from others.
 
 ghost use Rattle.std.specs.Prelude.{◌≡◌, [], true, map, IfOk, OnOk};
-ghost use Rattle.sat_kernel.specs.Clauses.{Follows, opposite};
+ghost use Rattle.sat_kernel.specs.Clauses.{IsImplied, opposite};
 ghost use Rattle.net_follow.specs.Literals.{meets_clause, Meets, from_parts, to_left, to_right};
 ghost use Rattle.net_follow.specs.Proving.{KeepsProof, Shown, Begins, Noted, Entails};
 
@@ -18,7 +18,7 @@ const EFFORT: u64 = 2_000_000;
 
 const SHARE: u64 = 16;
 
-// The effort of all questions over so many nets.
+// The effort of all questions over this many nets.
 fn patience(nets: usize) -> u64 {
     (nets as u64)
         .saturating_mul(20_000)
@@ -99,7 +99,7 @@ impl Prover {
     fn refutes(&mut self, literals: &[sat_kernel::Literal]) -> Result<bool, NoMemory>
         ensures assumed { OnOk result (self.new.kernel.assumed ≡ self.old.kernel.assumed) }
         ensures follows { IfOk result (λ refuted. refuted ≡ true
-            → Follows self.new.kernel.assumed (map opposite literals.now)) }
+            → IsImplied self.new.kernel.assumed (map opposite literals.now)) }
     {
         if self.refutes_nearby(literals)? {
             return Ok(true);
@@ -111,7 +111,7 @@ impl Prover {
     fn refutes_nearby(&mut self, literals: &[sat_kernel::Literal]) -> Result<bool, NoMemory>
         ensures assumed { OnOk result (self.new.kernel.assumed ≡ self.old.kernel.assumed) }
         ensures follows { IfOk result (λ refuted. refuted ≡ true
-            → Follows self.new.kernel.assumed (map opposite literals.now)) }
+            → IsImplied self.new.kernel.assumed (map opposite literals.now)) }
     {
         if !self.nearby.refutes(literals)? {
             return Ok(false);
@@ -138,7 +138,7 @@ impl Prover {
     fn refutes_by_search(&mut self, literals: &[sat_kernel::Literal]) -> Result<bool, NoMemory>
         ensures assumed { OnOk result (self.new.kernel.assumed ≡ self.old.kernel.assumed) }
         ensures follows { IfOk result (λ refuted. refuted ≡ true
-            → Follows self.new.kernel.assumed (map opposite literals.now)) }
+            → IsImplied self.new.kernel.assumed (map opposite literals.now)) }
     {
         self.nearby.feed(&mut self.search, self.fed)?;
         self.fed = self.nearby.count();

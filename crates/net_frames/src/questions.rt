@@ -53,7 +53,7 @@ pub struct Questions {
 }
 
 impl Questions {
-    /// Questions over at most so many variables.
+    /// Questions over at most this many variables.
     pub fn new(alloc: Global, limit: usize) -> Result<Questions, NoMemory> {
         Ok(Questions {
             alloc,

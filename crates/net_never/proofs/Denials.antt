@@ -3,7 +3,7 @@ use Rattle.std.proofs.Common.{◌≡◌, ◌==◌, if◌then◌else◌, ℕ, Boo
 use Rattle.std.specs.List.{list_any}
 use Rattle.std.proofs.lemmas.Bool.{and_parts, eqb-true, or_cases, or_left, or_right, true≢false}
 use Rattle.sat_kernel.specs.declared.literals.Literal.{Literal}
-use Rattle.sat_kernel.specs.Clauses.{Follows, clause_value, literal_value, opposite}
+use Rattle.sat_kernel.specs.Clauses.{IsImplied, clause_value, literal_value, opposite}
 use Rattle.sat_kernel.specs.Propagation.{is_same, is_same_sign}
 
 twice-opposite : (p b : Bool) → (if not (not p) then b else not b) ≡ (if p then b else not b)
@@ -19,7 +19,7 @@ denied-value v (l ∷ ls) =
 
 -- where the denials of its literals are refuted, a clause follows
 pub follows-denied : (known : List (List Literal)) (clause denial : List Literal) → denial ≡ map opposite clause
-    → Follows known (map opposite denial) → Follows known clause
+    → IsImplied known (map opposite denial) → IsImplied known clause
 follows-denied known clause denial is refuted v model =
     sym (denied-value v clause) ∙ ap (λ ls. clause_value v (map opposite ls)) (sym is) ∙ refuted v model
 
@@ -79,6 +79,6 @@ or-twice false e = e
 
 -- a clause that has a literal and its negation is true
 pub tautology-follows : (known : List (List Literal)) (clause : List Literal) → list_any (λ l. list_any (is_same (opposite l)) clause) clause ≡ true
-    → Follows known clause
+    → IsImplied known clause
 tautology-follows known clause has v model =
     or-twice (clause_value v clause) (true-for-all v clause clause (λ l e. with-negation v l clause e) has)

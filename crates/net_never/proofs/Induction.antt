@@ -12,7 +12,7 @@ use Rattle.net_ir.specs.Netlists.{IsNet, Netlist, first_gate}
 use Rattle.net_ir.specs.Runs.{initial_latches, net_values, next_latches, values_from}
 use Rattle.net_ir.proofs.Exports.{Solves-gate_values, length-next, value_in-gate_values}
 use Rattle.sat_kernel.specs.declared.literals.Literal.{Literal}
-use Rattle.sat_kernel.specs.Clauses.{Follows, IsModel, clause_value, literal_value, opposite}
+use Rattle.sat_kernel.specs.Clauses.{IsImplied, IsModel, clause_value, literal_value, opposite}
 use Rattle.net_never.specs.GateClauses.{gate_clauses, signed}
 use Rattle.net_never.specs.Inductive.{IsInductive, is_between, known_clauses, latch_values, next_clause, source_at}
 use Rattle.net_never.specs.Never.{IsNever, FitsInputs}
@@ -85,7 +85,7 @@ next-value net values n low high =
 all-next : (v w : ℕ → Bool) (first end : ℕ) (latches : List Latch) (known : List (List Literal))
     → ((n : ℕ) → first ≤ n → n < end → v (source_at first latches n) ≡ w n) → IsModel v known
     → (clauses : List (List Literal)) → IsTrue (list_all (is_between first end) clauses)
-    → AllByRecursion (λ c. Follows known (next_clause first latches c)) clauses → IsModel w clauses
+    → AllByRecursion (λ c. IsImplied known (next_clause first latches c)) clauses → IsModel w clauses
 all-next v w first end latches known same model [] over follows = refl
 all-next v w first end latches known same model (c ∷ cs) over follows =
     let parts = and_parts (is_between first end c) (list_all (is_between first end) cs) over in

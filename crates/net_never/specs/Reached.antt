@@ -1,4 +1,4 @@
--- Contract: when events lead to an instant where a net, or its negation, is true.
+-- To believe: when events lead to an instant where a net, or its negation, is true.
 use Rattle.std.specs.Prelude.{Bool, false, ◌&&◌, List, [], ◌∷◌, Vec, length, map, nat_eq}
 use Rattle.std.specs.List.{list_all}
 use Rattle.std.specs.declared.alloc.Global.{Global}

@@ -3,7 +3,7 @@
 ghost use Rattle.std.specs.Prelude.{◌≡◌, ◌++◌, IsTrue, IfOk, length, map};
 ghost use Rattle.std.specs.List.{AllByRecursion, list_any};
 ghost use Rattle.net_ir.specs.Runs.{netlist_of};
-ghost use Rattle.sat_kernel.specs.Clauses.{Follows, opposite, plain_assumed};
+ghost use Rattle.sat_kernel.specs.Clauses.{IsImplied, opposite, plain_assumed};
 ghost use Rattle.sat_kernel.specs.Propagation.{is_same};
 ghost use Rattle.net_never.specs.Inductive.{Closes, holds_at_first, is_over_latches, known_clauses, next_clause};
 ghost use Rattle.net_never.specs.Never.{IsNever};
@@ -31,7 +31,7 @@ impl Prover {
     fn refutes(&mut self, literals: &[Literal]) -> Result<bool, NoMemory>
         ensures assumed { self.new.kernel.assumed ≡ self.old.kernel.assumed }
         ensures follows { IfOk result (λ yes. IsTrue yes
-            → Follows self.old.kernel.assumed (map opposite literals.now)) }
+            → IsImplied self.old.kernel.assumed (map opposite literals.now)) }
     {
         let outcome = self.search.solve(&mut self.kernel, literals, self.effort)?;
         self.effort = self.search.effort_left();
@@ -49,7 +49,7 @@ impl Prover {
     // Reports whether a clause follows from what is known, as far as the effort shows.
     fn implies(&mut self, clause: &[Literal]) -> Result<bool, NoMemory>
         ensures assumed { self.new.kernel.assumed ≡ self.old.kernel.assumed }
-        ensures follows { IfOk result (λ yes. IsTrue yes → Follows self.old.kernel.assumed clause.now) }
+        ensures follows { IfOk result (λ yes. IsTrue yes → IsImplied self.old.kernel.assumed clause.now) }
     {
         if is_tautology(clause) {
             return Ok(true);
@@ -61,7 +61,7 @@ impl Prover {
     // Reports whether each clause of the invariant follows for the next instant.
     fn keeps(&mut self, net: &Net, clauses: &[Clause]) -> Result<bool, NoMemory>
         ensures assumed { self.new.kernel.assumed ≡ self.old.kernel.assumed }
-        ensures keeps { IfOk result (λ yes. IsTrue yes → AllByRecursion (λ c. Follows self.old.kernel.assumed
+        ensures keeps { IfOk result (λ yes. IsTrue yes → AllByRecursion (λ c. IsImplied self.old.kernel.assumed
             (next_clause (length net.now.inputs.items) net.now.latches.items c)) (plain_assumed clauses.now)) }
     {
         for (k, clause) in clauses.iter().enumerate() {

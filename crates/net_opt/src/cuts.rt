@@ -17,7 +17,7 @@ pub(crate) struct Cut {
     pub inside: Vec<usize>,
 }
 
-/// How a cut is grown: up to so many leaves, and whether by leaves first that nothing else needs.
+/// How a cut is grown: up to this many leaves, and whether by leaves first that nothing else needs.
 #[derive(Clone, Copy)]
 pub(crate) struct Style {
     pub leaves: usize,

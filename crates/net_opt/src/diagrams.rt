@@ -145,7 +145,7 @@ impl Diagram {
         Ok(Function((node as u32).wrapping_mul(2)).negated_if(negative))
     }
 
-    /// What both functions say together, over so many levels at most.
+    /// What both functions say together, over at most this many levels.
     pub fn both(
         &mut self,
         left: Function,

@@ -174,7 +174,7 @@ fn net_of(edge: Edge) -> NetId {
     net_number(edge.node.saturating_sub(1))
 }
 
-// The net of a number, where there can be so many.
+// The net of a number, where there can be that many.
 fn net_number(number: usize) -> NetId {
     if number < 0x1_0000_0000 {
         NetId(number as u32)

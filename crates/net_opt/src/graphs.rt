@@ -26,7 +26,7 @@ pub(crate) struct Pair {
 }
 
 impl Graph {
-    /// The leaves alone, with room for so many pairs.
+    /// The leaves alone, with room for this many pairs.
     pub fn new(alloc: Global, leaves: usize, pairs: usize) -> Result<Graph, NoMemory> {
         let ends = leaves.saturating_add(1);
         Ok(Graph {

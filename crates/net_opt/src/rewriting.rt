@@ -162,7 +162,7 @@ impl Rewriter {
         Ok(())
     }
 
-    // A node is needed so many times more.
+    // A node is needed this many times more.
     fn take(&mut self, alloc: Global, edge: Edge, times: usize) -> Result<(), NoMemory> {
         let mut stack = Vec::new(alloc);
         let mut times = times;
@@ -185,7 +185,7 @@ impl Rewriter {
         Ok(())
     }
 
-    // A node is needed so many times less.
+    // A node is needed this many times less.
     fn release(&mut self, alloc: Global, edge: Edge, times: usize) -> Result<(), NoMemory> {
         let mut stack = Vec::new(alloc);
         let mut times = times;

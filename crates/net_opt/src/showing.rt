@@ -27,7 +27,7 @@ pub(crate) fn shown_part(alloc: Global, net: &Net) -> Result<Option<Net>, NoMemo
     Ok(Some(kept_net(alloc, net, &marks)?))
 }
 
-// Marks so many nets from the first on.
+// Marks this many nets from the first on.
 fn mark_first(marks: &mut Vec<bool>, count: usize)
     requires { count ≤ length marks.old.items }
     ensures count { length marks.new.items ≡ length marks.old.items }
@@ -63,7 +63,7 @@ fn shown_marks(alloc: Global, net: &Net) -> Result<Vec<bool>, NoMemory>
     Ok(marks)
 }
 
-// Marks of so many nets, of which none is marked.
+// Marks of this many nets, of which none is marked.
 fn no_marks(alloc: Global, count: usize) -> Result<Vec<bool>, NoMemory>
     ensures { IfOk result (λ marks. marks.items ≡ replicate count false) }
 {

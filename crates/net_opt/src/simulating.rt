@@ -5,7 +5,7 @@ use base_types::{NetId, NoMemory};
 use net_ir::{Net, Op};
 use std::alloc::Global;
 
-// How many instants are run: as many as make so many values, within bounds.
+// How many instants are run: as many as make a set number of values, within bounds.
 const VALUES: usize = 20_000_000;
 
 const FEWEST: usize = 256;
@@ -277,7 +277,7 @@ fn mix(marks: &mut Vec<u64>, flips: &[u64], values: &[u64]) {
     }
 }
 
-// How many instants are run of so many nets.
+// How many instants are run of this many nets.
 fn instants(nets: usize) -> usize {
     if nets == 0 {
         FEWEST

@@ -20,7 +20,7 @@ pub(crate) struct Told {
     pub edges: Vec<Edge>,
 }
 
-/// The latches that gates of their classes tell, where that takes at most so many pairs more than go with the latch.
+/// The latches that gates of their classes tell, where that takes at most this many pairs more than go with the latch.
 /// The graph may have some pairs more then.
 pub(crate) fn told_latches(
     alloc: Global,

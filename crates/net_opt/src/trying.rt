@@ -23,7 +23,7 @@ use std::alloc::Global;
 // How often a netlist is checked, each time with fewer claims.
 const CHECKS: usize = 100;
 
-// A graph of more nodes than this is not rewritten any more where it was no smaller so many times.
+// A graph of more nodes than this is not rewritten any more where it was no smaller that many times.
 const LARGE: usize = 500;
 
 const VAIN: usize = 2;
@@ -50,13 +50,13 @@ struct Claims {
 pub(crate) enum Change {
     // not at all
     Keep,
-    // latches go that gates tell, where that takes at most so many pairs more than go with them
+    // latches go that gates tell, where that takes at most this many pairs more than go with them
     Tell(usize),
     // nodes stand in the order in which they are needed
     Order,
     // chains are balanced by depth
     Balance,
-    // parts are rewritten so many times
+    // parts are rewritten this many times
     Rewrite(usize),
     // the functions of the roots are made anew
     Collapse,
@@ -133,7 +133,7 @@ fn changed(
     }
 }
 
-// The graph, rewritten at most so many times; after the first time what only changes is taken too. A large graph that
+// The graph, rewritten at most this many times; after the first time what only changes is taken too. A large graph that
 // stays as large for some times is left as it is.
 fn remade(
     alloc: Global,

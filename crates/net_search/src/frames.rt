@@ -1,4 +1,4 @@
-// Frames: what is known of the states that so many instants reach.
+// Frames: what is known of the states that a number of instants reach.
 
 use crate::candidates::add_allowed;
 use crate::cubes::{is_part, signature, sort_by_key};

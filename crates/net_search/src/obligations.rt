@@ -23,7 +23,7 @@ pub(crate) struct Obligations {
     alloc: Global,
     items: Vec<Obligation>,
     literals: Vec<LiteralId>,
-    // The inputs' values, so many for each obligation.
+    // The inputs' values, one an input for each obligation.
     inputs: Vec<bool>,
     width: usize,
     // By frame: the obligations that wait.

@@ -30,7 +30,7 @@ pub(crate) enum Way {
     /// It may hold none.
     Loose,
     /// It is one part of several, or has several, of which one holds a selected leaf. The number of that part is
-    /// written in so many bits; the first part has this number.
+    /// written in this many bits; the first part has this number.
     Part(u32, u32),
 }
 
@@ -127,7 +127,7 @@ fn branch_way(marked: bool) -> Way
     if marked { Way::Loose } else { Way::Full }
 }
 
-// How the part with this place of so many is coded.
+// How the part with this place is coded, of this many.
 fn part_way(way: Way, parts: u32, place: u32) -> Way
     requires parts { parts + 1 < 2 ^ 32 }
     requires place { place < parts }

@@ -33,6 +33,8 @@ pub fn encode(alloc: Global, net: &Net, tree: &SelTree) -> Result<Net, Stop<TooM
         → Encodes (netlist_of net.now) (netlist_of new) body) }
     ensures size { IfOk result (λ new. length new.gates.items ≤ length net.now.gates.items
         + 64 * (length tree.now.nodes.items * length new.latches.items)) }
+    ensures copies { IfOk result (λ new. length new.latches.items ≡ length net.now.latches.items
+        → netlist_of new ≡ netlist_of net.now) }
     ensures fault { IfFault result (λ fault. 2 ^ 31 < length net.now.inputs.items + length net.now.gates.items) }
 {
     if tree.leaves <= LEAVES_AT_MOST {
@@ -53,6 +55,8 @@ fn shorter_net(alloc: Global, net: &Net, tree: &SelTree) -> Result<Net, Stop<Too
         → Encodes (netlist_of net.now) (netlist_of new) body) }
     ensures size { IfOk result (λ new. length new.gates.items ≤ length net.now.gates.items
         + 64 * (length tree.now.nodes.items * length new.latches.items)) }
+    ensures copies { IfOk result (λ new. length new.latches.items ≡ length net.now.latches.items
+        → netlist_of new ≡ netlist_of net.now) }
     ensures fault { IfFault result (λ fault. 2 ^ 31 < length net.now.inputs.items + length net.now.gates.items) }
 {
     let code = code_tree(alloc, tree)?;

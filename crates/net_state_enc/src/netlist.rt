@@ -28,7 +28,7 @@ struct Drawing {
     bits: Vec<NetId>,
 }
 
-// So many nets from a number on.
+// This many nets from a number on.
 fn push_numbers(names: &mut Vec<NetId>, from: u32, count: usize) -> Result<(), NoMemory>
     requires { from + count < 2 ^ 32 }
     ensures { OnOk result (names.new.items ≡ names.old.items ++ numbers_from from count) }

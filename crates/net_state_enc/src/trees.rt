@@ -41,7 +41,7 @@ pub(crate) enum CodeTree {
     AllOf(Sizes, bool, bool, Box<CodeTree>, Box<CodeTree>),
 }
 
-// The least width in which so many numbers differ.
+// The least width in which this many numbers differ.
 pub(crate) fn number_width(count: u32) -> u32
     ensures width { result ≡ number_width count }
     ensures short { result ≤ 32 }

@@ -52,7 +52,7 @@ impl Gates {
         Ok(())
     }
 
-    /// How many slots there are: so many values a run needs.
+    /// How many slots there are, each for one value of a run.
     pub fn slots(&self) -> usize
         ensures { result ≡ self.now.slots }
     {

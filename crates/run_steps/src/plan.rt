@@ -47,7 +47,7 @@ impl Model for Plan {
 }
 
 impl Plan {
-    /// A plan without a step, where so many slots have names. Its only error is out of memory: none holds a value for
+    /// A plan without a step, where this many slots have names. Its only error is out of memory: none holds a value for
     /// each of 2^64 slots.
     pub fn new(alloc: Global, named: usize) -> Result<Plan, NoMemory>
         ensures named { IfOk result (λ p. p.named ≡ named) }
@@ -64,7 +64,7 @@ impl Plan {
         })
     }
 
-    /// How many slots there are: so many values a run needs.
+    /// How many slots there are, each for one value of a run.
     pub fn slots(&self) -> usize
         ensures slots { result ≡ self.now.slots }
         ensures names { self.now.named < self.now.free }

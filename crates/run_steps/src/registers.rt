@@ -39,7 +39,7 @@ impl Model for Registers {
 }
 
 impl Registers {
-    /// Registers before the first instant: so many inputs, for each register its value at first and the slot of a name
+    /// Registers before the first instant: a number of inputs, for each register its first value and the slot of a name
     /// whose value it gets after an instant, and the slots of the outputs. Its only error is out of memory.
     pub fn new(
         alloc: Global,

@@ -11,7 +11,7 @@ use Rattle.sat_kernel.specs.declared.literals.Premise.TheVariants.{Assumed, Deri
 use Rattle.sat_kernel.specs.declared.marks.Mark.{Mark}
 use Rattle.sat_kernel.specs.declared.marks.Mark.TheVariants.{Unknown}
 use Rattle.sat_kernel.specs.declared.propagation.ClauseState.TheVariants.{Unit, Open}
-use Rattle.sat_kernel.specs.Clauses.{Derivation, Follows, IsModel, clause_value, literal_value}
+use Rattle.sat_kernel.specs.Clauses.{Derivation, IsImplied, IsModel, clause_value, literal_value}
 use Rattle.sat_kernel.specs.Propagation.{after_clause, after_state, cited, denied, is_false, is_implied_along, is_same, is_same_sign, state_by_first}
 use Rattle.sat_kernel.specs.Propagation.{propagated, with_mark, truth_mark}
 use Rattle.sat_kernel.specs.Kernels.{DerivedFollow}
@@ -109,7 +109,7 @@ cited-true v assumed derived follow model (Assumed k) c is = assumed-true v assu
 cited-true v assumed derived follow model (Derived k) c is = follow k c is v model
 
 pub implied-follows : (d : Derivation) (clause : List Literal) (hints : List Premise) → DerivedFollow d.assumed d.derived
-    → IsTrue (is_implied_along d clause hints) → Follows d.assumed clause
+    → IsTrue (is_implied_along d clause hints) → IsImplied d.assumed clause
 implied-follows d clause hints follow implied v model = ⊎_elim
     (λ yes. yes)
     (λ no. absurd (both_ways _ (no-conflict v (cited d.assumed d.derived) (cited-true v d.assumed d.derived follow model)
@@ -119,7 +119,7 @@ implied-follows d clause hints follow implied v model = ⊎_elim
 
 -- ---- what grows
 
-pub follows-more : (assumed : List (List Literal)) (new clause : List Literal) → Follows assumed clause → Follows (assumed ++ new ∷ []) clause
+pub follows-more : (assumed : List (List Literal)) (new clause : List Literal) → IsImplied assumed clause → IsImplied (assumed ++ new ∷ []) clause
 follows-more assumed new clause follows v model =
     let both = list_all-append (clause_value v) assumed (new ∷ []) in
     follows v ((and_parts _ _ (sym both ∙ model)).0)

@@ -1,4 +1,4 @@
--- Contract: literals, clauses, and what follows from clauses. A valuation gives each variable a truth value.
+-- To believe: literals, clauses, and what follows from clauses. A valuation gives each variable a truth value.
 use Rattle.std.specs.Prelude.{ℕ, Bool, not, List, map, Option, Vec, IsTrue, if◌then◌else◌}
 use Rattle.std.specs.List.{list_any, list_all}
 use Rattle.std.specs.Option.{option_map}
@@ -21,8 +21,8 @@ abbrev pub IsModel : (ℕ → Bool) → List (List Literal) → Type 0
 IsModel v clauses = IsTrue (list_all (clause_value v) clauses)
 
 -- this clause is true wherever all of the clauses are
-abbrev pub Follows : List (List Literal) → List Literal → Type 0
-Follows clauses clause = (v : ℕ → Bool) → IsModel v clauses → IsTrue (clause_value v clause)
+abbrev pub IsImplied : List (List Literal) → List Literal → Type 0
+IsImplied clauses clause = (v : ℕ → Bool) → IsModel v clauses → IsTrue (clause_value v clause)
 
 -- lists of clauses without the capacities and pointers of vectors
 abbrev pub plain_assumed : List (Vec Literal Global) → List (List Literal)

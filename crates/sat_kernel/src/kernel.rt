@@ -3,7 +3,7 @@
 ghost use Rattle.std.specs.Prelude.{◌≡◌, [], ◌∷◌, ◌++◌, ◌&&◌, if◌then◌else◌, Some, None, length, ltb, slice_set};
 ghost use Rattle.std.specs.Prelude.{IsTrue, IfOk, OnOk, OnErr};
 ghost use Rattle.std.specs.Option.{option_map};
-ghost use Rattle.sat_kernel.specs.Clauses.{Follows, plain_assumed, plain_derived};
+ghost use Rattle.sat_kernel.specs.Clauses.{IsImplied, plain_assumed, plain_derived};
 ghost use Rattle.sat_kernel.specs.Propagation.{is_implied_along};
 ghost use Rattle.sat_kernel.specs.declared.literals.Premise.TheVariants.{Derived};
 
@@ -64,7 +64,7 @@ impl Kernel {
     /// linear in the literals of the clause and of the clauses that the hints cite.
     pub fn implies(&mut self, clause: &[Literal], hints: &[Premise]) -> bool
         ensures answer { result ≡ is_implied_along self.old clause.now hints.now }
-        ensures follows { IsTrue result → Follows self.old.assumed clause.now }
+        ensures follows { IsTrue result → IsImplied self.old.assumed clause.now }
         ensures same { self.new ≡ self.old }
     {
         is_shown(&self.assumed, &self.derived, &mut self.marks, clause, hints)

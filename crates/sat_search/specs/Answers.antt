@@ -2,7 +2,7 @@
 -- clauses meets the assumptions, that its clause follows, and that the kernel holds the clause under the premise. A
 -- valuation says nothing by itself, since `is_model` checks it.
 use Rattle.std.specs.Prelude.{◌≡◌, List, map, Some, ⊤}
-use Rattle.sat_kernel.specs.Clauses.{Derivation, Follows, opposite}
+use Rattle.sat_kernel.specs.Clauses.{Derivation, IsImplied, opposite}
 use Rattle.sat_kernel.specs.Propagation.{cited}
 use Rattle.sat_kernel.specs.declared.literals.Literal.{Literal}
 use Rattle.sat_search.specs.declared.outcomes.SearchOutcome.{SearchOutcome}
@@ -10,8 +10,8 @@ use Rattle.sat_search.specs.declared.outcomes.SearchOutcome.TheVariants as outco
 use Rattle.sat_search.specs.declared.outcomes.Refutation.{Refutation}
 
 pub record IsRefutation (k : Derivation) (assumptions : List Literal) (r : Refutation) : Type 0 where
-  pub never : Follows k.assumed (map opposite assumptions)
-  pub follows : Follows k.assumed r.clause.items
+  pub never : IsImplied k.assumed (map opposite assumptions)
+  pub follows : IsImplied k.assumed r.clause.items
   pub has : cited k.assumed k.derived r.premise ≡ Some r.clause.items
 
 abbrev pub IsAnswer : Derivation → List Literal → SearchOutcome → Type 0

@@ -79,7 +79,7 @@ impl Restarts {
     }
 }
 
-// A mean moved toward the next value by one part of so many.
+// A mean moved toward the next value by one part of this many.
 fn moved(mean: u64, next: u64, parts: u64) -> u64 {
     let parts = parts.max(1);
     mean.saturating_sub(mean / parts)

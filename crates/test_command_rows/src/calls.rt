@@ -181,7 +181,7 @@ fn not_begun(alloc: Global, settings: &str) -> Result<Ended, NoMemory> {
     })
 }
 
-/// A sink with room for so many bytes, which fails at the calls whose numbers come after the mark.
+/// A sink with room for this many bytes, which fails at the calls whose numbers come after the mark.
 pub(crate) fn sink(
     alloc: Global,
     room: u64,

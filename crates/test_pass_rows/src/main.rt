@@ -16,7 +16,7 @@
 //! - `trace TEXT`: the first four answers of a reader of a trace for the one input `A`.
 //! - `net texts NAME`: the BLIF text and the C text of a worked netlist; `net least NAME`: those of the netlist made
 //!   smaller; `net solves worked BITS`: whether these are the values of the nets of one of them; `net turns NUMBER`:
-//!   whether values that take turns solve a chain of so many negations; `net chain NUMBER`: the bytes of its BLIF
+//!   whether values that take turns solve a chain of this many negations; `net chain NUMBER`: the bytes of its BLIF
 //!   text, and the number of tables as which that is read back.
 #![tactic(auto)]
 

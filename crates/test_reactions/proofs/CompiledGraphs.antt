@@ -5,7 +5,7 @@ use Rattle.est_kernel.specs.StaticCodes.{NoInstantLoop}
 use Rattle.grc_graph.specs.declared.graph.Graph.{Graph}
 use Rattle.cec_compile.specs.Compiling.{IsCompiled, StandsForNet}
 use Rattle.cec_compile.specs.Graphs.{StandsForBuilt}
-use Rattle.cec_compile.specs.declared.compiler.Compiled.{Compiled}
+use Rattle.cec_compile.specs.declared.passes.Compiled.{Compiled}
 use Rattle.cec_compile.proofs.Exports.{compiled_differ, own_built}
 use Rattle.test_reactions.specs.Reacting.{IsAnyBuilt, IsAnyCompiled}
 

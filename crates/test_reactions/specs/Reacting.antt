@@ -6,7 +6,7 @@ use Rattle.grc_graph.specs.BuiltGraphs.{IsGraphOf}
 use Rattle.grc_graph.specs.PlainGraphs.{names_of}
 use Rattle.grc_solutions.specs.GraphWires.{Differ}
 use Rattle.cec_compile.specs.Compiling.{IsCompiled}
-use Rattle.cec_compile.specs.declared.compiler.Compiled.{Compiled}
+use Rattle.cec_compile.specs.declared.passes.Compiled.{Compiled}
 
 -- the program of the graph was compiled, none of its loops is instantaneous, and no two wires are one
 pub record IsAnyCompiled (c : Compiled) : Type 0 where

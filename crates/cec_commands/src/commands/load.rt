@@ -39,7 +39,7 @@ pub(crate) struct Counts {
     pub paused: u64,
 }
 
-/// Runs a generated source over so many drawn events, and writes the numbers of the run. The words give a number of
+/// Runs a generated source over a number of drawn events, and writes the numbers of the run. The words give a number of
 /// branches for which there is a source.
 pub(crate) fn write_load<O: Sink, E: Sink>(
     alloc: Global,

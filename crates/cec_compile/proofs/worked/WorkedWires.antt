@@ -61,8 +61,8 @@ use Rattle.cec_compile.specs.SourceTexts.{IsSourceText}
 use Rattle.cec_compile.specs.WireGroups.{SharesWires, graph_edges, graph_wires, is_shared, wire_groups}
 use Rattle.cec_compile.specs.WireNames.{wire_word, wire_variable, TellsWires, walk_machine, WiresTold, NamesWires, one_per_leaf, TextNames, CTextNames}
 use Rattle.cec_compile.specs.WireNames.{VerilogTextNames}
-use Rattle.cec_compile.specs.declared.compiler.Compiled.{Compiled}
-use Rattle.cec_compile.specs.declared.compiler.Graphed.{Graphed}
+use Rattle.cec_compile.specs.declared.passes.Compiled.{Compiled}
+use Rattle.cec_compile.specs.declared.passes.Graphed.{Graphed}
 use Rattle.cec_compile.specs.declared.forms.TextForm.TheVariants as forms
 
 -- ---- names and numbers

@@ -23,7 +23,7 @@ returns-in-Ok-Some-Reset-clause-step g c =
     let later = reading_of c.next.new.self in
     let is = c.in-Ok-Some-Reset.is ∙ ap Ok (c.in-Ok-Some-Reset.field-0-is ∙ ap Some c.in-Ok-Some-Reset.field-0-0-is) in
     let a = subst (λ x. AnswersGroup r x later) is c.next.ensures in (
-      item_reset c.args.names.now r later c.args.runner.now c.reset.new.self _ _ a.0 c.requires.within a.1 a.2 c.reset.ensures,
+      item_reset c.args.names.now r later c.args.runner.now c.reset.new.self _ _ a.0 c.requires.within a.1 a.2 c.reset.ensures.resets,
       c.requires.counted ∙ sym (ap (λ (q : Reading). q.instant) a.2),
     )
 

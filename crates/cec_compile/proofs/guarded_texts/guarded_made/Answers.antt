@@ -1,6 +1,9 @@
-use Rattle.std.proofs.Common.{ap, ◌∙◌, sym, subst}
+use Rattle.std.proofs.Common.{◌≡◌, ap, ◌∙◌, sym, subst}
 use Rattle.std.specs.Prelude.{option_map}
 use Rattle.est_kernel.specs.Plain.{program_of}
+use Rattle.csub_guard_blocks.specs.Blocks.{guarded_text}
+use Rattle.csub_guard_blocks.specs.Owners.{owners}
+use Rattle.csub_guard_writer.specs.Regions.{region_by}
 use Rattle.csub_guard_writer_laws.specs.Guarded.{GuardedRuns}
 use Rattle.cec_compile.proofs.GuardedTexts.{guarded_is, own_made}
 use Rattle.cec_compile.proofs.guarded_texts.guarded_made.Goals as goal
@@ -25,6 +28,7 @@ returns-clause-made g c =
       };
       means = record {
         regions = by.regions;
+        spelled = subst (λ n. c.in_ok-text.text.items ≡ guarded_text n (owners n (region_by n by.regions))) (sym (e.net s.program s.compiled)) by.spelled;
         runs = subst (λ n. GuardedRuns c.in_ok-text.text.items n by.regions) (sym (e.net s.program s.compiled)) by.runs;
       };
     }

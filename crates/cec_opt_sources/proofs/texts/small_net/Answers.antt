@@ -5,6 +5,7 @@ use Rattle.cec_opt_sources.proofs.texts.small_net.Goals as goal
 pub returns-clause-made : goal.returns-clause-made
 returns-clause-made g c = record {
   compiled = c.in_ok-compiled.ensures.compiles;
+  shares = c.in_ok-compiled.ensures.shares;
   optimizes = c.in_ok-net.ensures.optimizes;
   simple = c.in_ok-net.ensures.simple;
   shown = c.in_ok-net.ensures.shown;

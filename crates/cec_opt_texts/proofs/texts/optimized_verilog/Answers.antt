@@ -5,3 +5,6 @@ use Rattle.cec_opt_texts.proofs.texts.optimized_verilog.Goals as goal
 pub returns-clause-keeps : goal.returns-clause-keeps
 returns-clause-keeps c =
     verilog-keeps c.args.text.now c.in_ok-written.written.items (netlist_of c.in_ok-net.net) c.in_ok-net.ensures.small c.in_ok-written.ensures.means
+
+pub returns-clause-small : goal.returns-clause-small
+returns-clause-small c = record { net = netlist_of c.in_ok-net.net; small = c.in_ok-net.ensures.small; is = c.in_ok-written.ensures.text }

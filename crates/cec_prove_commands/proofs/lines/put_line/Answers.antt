@@ -26,3 +26,22 @@ returns-in-WriteFault g c = rw c.in-WriteFault.is c.put_said-in-WriteFault.ensur
 
 pub returns-in-NoMemory : goal.returns-in-NoMemory
 returns-in-NoMemory g c = rw c.in-NoMemory.is c.put_said-in-NoMemory.ensures
+
+pub returns-in-Surveyed : goal.returns-in-Surveyed
+returns-in-Surveyed g c = rw c.in-Surveyed.is c.put_said-in-Surveyed.ensures
+
+pub returns-in-PartlySurveyed : goal.returns-in-PartlySurveyed
+returns-in-PartlySurveyed g c = rw c.in-PartlySurveyed.is c.put_said-in-PartlySurveyed.ensures
+
+pub returns-in-OtherGiven : goal.returns-in-OtherGiven
+returns-in-OtherGiven g c = rw c.in-OtherGiven.is c.put_said-in-OtherGiven.ensures
+
+pub returns-in-OtherOutgoing : goal.returns-in-OtherOutgoing
+returns-in-OtherOutgoing g c = rw c.in-OtherOutgoing.is c.put_said-in-OtherOutgoing.ensures
+
+pub returns-in-OtherRelations : goal.returns-in-OtherRelations
+returns-in-OtherRelations g c = rw c.in-OtherRelations.is c.put_said-in-OtherRelations.ensures
+
+pub returns-in-SecondFault : goal.returns-in-SecondFault
+returns-in-SecondFault g c =
+    rw (c.in-SecondFault.is, ← c.as_bytes-in-SecondFault.ensures.value) c.put_said-in-SecondFault.ensures

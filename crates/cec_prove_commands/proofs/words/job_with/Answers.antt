@@ -1,7 +1,7 @@
 use Rattle.std.specs.Prelude.{option_map}
 use Rattle.std.specs.String.{string_bytes}
 use Rattle.std.proofs.Common.{◌≡◌, ◌∷◌, ◌+◌, drop, drop-cons, map, suc, sym, ap, ◌∙◌, arith}
-use Rattle.cec_prove_commands.specs.Views.{plain_job}
+use Rattle.cec_prove_commands.specs.Views.{job_is}
 use Rattle.cec_prove_commands.specs.Words.{job_with}
 use Rattle.cec_prove_commands.proofs.Options.{one-word, two-words}
 use Rattle.cec_prove_commands.proofs.words.job_with.Goals as goal
@@ -19,10 +19,10 @@ loop-word-preserved c =
     ∙ ap (λ n. c.word-item.result ∷ drop n options) more) in
     elim c.match-key.branch [
       | in-None w ↦ rw (w.with-is, w.key-is, w.as_bytes.ensures.value)
-          (one-word (job_with (plain_job c.loop-word.with)) key (map string_bytes (drop i options)) rest (string_bytes c.word-item.result) _ words
+          (one-word (job_with (job_is c.loop-word.with)) key (map string_bytes (drop i options)) rest (string_bytes c.word-item.result) _ words
           (ap (option_map (λ k. k.now)) w.in-None.is) c.loop-word.invariant)
       | in-Some+in_ok-with-in-Some w ↦ rw (w.with-is, w.key-is)
-          (two-words (plain_job c.loop-word.with) _ key _ (map string_bytes (drop i options)) rest _ _
+          (two-words (job_is c.loop-word.with) _ key _ (map string_bytes (drop i options)) rest _ _
           (words ∙ ap (λ b. b ∷ rest) (sym w.as_bytes-in-Some.ensures.value))
           (ap (option_map (λ k. k.now)) w.in-Some.is) (sym w.in_ok-with-in-Some.ensures) c.loop-word.invariant)
     ]

@@ -1,7 +1,7 @@
 use Rattle.std.specs.Prelude.{option_map}
 use Rattle.std.specs.String.{string_bytes}
 use Rattle.std.proofs.Common.{◌≡◌, ◌∷◌, ◌+◌, drop, drop-cons, map, suc, sym, ap, ◌∙◌, arith}
-use Rattle.cec_prove_commands.specs.Views.{plain_job}
+use Rattle.cec_prove_commands.specs.Views.{job_is}
 use Rattle.cec_prove_commands.specs.Words.{misuse_of_options}
 use Rattle.cec_prove_commands.proofs.Options.{one-word, two-faultless}
 use Rattle.cec_prove_commands.proofs.words.misuse_of_options.Goals as goal
@@ -19,10 +19,10 @@ loop-word-preserved c =
     ∙ ap (λ n. c.word-item.result ∷ drop n options) more) in
     elim c.match-key.branch [
       | in-None w ↦ rw (w.with-is, w.key-is, w.as_bytes.ensures.value)
-          (one-word (misuse_of_options (plain_job c.loop-word.with)) key (map string_bytes (drop i options)) rest (string_bytes c.word-item.result) _ words
+          (one-word (misuse_of_options (job_is c.loop-word.with)) key (map string_bytes (drop i options)) rest (string_bytes c.word-item.result) _ words
           (ap (option_map (λ k. k.now)) w.in-None.is) c.loop-word.invariant)
       | in-Some+in-Some-with_option w ↦ rw (w.with-is, w.key-is)
-          (two-faultless (plain_job c.loop-word.with) _ key _ (map string_bytes (drop i options)) rest _ _
+          (two-faultless (job_is c.loop-word.with) _ key _ (map string_bytes (drop i options)) rest _ _
           (words ∙ ap (λ b. b ∷ rest) (sym w.as_bytes-in-Some.ensures.value))
-          (ap (option_map (λ k. k.now)) w.in-Some.is) (sym w.with_option.ensures ∙ ap (option_map plain_job) w.in-Some-with_option.is) c.loop-word.invariant)
+          (ap (option_map (λ k. k.now)) w.in-Some.is) (sym w.with_option.ensures ∙ ap (option_map job_is) w.in-Some-with_option.is) c.loop-word.invariant)
     ]

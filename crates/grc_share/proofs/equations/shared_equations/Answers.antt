@@ -27,8 +27,8 @@ shared_formula-requires-clause-emissions c =
     let vecs = c.in_ok-emissions.emissions.items in
     let low : k < length vecs = omega (arith, c.loop-k-test.true, c.in_ok-emissions.ensures.each) in
     let list = get_or-map (λ v. v.items) vecs k c.index.result.now [] low ∙ ap (λ v. v.items) (sym c.index.ensures)
-    ∙ sym c.deref-in-loop-k.ensures.value in
-    subst (λ (u : Wire). AreEmissions p u c.deref-in-loop-k.result.now)
+    ∙ sym c.as_slice.ensures in
+    subst (λ (u : Wire). AreEmissions p u c.as_slice.result.now)
     (least-at g c.requires.built least c.requires.least k (record { 0 = 0 }) c.loop-k-test.true)
     (subst (λ (l : List WireId). AreEmissions p (wire_at (shared_wires p) k) l) list (c.in_ok-emissions.ensures.lists k c.loop-k-test.true))
 

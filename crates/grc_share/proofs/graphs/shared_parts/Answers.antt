@@ -1,4 +1,5 @@
-use Rattle.std.proofs.Common.{List, map, sym, subst, Vec, Global}
+use Rattle.std.proofs.Common.{List, map, sym, subst}
+use Rattle.smallvec.specs.SmallVec.{SmallVec}
 use Rattle.base_types.specs.declared.indices.WireId.{WireId}
 use Rattle.est_kernel.specs.Plain.{program_of}
 use Rattle.grc_graph.specs.WireOrders.{AreRanks}
@@ -16,10 +17,10 @@ returns-clause-found c =
     let made = c.in_ok-edges-in-Ranks.ensures in
     let pairs = c.in_ok-edges-in-Ranks.edges.pairs.items in
     let ranks = c.in-Ranks.ranking.ranks.items in
-    let lists : List (List WireId) = map (λ (v : Vec WireId Global). v.items) c.in_ok-shared.shared.members.items in
+    let lists : List (List WireId) = map (λ (v : SmallVec WireId). v.items) c.in_ok-shared.shared.members.items in
     let m = c.in_ok-members-in-Ranks.members in
     let runs : AreRunsOf lists m.list.items m.firsts.items =
-    subst (λ (vs : List (Vec WireId Global)). AreRunsOf (map (λ (v : Vec WireId Global). v.items) vs) m.list.items m.firsts.items) c.deref.ensures.value
+    subst (λ (vs : List (SmallVec WireId)). AreRunsOf (map (λ (v : SmallVec WireId). v.items) vs) m.list.items m.firsts.items) c.deref.ensures.value
     c.in_ok-members-in-Ranks.ensures in
     record {
       graph = c.in_ok-parts-in-Ranks.ensures;

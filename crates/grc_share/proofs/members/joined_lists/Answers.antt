@@ -1,4 +1,5 @@
-use Rattle.std.proofs.Common.{rules, ◌≡◌, ◌<◌, [], ◌∷◌, ◌++◌, List, length, map, get_or, take, sym, ap, ◌∙◌, subst, arith, Vec, Global, ℕ}
+use Rattle.std.proofs.Common.{rules, ◌≡◌, ◌<◌, [], ◌∷◌, ◌++◌, List, length, map, get_or, take, sym, ap, ◌∙◌, subst, arith, ℕ}
+use Rattle.smallvec.specs.SmallVec.{SmallVec}
 use Rattle.std.proofs.lemmas.List.{get_or-map, length-map, take_all, take_more}
 use Rattle.base_types.specs.declared.indices.WireId.{WireId}
 use Rattle.grc_share.specs.MemberRuns.{AreRunsOf}
@@ -14,11 +15,11 @@ loop-members-init c =
 
 pub loop-members-preserved : goal.loop-members-preserved
 loop-members-preserved c =
-    let all : List (Vec WireId Global) = c.args.lists.now in
-    let lists : List (List WireId) = map (λ (v : Vec WireId Global). v.items) all in
+    let all : List (SmallVec WireId) = c.args.lists.now in
+    let lists : List (List WireId) = map (λ (v : SmallVec WireId). v.items) all in
     let n = c.loop-members.members-index in
-    let low : n < length lists = omega (arith, length-map all (λ (v : Vec WireId Global). v.items)) in
-    let xs : List WireId = c.deref.result.now in
+    let low : n < length lists = omega (arith, length-map all (λ (v : SmallVec WireId). v.items)) in
+    let xs : List WireId = c.as_slice.result.now in
     let list : List WireId = c.loop-members.list.items in
     let firsts : List ℕ = c.loop-members.firsts.items in
     let new : List WireId = c.extend_from_slice.new.self.items in
@@ -26,8 +27,8 @@ loop-members-preserved c =
     let longer : new ≡ list ++ xs = c.in_ok-extend_from_slice.ensures.items in
     let behind : more ≡ firsts ++ c.len.result ∷ [] = c.in_ok-push-2.ensures.items in
     let same : get_or lists n [] ≡ xs =
-    get_or-map (λ (v : Vec WireId Global). v.items) all n c.members-item.result [] (omega arith)
-    ∙ ap (λ (v : Vec WireId Global). v.items) (sym c.members-item.is) ∙ sym c.deref.ensures.value in
+    get_or-map (λ (v : SmallVec WireId). v.items) all n c.members-item.result [] (omega arith)
+    ∙ ap (λ (v : SmallVec WireId). v.items) (sym c.members-item.is) ∙ sym c.as_slice.ensures in
     let end : c.len.result ≡ length (list ++ xs) = search rules in
     subst (λ ls. AreRunsOf ls new more) (sym (take_more lists n [] low ∙ ap (λ x. take n lists ++ x ∷ []) same))
     (subst (λ ys. AreRunsOf (take n lists ++ xs ∷ []) ys more) (sym longer)
@@ -36,7 +37,7 @@ loop-members-preserved c =
 
 pub returns : goal.returns
 returns c =
-    let all : List (Vec WireId Global) = c.args.lists.now in
-    let lists : List (List WireId) = map (λ (v : Vec WireId Global). v.items) all in
+    let all : List (SmallVec WireId) = c.args.lists.now in
+    let lists : List (List WireId) = map (λ (v : SmallVec WireId). v.items) all in
     subst (λ ls. AreRunsOf ls c.loop-members.list.items c.loop-members.firsts.items)
-    (take_all c.loop-members.members-index lists (omega (arith, length-map all (λ (v : Vec WireId Global). v.items)))) c.loop-members.invariant
+    (take_all c.loop-members.members-index lists (omega (arith, length-map all (λ (v : SmallVec WireId). v.items)))) c.loop-members.invariant

@@ -97,3 +97,12 @@ coded_net-requires-clause-leaves c =
     let many = codes-of-tree tree body codes c.requires.tree.1 are in
     let all = length-map c.deref.result.now (λ (x : Vec Literal Global). x.items) in
     omega (arith, all, many, c.requires.few)
+
+pub returns-then-width-tree-clause-copies : goal.returns-then-width-tree-clause-copies
+returns-then-width-tree-clause-copies c = λ same. absurd (omega (
+  arith,
+  same,
+  c.if-width-tree.true,
+  latches-many (netlist_of c.args.net.now) c.args.tree.now.leaves c.requires.latches,
+  latches-many (netlist_of c.in_ok-made.made) c.sizes_of-width.result.loose c.in_ok-made.ensures.coded.latches,
+))

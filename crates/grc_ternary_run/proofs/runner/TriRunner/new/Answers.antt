@@ -1,3 +1,4 @@
+use Rattle.std.proofs.Common.{◌∙◌}
 use Rattle.est_kernel.specs.Plain.{program_of}
 use Rattle.est_kernel.proofs.Exports.{trees_are_kernels_lem}
 use Rattle.grc_solutions_laws.proofs.Exports.{program_kernel}
@@ -29,3 +30,9 @@ invariant_of-result c =
       keeps = c.in_ok-state.ensures.keeps;
       program = keeps-fresh (runner_with g c.in_ok-state.state) c.in_ok-state.ensures.fresh g.laid_out.formed kernel c.requires.no_loop c.requires.graph;
     }
+
+pub returns-clause-places : goal.returns-clause-places
+returns-clause-places c = record {
+  outputs = c.in_ok-state.ensures.keeps.outputs ∙ c.in_ok-words.ensures.words.one_per_output;
+  unknown = c.in_ok-state.ensures.keeps.unknown;
+}

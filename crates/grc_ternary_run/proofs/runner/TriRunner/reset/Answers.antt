@@ -1,3 +1,4 @@
+use Rattle.std.proofs.Common.{◌∙◌}
 use Rattle.grc_ternary_run.proofs.Programs.{keeps-fresh}
 use Rattle.grc_ternary_run.proofs.runner.TriRunner.reset.Goals as goal
 
@@ -9,3 +10,9 @@ invariant_of-self c =
       keeps = c.reset.ensures.keeps;
       program = keeps-fresh _ c.reset.ensures.fresh old.formed old.kernel old.no_loop old.graph;
     }
+
+pub returns-clause-places : goal.returns-clause-places
+returns-clause-places c = record {
+  outputs = c.reset.ensures.keeps.outputs ∙ c.self.invariant.reads.words.one_per_output;
+  unknown = c.reset.ensures.keeps.unknown;
+}

@@ -1,6 +1,6 @@
 use Rattle.std.proofs.Common.{List, map, sym, subst, ◌∙◌}
 use Rattle.sat_kernel.specs.declared.literals.Literal.{Literal}
-use Rattle.sat_kernel.specs.Clauses.{Follows, opposite}
+use Rattle.sat_kernel.specs.Clauses.{IsImplied, opposite}
 use Rattle.net_never.proofs.Denials.{follows-denied, tautology-follows}
 use Rattle.net_never.proofs.proving.Prover.implies.Goals as goal
 
@@ -12,4 +12,4 @@ pub returns-clause-follows : goal.returns-clause-follows
 returns-clause-follows c = λ yes.
     let known = c.args.self.now.kernel.assumed in
     follows-denied known c.args.clause.now c.in_ok-denial.denial.items c.in_ok-denial.ensures
-    (subst (λ (d : List Literal). Follows known (map opposite d)) c.deref.ensures.value (c.in_ok-refutes.ensures.follows yes))
+    (subst (λ (d : List Literal). IsImplied known (map opposite d)) c.deref.ensures.value (c.in_ok-refutes.ensures.follows yes))

@@ -1,6 +1,6 @@
 use Rattle.std.proofs.Common.{◌≡◌, drop, length}
 use Rattle.std.specs.List.{AllByRecursion}
-use Rattle.sat_kernel.specs.Clauses.{Follows, plain_assumed}
+use Rattle.sat_kernel.specs.Clauses.{IsImplied, plain_assumed}
 use Rattle.net_never.specs.Inductive.{next_clause}
 use Rattle.net_never.proofs.proving.Prover.keeps.Given as goal
 
@@ -8,8 +8,8 @@ use Rattle.net_never.proofs.proving.Prover.keeps.Given as goal
 abbrev pub invariant-loop-k : goal.invariant-loop-k
 invariant-loop-k l = record {
   assumed : l.self.kernel.assumed ≡ l.initial.self.kernel.assumed;
-  kept : AllByRecursion (λ c. Follows l.initial.self.kernel.assumed (next_clause (length l.net.inputs.items) l.net.latches.items c))
+  kept : AllByRecursion (λ c. IsImplied l.initial.self.kernel.assumed (next_clause (length l.net.inputs.items) l.net.latches.items c))
       (plain_assumed (drop l.k l.clauses))
-      → AllByRecursion (λ c. Follows l.initial.self.kernel.assumed (next_clause (length l.net.inputs.items) l.net.latches.items c))
+      → AllByRecursion (λ c. IsImplied l.initial.self.kernel.assumed (next_clause (length l.net.inputs.items) l.net.latches.items c))
       (plain_assumed l.clauses);
 }

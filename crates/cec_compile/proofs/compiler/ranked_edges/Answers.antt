@@ -1,4 +1,0 @@
-use Rattle.cec_compile.proofs.compiler.ranked_edges.Goals as goal
-
-pub edges-requires : goal.edges-requires
-edges-requires c = c.requires.graph

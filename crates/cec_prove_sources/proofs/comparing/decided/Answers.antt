@@ -1,0 +1,16 @@
+use Rattle.std.proofs.Common.{◌∙◌, ap, subst}
+use Rattle.est_kernel.specs.Plain.{program_of}
+use Rattle.net_ir.specs.Runs.{netlist_of}
+use Rattle.sat_kernel.specs.Clauses.{plain_assumed}
+use Rattle.net_search.specs.Decisions.{IsDecision}
+use Rattle.cec_prove_sources.proofs.PairedRuns.{compares-same}
+use Rattle.cec_prove_sources.proofs.comparing.decided.Goals as goal
+
+pub returns-in-Never : goal.returns-in-Never
+returns-in-Never c =
+    let net = netlist_of c.args.net.now in record {
+      interface = c.requires.interface;
+      answers = compares-same net (program_of c.args.left.now) (program_of c.args.right.now) _ _ c.requires.fits c.requires.compares
+          (ap plain_assumed c.deref.ensures.value ∙ c.in_ok-allowed.ensures) c.bad_literal-bad.ensures
+          (subst (IsDecision net (plain_assumed c.deref.result.now) c.bad_literal-bad.result) c.in-Never.is c.in_ok-decide.ensures);
+    }

@@ -1,0 +1,25 @@
+use Rattle.std.specs.Prelude.{option_map}
+use Rattle.std.proofs.Common.{subst, sym}
+use Rattle.est_kernel.specs.WellFormed.{IsWellFormed}
+use Rattle.net_ir.specs.Runs.{netlist_of}
+use Rattle.cec_compile.specs.NetMeaning.{NetKeeps}
+use Rattle.cec_prove_sources.specs.Surveys.{IsSurvey}
+use Rattle.cec_prove_sources.proofs.surveys.survey_of.Goals as goal
+
+pub small_survey-requires-clause-fits : goal.small_survey-requires-clause-fits
+small_survey-requires-clause-fits g c =
+    let s = c.in_ok-compiled.ensures.compiles in subst IsWellFormed (sym s.compiled.program) s.compiled.formed
+
+pub small_survey-requires-clause-keeps : goal.small_survey-requires-clause-keeps
+small_survey-requires-clause-keeps g c =
+    let s = c.in_ok-compiled.ensures.compiles in subst (NetKeeps (netlist_of c.in_ok-compiled.compiled.net)) (sym s.compiled.program) s.compiled.keeps
+
+pub returns-clause-surveys : goal.returns-clause-surveys
+returns-clause-surveys g c =
+    let s = c.in_ok-compiled.ensures.compiles in
+    record {
+      program = s.program;
+      source = s.source;
+      compiles = s.compiled.compiles;
+      says = subst (λ p. IsSurvey p (option_map (λ n. n.now) c.args.assumed) c.in_ok-survey.survey) s.compiled.program c.in_ok-survey.ensures;
+    }

@@ -1,0 +1,191 @@
+// Whether two sources do the same.
+
+ghost use Rattle.std.specs.Prelude.{◌≡◌, ◌≤◌, length, None, option_map, IfErr, IfOk, IfSome, IsTrue};
+ghost use Rattle.est_kernel.specs.Plain.{program_of};
+ghost use Rattle.est_kernel.specs.WellFormed.{IsWellFormed};
+ghost use Rattle.net_ir.specs.Runs.{netlist_of};
+ghost use Rattle.net_never.specs.Reached.{events_of, is_reached};
+ghost use Rattle.cec_compile.specs.NetMeaning.{NetKeeps};
+ghost use Rattle.cec_compile.specs.Refusals.{IsRefused};
+ghost use Rattle.cec_prove_sources.specs.NetClaims.{allowed_clauses, bad_literal};
+ghost use Rattle.cec_prove_sources.specs.PairRuns.{Compares, IsSmallPair};
+ghost use Rattle.cec_prove_sources.specs.Sameness.{ComparesWith, HasComparison, IsComparison, IsPairRefused};
+ghost use Rattle.cec_prove_sources.specs.Sameness.{SharesInterface};
+
+use crate::findings::{allowed_clauses, bad_literal};
+use crate::interfaces::{are_same_names, are_same_outputs, are_same_relations};
+use crate::questions::{Claim, Comparison, Layout, PairRefusal};
+use crate::reading::trace_of;
+use base_types::{Limits, NoMemory};
+use cec_compile::{Compiled, Refusal, compile};
+use est_kernel::KernelProgram;
+use grc_order::Picker;
+use net_ir::Net;
+use net_opt::optimize;
+use net_pair::paired_net;
+use net_search::{Decision, decide};
+use std::alloc::Global;
+
+// The comparison where events lead to an instant that differs by the netlist. They are tested against the relations,
+// and the trace is read again.
+fn different_by(
+    alloc: Global,
+    left: &KernelProgram,
+    right: &KernelProgram,
+    net: &Net,
+    events: &[Vec<bool>],
+) -> Result<Comparison, NoMemory>
+    requires interface { SharesInterface (program_of left.now) (program_of right.now) }
+    requires compares { Compares (netlist_of net.now) (program_of left.now) (program_of right.now) }
+    requires reached { IsTrue (is_reached (netlist_of net.now)
+        (allowed_clauses (program_of left.now).relations net.now.outputs.items None)
+        (bad_literal net.now.outputs.items Claim.Never 0) (events_of events.now)) }
+    ensures { IfOk result (IsComparison (program_of left.now) (program_of right.now)) }
+{
+    match trace_of(alloc, left, net, Layout::LinePerInstant, events)? {
+        Some(trace) => Ok(Comparison::Different(trace)),
+        None => Ok(Comparison::Open(0)),
+    }
+}
+
+// The comparison by a netlist that shows where two programs differ.
+fn decided(
+    alloc: Global,
+    left: &KernelProgram,
+    right: &KernelProgram,
+    net: &Net,
+    effort: u64,
+) -> Result<Comparison, NoMemory>
+    requires fits { IsWellFormed (program_of left.now) }
+    requires interface { SharesInterface (program_of left.now) (program_of right.now) }
+    requires compares { Compares (netlist_of net.now) (program_of left.now) (program_of right.now) }
+    ensures { IfOk result (IsComparison (program_of left.now) (program_of right.now)) }
+{
+    let allowed = allowed_clauses(alloc, left, net, None)?;
+    let bad = bad_literal(net, Claim::Never, 0);
+    match decide(alloc, net, &allowed, bad, effort)? {
+        Decision::Never => Ok(Comparison::Same),
+        Decision::Reached(events) => different_by(alloc, left, right, net, &events),
+        Decision::Unknown(depth) => Ok(Comparison::Open(depth)),
+    }
+}
+
+// The optimized pair of two netlists; none where it has too many nets.
+fn small_pair(alloc: Global, left: &Net, right: &Net) -> Result<Option<Net>, NoMemory>
+    requires inputs { length left.now.inputs.items ≡ length right.now.inputs.items }
+    requires outputs { length left.now.outputs.items ≡ length right.now.outputs.items }
+    ensures { IfOk result (λ o. IfSome o
+        (λ net. IsSmallPair (netlist_of left.now) (netlist_of right.now) (netlist_of net))) }
+{
+    let small_left = optimize(alloc, left)?;
+    let small_right = optimize(alloc, right)?;
+    match paired_net(alloc, &small_left, &small_right)? {
+        None => Ok(None),
+        Some(net) => Ok(Some(optimize(alloc, &net)?)),
+    }
+}
+
+// The comparison of two programs with the same interface.
+fn paired(
+    alloc: Global,
+    left: &Compiled,
+    right: &Compiled,
+    effort: u64,
+) -> Result<Comparison, NoMemory>
+    requires fits { IsWellFormed (program_of left.now.graph.program) }
+    requires right_fits { IsWellFormed (program_of right.now.graph.program) }
+    requires keeps { NetKeeps (netlist_of left.now.net) (program_of left.now.graph.program) }
+    requires right_keeps { NetKeeps (netlist_of right.now.net) (program_of right.now.graph.program) }
+    requires interface { SharesInterface (program_of left.now.graph.program) (program_of right.now.graph.program) }
+    ensures { IfOk result (IsComparison (program_of left.now.graph.program) (program_of right.now.graph.program)) }
+{
+    match small_pair(alloc, &left.net, &right.net)? {
+        None => Ok(Comparison::Open(0)),
+        Some(net) => decided(
+            alloc,
+            &left.graph.program,
+            &right.graph.program,
+            &net,
+            effort,
+        ),
+    }
+}
+
+// The comparison of two compiled sources.
+fn compared(
+    alloc: Global,
+    left: &Compiled,
+    right: &Compiled,
+    effort: u64,
+) -> Result<Comparison, NoMemory>
+    requires fits { IsWellFormed (program_of left.now.graph.program) }
+    requires right_fits { IsWellFormed (program_of right.now.graph.program) }
+    requires keeps { NetKeeps (netlist_of left.now.net) (program_of left.now.graph.program) }
+    requires right_keeps { NetKeeps (netlist_of right.now.net) (program_of right.now.graph.program) }
+    ensures { IfOk result (IsComparison (program_of left.now.graph.program) (program_of right.now.graph.program)) }
+{
+    if !are_same_names(&left.net.inputs, &right.net.inputs) {
+        return Ok(Comparison::OtherGiven);
+    }
+    if !are_same_outputs(&left.net.outputs, &right.net.outputs) {
+        return Ok(Comparison::OtherOutgoing);
+    }
+    if !are_same_relations(
+        &left.graph.program.relations,
+        &right.graph.program.relations,
+    ) {
+        return Ok(Comparison::OtherRelations);
+    }
+    paired(alloc, left, right, effort)
+}
+
+// The comparison of a compiled source with another source.
+fn compared_with<P: Picker>(
+    alloc: Global,
+    left: &Compiled,
+    text: &[u8],
+    main: Option<&[u8]>,
+    picker: &mut P,
+    effort: u64,
+) -> Result<Comparison, Refusal>
+    requires short { length text.now ≤ Limits.SOURCE_BYTES }
+    requires fits { IsWellFormed (program_of left.now.graph.program) }
+    requires keeps { NetKeeps (netlist_of left.now.net) (program_of left.now.graph.program) }
+    ensures compares { IfOk result (ComparesWith (program_of left.now.graph.program) text.now
+        (option_map (λ m. m.now) main.entry)) }
+    ensures refuses { IfErr result (IsRefused text.now (option_map (λ m. m.now) main.entry)) }
+{
+    let right = compile(alloc, text, main, picker)?;
+    let comparison = compared(alloc, left, &right, effort)?;
+    Ok(comparison)
+}
+
+/// Whether two sources do the same, each of them by its module of this name, or by its first one. `Same` is proved. It
+/// is about every list of events that meet the relations, and resets: the reactions of both are constructive, in each
+/// one the same outgoing signals are present, and both pause or neither does. `Different` has a trace, and the last
+/// reactions to it differ. The given signals, the outgoing signals and the relations must be the same, each in order;
+/// else the answer is the first of these that differs. `Open` says nothing more.
+///
+/// It refuses what `cec_compile::compile` refuses.
+pub fn comparison_of<P: Picker>(
+    alloc: Global,
+    first: &[u8],
+    second: &[u8],
+    main: Option<&[u8]>,
+    picker: &mut P,
+    effort: u64,
+) -> Result<Comparison, PairRefusal>
+    requires first { length first.now ≤ Limits.SOURCE_BYTES }
+    requires second { length second.now ≤ Limits.SOURCE_BYTES }
+    ensures compares { IfOk result (HasComparison first.now second.now (option_map (λ m. m.now) main.entry)) }
+    ensures refuses { IfErr result (IsPairRefused first.now second.now (option_map (λ m. m.now) main.entry)) }
+{
+    let left = match compile(alloc, first, main, picker) {
+        Ok(compiled) => compiled,
+        Err(refusal) => return Err(PairRefusal::First(refusal)),
+    };
+    match compared_with(alloc, &left, second, main, picker, effort) {
+        Ok(comparison) => Ok(comparison),
+        Err(refusal) => Err(PairRefusal::Second(refusal)),
+    }
+}
