@@ -23,11 +23,11 @@ pub(crate) fn test_of(alloc: Global, event: &FlatExpr) -> Result<Test, NoMemory>
         FlatExpr::Not(part) => Ok(Test::Not(Box::new(alloc, test_of(alloc, part)?)?)),
         FlatExpr::And(parts) => {
             let parts = tests_of(alloc, parts.as_slice())?;
-            Ok(conjunction(alloc, parts)?)
+            conjunction(alloc, parts)
         }
         FlatExpr::Or(parts) => {
             let parts = tests_of(alloc, parts.as_slice())?;
-            Ok(disjunction(alloc, parts)?)
+            disjunction(alloc, parts)
         }
     }
 }
@@ -97,5 +97,5 @@ pub(crate) fn any_event(alloc: Global, cases: &[FlatCase]) -> Result<Test, NoMem
     for case in cases {
         tests.push(test_of(alloc, &case.event)?)?;
     }
-    Ok(disjunction(alloc, tests)?)
+    disjunction(alloc, tests)
 }

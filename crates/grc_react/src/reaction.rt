@@ -81,8 +81,7 @@ pub fn react(
         → IsConstructive graph.now (state_begun graph.now boot selected.now) inputs.now r) }
 {
     let words = words(alloc, graph)?;
-    let reaction = react_over(alloc, graph, &words, order, boot, selected, inputs)?;
-    Ok(reaction)
+    react_over(alloc, graph, &words, order, boot, selected, inputs)
 }
 
 /// One reaction of a graph over the table of its words, which is the same in every instant. No two of
@@ -122,8 +121,7 @@ pub fn react_over(
         inputs,
     };
     let values = settle(alloc, graph, words, order, &start)?;
-    let reaction = read_off(alloc, graph, words, &start, values)?;
-    Ok(reaction)
+    read_off(alloc, graph, words, &start, values)
 }
 
 // What is seen of an instant in which all wires and rows have their values.

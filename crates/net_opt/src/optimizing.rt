@@ -78,7 +78,7 @@ fn found_net(alloc: Global, net: &Net) -> Result<Net, NoMemory>
     let mut later = no_exclusions(alloc);
     let merged = passed_net(alloc, ordered, &MERGING, &exclusions, &mut later)?;
     let best = rewritten_net(alloc, merged, &exclusions, &mut later)?;
-    Ok(passed_net(alloc, best, &FINISHING, &exclusions, &mut later)?)
+    passed_net(alloc, best, &FINISHING, &exclusions, &mut later)
 }
 
 // A netlist that is rewritten as it is, or, where there are few inputs and latches, as the functions of its roots make
@@ -326,7 +326,7 @@ fn tried_merge(
     if !telling.tells || is_no_larger(&telling.new, net) {
         return Ok(telling);
     }
-    Ok(tried_classes(alloc, net, classes, exclusions, Change::Keep)?)
+    tried_classes(alloc, net, classes, exclusions, Change::Keep)
 }
 
 // Whether there is a netlist, of no more gates and no more latches.

@@ -38,8 +38,7 @@ pub fn encode(alloc: Global, net: &Net, tree: &SelTree) -> Result<Net, Stop<TooM
     ensures fault { IfFault result (λ fault. 2 ^ 31 < length net.now.inputs.items + length net.now.gates.items) }
 {
     if tree.leaves <= LEAVES_AT_MOST {
-        let made = shorter_net(alloc, net, tree)?;
-        Ok(made)
+        shorter_net(alloc, net, tree)
     } else {
         let copy = copied_net(alloc, net)?;
         Ok(copy)
@@ -63,8 +62,7 @@ fn shorter_net(alloc: Global, net: &Net, tree: &SelTree) -> Result<Net, Stop<Too
     let width = sizes_of(&code).loose;
     if width < tree.leaves {
         let codes = leaf_codes(alloc, &code)?;
-        let made = coded_net(alloc, net, width, &codes)?;
-        Ok(made)
+        coded_net(alloc, net, width, &codes)
     } else {
         let copy = copied_net(alloc, net)?;
         Ok(copy)

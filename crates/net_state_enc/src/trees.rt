@@ -195,8 +195,8 @@ fn joined_tree(
 {
     match form {
         SelForm::Leaf(k) => Ok(CodeTree::OneLeaf(k)),
-        SelForm::Excl => Ok(exclusive_tree(alloc, first, second)?),
-        SelForm::Par(x, y) => Ok(parallel_tree(alloc, x, y, first, second)?),
+        SelForm::Excl => exclusive_tree(alloc, first, second),
+        SelForm::Par(x, y) => parallel_tree(alloc, x, y, first, second),
         SelForm::Pass => Ok(first),
     }
 }
@@ -211,8 +211,7 @@ fn tree_between(alloc: Global, tree: &SelTree, from: usize, to: usize) -> Result
     ensures narrow { IfOk result (λ t. AreNarrow (widths_of (shape_in t)) (to - from)) }
 {
     if from < to {
-        let made = tree_at(alloc, tree, from)?;
-        Ok(made)
+        tree_at(alloc, tree, from)
     } else {
         Ok(CodeTree::NoLeaf)
     }
@@ -232,8 +231,7 @@ fn tree_at(alloc: Global, tree: &SelTree, at: usize) -> Result<CodeTree, NoMemor
     let middle = second_part(tree, at);
     let first = tree_between(alloc, tree, at + 1, middle)?;
     let second = tree_between(alloc, tree, middle, node.after as usize)?;
-    let made = joined_tree(alloc, node.form, first, second)?;
-    Ok(made)
+    joined_tree(alloc, node.form, first, second)
 }
 
 // Where the subtree of the second part of a node begins.
@@ -265,6 +263,5 @@ pub(crate) fn code_tree(alloc: Global, tree: &SelTree) -> Result<CodeTree, NoMem
         → shape_in t ≡ shape_of (resumes body) body 0 0) }
     ensures sized { IfOk result IsSized }
 {
-    let made = tree_between(alloc, tree, 0, tree.nodes.len())?;
-    Ok(made)
+    tree_between(alloc, tree, 0, tree.nodes.len())
 }
