@@ -80,5 +80,6 @@ fn made_net(
     ensures { IfOk result (λ net. IsNetOf (plain_circuit blif.now) (netlist_of net)) }
 {
     let drawing = drawn_tables(alloc, blif, resolved, order)?;
-    assembled_net(alloc, blif, &resolved.slots, drawing)
+    let net = assembled_net(alloc, blif, &resolved.slots, drawing)?;
+    Ok(net)
 }

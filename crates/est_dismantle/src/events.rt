@@ -97,5 +97,5 @@ pub(crate) fn any_event(alloc: Global, cases: &[FlatCase]) -> Result<Test, NoMem
     for case in cases {
         tests.push(test_of(alloc, &case.event)?)?;
     }
-    disjunction(alloc, tests)
+    Ok(disjunction(alloc, tests)?)
 }

@@ -132,7 +132,7 @@ pub(crate) fn repeated(
     }
     let mut copies = copies_of(alloc, count - 1, &*part)?;
     copies.push(part)?;
-    sequence_of(alloc, copies)
+    Ok(sequence_of(alloc, copies)?)
 }
 
 // The part, this many times.

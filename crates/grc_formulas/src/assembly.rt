@@ -113,7 +113,8 @@ fn paused_source(graph: &Graph, near: &Neighbours, rows: &mut Vec<Row>) -> Resul
 {
     let resumed = wire_source(near.find_end(0, Layer::Resumed, 1));
     let started = wire_source(near.find_end(0, Layer::Started(PathId(0)), 1));
-    either(rows, resumed, started)
+    let paused = either(rows, resumed, started)?;
+    Ok(paused)
 }
 
 // For each outgoing signal, in order, what says that it is present.

@@ -198,7 +198,8 @@ fn own_source(
             Layer::Resumed => {
                 let go = near.go(InstId(i as u32));
                 let tested = test_source(graph, near, test, statement.signals.as_slice(), 0, rows)?;
-                both(rows, Source::Wire(go), tested.source)
+                let source = both(rows, Source::Wire(go), tested.source)?;
+                Ok(source)
             }
             Layer::Started(_) => Ok(Source::Const(false)),
         },

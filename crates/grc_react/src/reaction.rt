@@ -81,7 +81,8 @@ pub fn react(
         → IsConstructive graph.now (state_begun graph.now boot selected.now) inputs.now r) }
 {
     let words = words(alloc, graph)?;
-    react_over(alloc, graph, &words, order, boot, selected, inputs)
+    let reaction = react_over(alloc, graph, &words, order, boot, selected, inputs)?;
+    Ok(reaction)
 }
 
 /// One reaction of a graph over the table of its words, which is the same in every instant. No two of
@@ -121,7 +122,8 @@ pub fn react_over(
         inputs,
     };
     let values = settle(alloc, graph, words, order, &start)?;
-    read_off(alloc, graph, words, &start, values)
+    let reaction = read_off(alloc, graph, words, &start, values)?;
+    Ok(reaction)
 }
 
 // What is seen of an instant in which all wires and rows have their values.

@@ -40,7 +40,7 @@ pub fn unshown_places(
         return Ok(vec![in alloc; 0; 1]?);
     }
     let facts = all_claims(alloc, old, new, claims)?;
-    unshown_facts(alloc, old, new, &facts)
+    Ok(unshown_facts(alloc, old, new, &facts)?)
 }
 
 // The facts that are not shown: of later instants, and where there is none, of the first one.

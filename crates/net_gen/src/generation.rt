@@ -38,5 +38,6 @@ pub fn generate(alloc: Global, graph: &Graph, order: &Order) -> Result<Net, NoMe
     ensures runs { IfOk result (λ net. FollowsRuns graph.now (netlist_of net)) }
 {
     let words = words(alloc, graph)?;
-    net_over(alloc, graph, &words, order)
+    let net = net_over(alloc, graph, &words, order)?;
+    Ok(net)
 }

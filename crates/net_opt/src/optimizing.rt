@@ -78,7 +78,7 @@ fn found_net(alloc: Global, net: &Net) -> Result<Net, NoMemory>
     let mut later = no_exclusions(alloc);
     let merged = passed_net(alloc, ordered, &MERGING, &exclusions, &mut later)?;
     let best = rewritten_net(alloc, merged, &exclusions, &mut later)?;
-    passed_net(alloc, best, &FINISHING, &exclusions, &mut later)
+    Ok(passed_net(alloc, best, &FINISHING, &exclusions, &mut later)?)
 }
 
 // A netlist that is rewritten as it is, or, where there are few inputs and latches, as the functions of its roots make

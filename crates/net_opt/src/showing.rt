@@ -90,13 +90,13 @@ fn reach_read(
     }
     if place < first {
         let latch = net.latches[place - net.inputs.len()];
-        return reach(marks, found, latch.from);
+        return Ok(reach(marks, found, latch.from)?);
     }
     if place - first >= net.gates.len() {
         return Ok(());
     }
     let gate = net.gates[place - first];
-    reach_operands(marks, found, gate.op)
+    Ok(reach_operands(marks, found, gate.op)?)
 }
 
 // Marks the nets that an operator reads.
@@ -109,10 +109,10 @@ fn reach_operands(marks: &mut Vec<bool>, found: &mut Vec<NetId>, op: Op) -> Resu
 {
     match op {
         Op::Const(_) => Ok(()),
-        Op::Copy(a) | Op::Not(a) => reach(marks, found, a),
+        Op::Copy(a) | Op::Not(a) => Ok(reach(marks, found, a)?),
         Op::And(a, b) | Op::Or(a, b) => {
             reach(marks, found, a)?;
-            reach(marks, found, b)
+            Ok(reach(marks, found, b)?)
         }
     }
 }

@@ -31,7 +31,7 @@ pub fn simplify(alloc: Global, net: Net) -> Result<Net, NoMemory>
     ensures runs { IfOk result (λ new. SameRuns (netlist_of net) (netlist_of new)) }
     ensures simple { IfOk result (λ new. IsSimple (netlist_of new)) }
 {
-    simplified_net(alloc, net)
+    Ok(simplified_net(alloc, net)?)
 }
 
 // The passes, one after another.
@@ -44,7 +44,8 @@ fn simplified_net(alloc: Global, net: Net) -> Result<Net, NoMemory>
     mark_needed(&net, first, &draft, &mut marks);
     let kept = packed_gates(alloc, first, &marks, &draft.gates)?;
     let Renumbered { names, gates } = kept;
-    renamed_net(alloc, net, &draft.names, &names, gates)
+    let made = renamed_net(alloc, net, &draft.names, &names, gates)?;
+    Ok(made)
 }
 
 // The netlist of these gates, where `draft` and then `kept` tell what stands for a net.

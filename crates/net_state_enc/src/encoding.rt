@@ -38,7 +38,8 @@ pub fn encode(alloc: Global, net: &Net, tree: &SelTree) -> Result<Net, Stop<TooM
     ensures fault { IfFault result (λ fault. 2 ^ 31 < length net.now.inputs.items + length net.now.gates.items) }
 {
     if tree.leaves <= LEAVES_AT_MOST {
-        shorter_net(alloc, net, tree)
+        let made = shorter_net(alloc, net, tree)?;
+        Ok(made)
     } else {
         let copy = copied_net(alloc, net)?;
         Ok(copy)
@@ -62,7 +63,8 @@ fn shorter_net(alloc: Global, net: &Net, tree: &SelTree) -> Result<Net, Stop<Too
     let width = sizes_of(&code).loose;
     if width < tree.leaves {
         let codes = leaf_codes(alloc, &code)?;
-        coded_net(alloc, net, width, &codes)
+        let made = coded_net(alloc, net, width, &codes)?;
+        Ok(made)
     } else {
         let copy = copied_net(alloc, net)?;
         Ok(copy)

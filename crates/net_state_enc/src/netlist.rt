@@ -145,7 +145,8 @@ fn draw_bits(
     ensures first { OnOk result (draft.new.first ≡ draft.old.first) }
 {
     let next = next_nets(alloc, names, &net.latches[1..])?;
-    bit_nets(alloc, draft, no, width, codes, &next)
+    let bits = bit_nets(alloc, draft, no, width, codes, &next)?;
+    Ok(bits)
 }
 
 // What is drawn for a netlist whose leaves have these literals in a code of this width.

@@ -195,8 +195,8 @@ fn joined_tree(
 {
     match form {
         SelForm::Leaf(k) => Ok(CodeTree::OneLeaf(k)),
-        SelForm::Excl => exclusive_tree(alloc, first, second),
-        SelForm::Par(x, y) => parallel_tree(alloc, x, y, first, second),
+        SelForm::Excl => Ok(exclusive_tree(alloc, first, second)?),
+        SelForm::Par(x, y) => Ok(parallel_tree(alloc, x, y, first, second)?),
         SelForm::Pass => Ok(first),
     }
 }
@@ -211,7 +211,8 @@ fn tree_between(alloc: Global, tree: &SelTree, from: usize, to: usize) -> Result
     ensures narrow { IfOk result (λ t. AreNarrow (widths_of (shape_in t)) (to - from)) }
 {
     if from < to {
-        tree_at(alloc, tree, from)
+        let made = tree_at(alloc, tree, from)?;
+        Ok(made)
     } else {
         Ok(CodeTree::NoLeaf)
     }
@@ -231,7 +232,8 @@ fn tree_at(alloc: Global, tree: &SelTree, at: usize) -> Result<CodeTree, NoMemor
     let middle = second_part(tree, at);
     let first = tree_between(alloc, tree, at + 1, middle)?;
     let second = tree_between(alloc, tree, middle, node.after as usize)?;
-    joined_tree(alloc, node.form, first, second)
+    let made = joined_tree(alloc, node.form, first, second)?;
+    Ok(made)
 }
 
 // Where the subtree of the second part of a node begins.
@@ -263,5 +265,6 @@ pub(crate) fn code_tree(alloc: Global, tree: &SelTree) -> Result<CodeTree, NoMem
         → shape_in t ≡ shape_of (resumes body) body 0 0) }
     ensures sized { IfOk result IsSized }
 {
-    tree_between(alloc, tree, 0, tree.nodes.len())
+    let made = tree_between(alloc, tree, 0, tree.nodes.len())?;
+    Ok(made)
 }
