@@ -1,0 +1,9 @@
+mod RowSteps
+mod Lowering
+mod FirstNumbers
+mod Beginnings
+mod Sourcing
+mod Finding
+mod Sources
+mod Fitting
+mod Parts
