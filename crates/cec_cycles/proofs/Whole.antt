@@ -36,7 +36,8 @@ use Rattle.net_unroll.specs.Schedules.{are_known, nothing_known, statuses_along}
 use Rattle.cec_cycles.specs.LoopNets.{Instant, IsCheckOf, IsLoopNet, IsQuiet, ReactsByLeast, occasion_of}
 use Rattle.net_cycles.specs.declared.drawing.Drawn.{Drawn}
 use Rattle.net_cycles.specs.Drawings.{IsDrawn, IsWhollyKnown, SaysLeast}
-use Rattle.cec_cycles.specs.Around.{DrawnNetsAreLoopNets, IsAroundDrawn, IsCheckAround, WatchesAll}
+use Rattle.cec_cycles.specs.Around.{CycleNetsAreLoopNets}
+use Rattle.net_cycles.specs.Packings.{AreCycleNets, IsAroundDrawn, IsCheckAround, WatchesAll}
 
 -- no gate carries a wire
 step-silent : (o : Op) (w : Option WireId) (gates : List Gate) (x : Gate) (v : WireId)
@@ -189,6 +190,7 @@ module _ (g : Graph) (w : Words) (y : System) (schedule watched : List ℕ) (d :
   pub whole : IsLoopNet g net check
   whole = record { interface = interface; along = along; reacts = reacts }
 
-pub drawn_nets_are_loop_nets_lem : DrawnNetsAreLoopNets
-drawn_nets_are_loop_nets_lem g w y schedule watched d after alarm net check drawn a all few r c =
-    whole g w y schedule watched d after alarm net check drawn a all few r c
+pub cycle_nets_are_loop_nets_lem : CycleNetsAreLoopNets
+cycle_nets_are_loop_nets_lem g w y schedule net check few a =
+    whole g w y schedule a.checked.watched a.drawn a.checked.after a.checked.alarm net check a.is_drawn a.checked.is_alarm a.checked.watches few a.net_around
+    a.checked.check_around

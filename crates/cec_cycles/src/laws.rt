@@ -13,9 +13,9 @@ pub fn quiet_nets_keep()
 
 // Netlists around drawn circuits.
 
-ghost use Rattle.cec_cycles.specs.Around.{DrawnNetsAreLoopNets};
+ghost use Rattle.cec_cycles.specs.Around.{CycleNetsAreLoopNets};
 
 /// A netlist around a drawn circuit, with a check around its alarm, is one of the graph.
-pub fn drawn_nets_are_loop_nets()
-    ensures { DrawnNetsAreLoopNets }
+pub fn cycle_nets_are_loop_nets()
+    ensures { CycleNetsAreLoopNets }
 {}

@@ -3,4 +3,4 @@
 
 mod laws;
 
-pub use laws::{drawn_nets_are_loop_nets, quiet_nets_keep};
+pub use laws::{cycle_nets_are_loop_nets, quiet_nets_keep};

@@ -7,3 +7,4 @@ mod Reading
 mod Premises
 mod Reacting
 mod Programs
+pub mod Exports

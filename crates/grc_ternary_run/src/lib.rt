@@ -16,3 +16,4 @@ mod systems;
 
 pub use runner::TriRunner;
 pub use state::NotConstructive;
+pub use systems::make_system;

@@ -19,7 +19,7 @@ use std::alloc::Global;
 /// constants, whether this is the first instant, the given signals, and for each statement whether it
 /// holds a selected pause. There are no more nodes than there are wires, ends and operators in the
 /// equations. Its only error is out of memory.
-pub(crate) fn make_system(alloc: Global, graph: &Graph, words: &Words) -> Result<System, NoMemory>
+pub fn make_system(alloc: Global, graph: &Graph, words: &Words) -> Result<System, NoMemory>
     requires words { AreWordsOf graph.now words.now }
     requires plain { All (λ f. IsKnown ⊥ f) graph.now.equations.items }
     ensures { IfOk result (λ s. IsSystemOf graph.now words.now s) }

@@ -7,3 +7,4 @@ mod Finding
 mod Sources
 mod Fitting
 mod Parts
+mod Packed

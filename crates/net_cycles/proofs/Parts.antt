@@ -165,7 +165,7 @@ module _ (find : SchedulesFindLeast) (given : SourceNetsAreSources) (g : Graph) 
   copies-many : length copies ≡ length g.wires.items
   copies-many = ap length taken ∙ length-take-le (length g.wires.items) nodes (let e = u.made.each in let m = wires-many in omega arith)
 
-  late-fit : (s : Source) → IsTrue (source_fits (late_bounds g (length w.rows.items)) s) → IsTrue (source_fits (bounds_of b (length copies) (length rs3)) s)
+  pub late-fit : (s : Source) → IsTrue (source_fits (late_bounds g (length w.rows.items)) s) → IsTrue (source_fits (bounds_of b (length copies) (length rs3)) s)
   late-fit s fits =
       let l = one.base.leaves in
       let e = one.base.given in
@@ -176,6 +176,12 @@ module _ (find : SchedulesFindLeast) (given : SourceNetsAreSources) (g : Graph) 
 
   pub drawn-base : IsBase g b d4
   drawn-base = base-stays g b d1 d4 (length schedule + (late.grew.count + last.count)) one.base more
+
+  pub drawn-reads : (s : Source) → IsTrue (source_fits (late_bounds g (length w.rows.items)) s) → (source_net b copies rs3 s).0 < next_number d4
+  drawn-reads s fits =
+      let low = source-low g w b copies rs3 d3 late.ready s (late-fit s fits) in
+      let m = last.grows.many in
+      omega arith
 
   pub drawn-can : CanUnroll d4 y.gates.items ss b.no schedule
   drawn-can =

@@ -1,5 +1,5 @@
 -- Contract: the circuit of a graph whose equations may go round in circles, along a schedule of its system.
-use Rattle.std.specs.Prelude.{◌≡◌, ℕ, ◌<◌, ◌≤◌, Bool, true, false, List, ◌∷◌, ◌++◌, length, map, slice_index_or, All}
+use Rattle.std.specs.Prelude.{◌≡◌, ℕ, ◌<◌, ◌≤◌, Bool, true, false, List, ◌∷◌, ◌++◌, length, map, slice_index_or, All, IsTrue}
 use Rattle.base_types.specs.declared.indices.NetId.{NetId}
 use Rattle.grc_graph.specs.declared.formulas.Formula.{Formula}
 use Rattle.grc_graph.specs.declared.graph.Graph.{Graph}
@@ -10,16 +10,18 @@ use Rattle.grc_react.specs.Evaluations as evaluations
 use Rattle.grc_solutions.specs.GraphWires.{Differ}
 use Rattle.grc_ternary.specs.LeastSolutions.{IsKnown, IsLeast, Statuses, true_wires}
 use Rattle.grc_formulas.specs.Occasions.{Occasion, state_of}
-use Rattle.grc_formulas.specs.WordLaws.{AreWordsOf}
+use Rattle.grc_formulas.specs.Rows.{source_fits}
+use Rattle.grc_formulas.specs.WordLaws.{AreWordsOf, late_bounds}
+use Rattle.grc_formulas.specs.declared.table.Source.{Source}
 use Rattle.grc_formulas.specs.declared.table.Words.{Words}
 use Rattle.net_ir.specs.Gates.{value_in}
 use Rattle.net_cycles.specs.declared.base.Base.{Base}
-use Rattle.net_cycles.specs.Bases.{IsBase, form_value, source_net}
+use Rattle.net_cycles.specs.Bases.{IsBase, bounds_of, form_value, source_net}
 use Rattle.grc_ternary_gates.specs.declared.gates.System.{System}
 use Rattle.grc_ternary_run.specs.Instants.{Instant}
 use Rattle.grc_ternary_run.specs.Systems.{IsSystemOf}
 use Rattle.net_unroll.specs.declared.growing.Growing.{Growing}
-use Rattle.net_unroll.specs.Copies.{AreNets, CanUnroll, net_at, values_at, values_of}
+use Rattle.net_unroll.specs.Copies.{AreNets, CanUnroll, net_at, next_number, values_at, values_of}
 use Rattle.net_unroll.specs.Laws.{IsSchedule}
 use Rattle.net_unroll.specs.Schedules.{is_known, nothing_known, statuses_along}
 use Rattle.net_cycles.specs.declared.drawing.Drawn.{Drawn}
@@ -71,6 +73,10 @@ pub record IsDrawn (g : Graph) (w : Words) (y : System) (schedule : List ℕ) (d
   pub base : IsBase g d.base d.gates
   pub many : length d.next.items ≡ length g.next.items
   pub low : AreNets d.gates d.next.items
+  pub fits : (s : Source) → IsTrue (source_fits (late_bounds g (length w.rows.items)) s)
+      → IsTrue (source_fits (bounds_of d.base (length d.copies.items) (length d.rows.items)) s)
+  pub reads : (s : Source) → IsTrue (source_fits (late_bounds g (length w.rows.items)) s)
+      → (source_net d.base d.copies.items d.rows.items s).0 < next_number d.gates
   pub can : CanUnroll d.gates y.gates.items d.sources.items d.base.no schedule
   pub says : (t : Instant g) → IsWhollyKnown g y d.gates d.sources.items schedule t
       → SaysLeast g w d.base d.gates d.copies.items d.rows.items d.next.items t

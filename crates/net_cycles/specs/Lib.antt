@@ -1,3 +1,4 @@
 pub mod Bases
 pub mod Found
 pub mod Drawings
+pub mod Packings

@@ -3,10 +3,10 @@
 ghost use Rattle.std.specs.Prelude.{◌≡◌, ◌≤◌, length, take, IfOk};
 ghost use Rattle.net_cycles.specs.Drawings.{CanDraw, IsDrawn};
 
-use crate::{
-    Base, Beginning, Nets, add_rows, begin, next_nets, schedules_find_least, source_nets,
-    source_nets_are_sources,
-};
+use crate::base::{Base, Beginning, Nets, begin};
+use crate::following::{next_nets, source_nets};
+use crate::laws::{schedules_find_least, source_nets_are_sources};
+use crate::rows::add_rows;
 use base_types::NetId;
 use grc_formulas::Words;
 use grc_graph::Graph;

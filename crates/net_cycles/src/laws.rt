@@ -5,13 +5,13 @@ ghost use Rattle.net_cycles.specs.Found.{SchedulesFindLeast, SourceNetsAreSource
 use net_unroll::known_schedules_settle;
 
 /// A schedule that leaves no node of a graph's system unknown finds the least solution of the graph.
-pub fn schedules_find_least()
+pub(crate) fn schedules_find_least()
     ensures { SchedulesFindLeast }
 {
     known_schedules_settle();
 }
 
 /// The nets of a system's sources have the values of the instant.
-pub fn source_nets_are_sources()
+pub(crate) fn source_nets_are_sources()
     ensures { SourceNetsAreSources }
 {}

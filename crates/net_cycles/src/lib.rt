@@ -11,8 +11,7 @@ mod drawing;
 mod following;
 mod formulas;
 mod laws;
+mod packing;
 mod rows;
 
-pub use base::Base;
-pub use drawing::{Drawn, draw};
-pub use laws::{schedules_find_least, source_nets_are_sources};
+pub use packing::{CycleNets, cycle_nets};

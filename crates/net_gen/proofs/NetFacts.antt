@@ -80,7 +80,7 @@ net-many : (g : Graph) (w : Words) (order : List WireId) (d : Drawing) (nets : L
 net-many g w order d nets net h m r = omega (arith, first-gate g w order d nets net h m r, ap length r.gates)
 
 -- names
-differ-take : (n : ℕ) (names : List (List ℕ)) → IsTrue (all_differ is_same_name names) → IsTrue (all_differ is_same_name (take n names))
+pub differ-take : (n : ℕ) (names : List (List ℕ)) → IsTrue (all_differ is_same_name names) → IsTrue (all_differ is_same_name (take n names))
 differ-take n names e =
     let split = all_differ-append is_same_name (take n names) (drop n names) in
     let whole = ap (all_differ is_same_name) (take-append-drop n names) in
@@ -89,7 +89,7 @@ differ-take n names e =
     sym split ∙ whole ∙ e in
     (and_parts _ _ (and_parts _ _ all).0).0
 
-differ-drop : (n : ℕ) (names : List (List ℕ)) → IsTrue (all_differ is_same_name names) → IsTrue (all_differ is_same_name (drop n names))
+pub differ-drop : (n : ℕ) (names : List (List ℕ)) → IsTrue (all_differ is_same_name names) → IsTrue (all_differ is_same_name (drop n names))
 differ-drop n names e =
     let split = all_differ-append is_same_name (take n names) (drop n names) in
     let whole = ap (all_differ is_same_name) (take-append-drop n names) in
@@ -98,14 +98,14 @@ differ-drop n names e =
     sym split ∙ whole ∙ e in
     (and_parts _ _ all).1
 
-given-names : (p : Program) → take (given_count p) (take (interface_count p) p.signals) ≡ given_names p
+pub given-names : (p : Program) → take (given_count p) (take (interface_count p) p.signals) ≡ given_names p
 given-names p = take-take (given_count p) (interface_count p) p.signals (omega arith)
 
-outgoing-of : (p : Program) → drop p.inputs (take (interface_count p) p.signals) ≡ outgoing_names p
+pub outgoing-of : (p : Program) → drop p.inputs (take (interface_count p) p.signals) ≡ outgoing_names p
 outgoing-of p = drop-take p.inputs (outgoing_count p) p.signals
 
 -- a list of outputs by their names
-names-fit : (outs : List NetOut) (names : List (List ℕ)) → map (λ (o : NetOut). o.name) outs ≡ names → All (λ n. IsTrue (is_name n)) names
+pub names-fit : (outs : List NetOut) (names : List (List ℕ)) → map (λ (o : NetOut). o.name) outs ≡ names → All (λ n. IsTrue (is_name n)) names
     → All (λ (o : NetOut). IsTrue (is_name o.name)) outs
 names-fit outs names e fit = λ k o h.
     let at = get_or-map (λ (x : NetOut). x.name) outs k o o.name h in

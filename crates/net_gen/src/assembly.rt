@@ -49,8 +49,9 @@ pub fn net_over(alloc: Global, graph: &Graph, words: &Words, order: &Order) -> R
     })
 }
 
-// The latch that tells the first instant, and one for each leaf.
-fn make_latches(alloc: Global, no: NetId, next: &[NetId]) -> Result<Vec<Latch>, NoMemory>
+/// The latch that tells the first instant, and one for each leaf, which reads the net of its next value. The error is
+/// out of memory.
+pub fn make_latches(alloc: Global, no: NetId, next: &[NetId]) -> Result<Vec<Latch>, NoMemory>
     ensures { IfOk result (λ latches. latches.items ≡ boot_latch no ∷ map leaf_latch next.now) }
 {
     let boot = Latch {

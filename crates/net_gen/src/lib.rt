@@ -16,5 +16,6 @@ mod making;
 mod names;
 mod whole;
 
-pub use assembly::net_over;
+pub use assembly::{make_latches, net_over};
 pub use generation::generate;
+pub use names::{input_names, signal_name};

@@ -13,8 +13,8 @@ use grc_formulas::Source;
 use net_ir::NetOut;
 use std::alloc::Global;
 
-/// The names of the given signals, in order.
-pub(crate) fn input_names(alloc: Global, program: &KernelProgram) -> Result<Vec<Text>, NoMemory>
+/// The names of the given signals, in order. The error is out of memory.
+pub fn input_names(alloc: Global, program: &KernelProgram) -> Result<Vec<Text>, NoMemory>
     requires { interface_count (program_of program.now) ≤ length program.now.signals.items }
     ensures { IfOk result (λ names. names.items ≡ given_names (program_of program.now)) }
 {
@@ -26,8 +26,8 @@ pub(crate) fn input_names(alloc: Global, program: &KernelProgram) -> Result<Vec<
     Ok(names)
 }
 
-// The name of a signal, in memory of its own.
-fn signal_name(alloc: Global, program: &KernelProgram, signal: usize) -> Result<Text, NoMemory>
+/// The name of a signal, in memory of its own. The error is out of memory.
+pub fn signal_name(alloc: Global, program: &KernelProgram, signal: usize) -> Result<Text, NoMemory>
     requires { signal < length program.now.signals.items }
     ensures { IfOk result (λ name. slice_get (program_of program.now).signals signal ≡ Some name) }
 {

@@ -5,7 +5,7 @@ use Rattle.grc_graph.specs.declared.formulas.Formula.{Formula}
 use Rattle.grc_formulas.specs.Occasions.{Occasion}
 use Rattle.net_cycles.specs.Bases.{CarryWires, IsReady, RowsAdded, sources_of}
 use Rattle.net_unroll.specs.Copies.{CanUnroll, IsUnrolled}
-use Rattle.net_cycles.proofs.Parts.{can-unroll, drawn-base, drawn-can, drawn-says, late-rows, ready-copies}
+use Rattle.net_cycles.proofs.Parts.{can-unroll, drawn-base, drawn-can, drawn-reads, drawn-says, late-fit, late-rows, ready-copies}
 use Rattle.net_cycles.proofs.drawing.draw.Goals as goal
 
 pub unroll-requires : goal.unroll-requires
@@ -109,6 +109,8 @@ returns c =
       base = drawn-base find given g w y b s c.requires one two three four rs ss nodes copies last_rows next ready early same u taken late made.grew following;
       many = made.many;
       low = made.low;
+      fits = late-fit find given g w y b s c.requires one two three four rs ss nodes copies last_rows next ready early same u taken late made.grew following;
+      reads = drawn-reads find given g w y b s c.requires one two three four rs ss nodes copies last_rows next ready early same u taken late made.grew following;
       can = drawn-can find given g w y b s c.requires one two three four rs ss nodes copies last_rows next ready early same u taken late made.grew following;
       says = drawn-says find given g w y b s c.requires one two three four rs ss nodes copies last_rows next ready early same u taken late made.grew following;
     }
