@@ -1,2 +1,3 @@
 mod Quiet
 mod Whole
+mod Deciding

@@ -17,7 +17,7 @@ ghost use Rattle.cec_prove_sources.specs.Views.{plain_question};
 use crate::places::output_net;
 use crate::questions::{Claim, Finding, Layout, Question};
 use crate::reading::trace_of;
-use crate::relations::push_relations;
+use crate::relations::relation_clauses;
 use base_types::NoMemory;
 use est_kernel::KernelProgram;
 use net_ir::Net;
@@ -64,8 +64,7 @@ pub(crate) fn allowed_clauses(
     ensures { IfOk result (λ list. plain_assumed list.items
         ≡ allowed_clauses (program_of program.now).relations net.now.outputs.items assumed) }
 {
-    let mut list = Vec::new(alloc);
-    push_relations(alloc, &mut list, &program.relations)?;
+    let mut list = relation_clauses(alloc, program)?;
     push_assumed(alloc, &mut list, net, assumed)?;
     Ok(list)
 }

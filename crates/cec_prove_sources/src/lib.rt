@@ -22,5 +22,6 @@ mod verdicts;
 
 pub use comparing::comparison_of;
 pub use questions::{Claim, Comparison, PairRefusal, Question, Survey, Verdict};
+pub use relations::relation_clauses;
 pub use surveys::survey_of;
 pub use verdicts::verdict_of;

@@ -1,14 +1,16 @@
 // What an environment keeps of the given signals, as clauses.
 
-ghost use Rattle.std.specs.Prelude.{◌≡◌, [], ◌∷◌, ◌++◌, map, OnOk};
+ghost use Rattle.std.specs.Prelude.{◌≡◌, [], ◌∷◌, ◌++◌, map, IfOk, OnOk};
 ghost use Rattle.std.specs.List.{flat_map};
 ghost use Rattle.base_types.specs.Relations.{relation_of};
+ghost use Rattle.est_kernel.specs.Plain.{program_of};
 ghost use Rattle.sat_kernel.specs.Clauses.{plain_assumed};
 ghost use Rattle.net_never.specs.GateClauses.{signed};
 ghost use Rattle.cec_prove_sources.specs.RelationClauses.{all_relation_clauses, exclusion, exclusions};
 ghost use Rattle.cec_prove_sources.specs.RelationClauses.{few_exclusions, relation_clauses};
 
 use base_types::{InputRelation, NoMemory, SigId};
+use est_kernel::KernelProgram;
 use sat_kernel::{Clause, Literal};
 use std::alloc::Global;
 
@@ -108,8 +110,20 @@ fn push_relation(
     }
 }
 
-/// The clauses of relations, over the inputs of the program's netlist.
-pub(crate) fn push_relations(
+/// The clauses of a program's relations, over the inputs of its netlist. The error is out of memory.
+///
+/// Example: `relation A => B` gives the clause that A is absent or B is present.
+pub fn relation_clauses(alloc: Global, program: &KernelProgram) -> Result<Vec<Clause>, NoMemory>
+    ensures { IfOk result (λ list. plain_assumed list.items
+        ≡ all_relation_clauses (program_of program.now).relations) }
+{
+    let mut list = Vec::new(alloc);
+    push_relations(alloc, &mut list, &program.relations)?;
+    Ok(list)
+}
+
+// The clauses of relations, over the inputs of the program's netlist.
+fn push_relations(
     alloc: Global,
     list: &mut Vec<Clause>,
     relations: &[InputRelation],

@@ -16,4 +16,4 @@ mod systems;
 
 pub use runner::TriRunner;
 pub use state::NotConstructive;
-pub use systems::make_system;
+pub use systems::graph_system;

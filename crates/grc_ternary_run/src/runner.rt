@@ -8,7 +8,7 @@ ghost use Rattle.grc_ternary_run.specs.Runners.{HasPlaces, IsFresh, IsStuck, Res
 ghost use Rattle.grc_ternary_run.specs.Runners.{TriReacts, program_in};
 
 use crate::state::{NotConstructive, State};
-use crate::systems::make_system;
+use crate::systems::graph_system;
 use base_types::NoMemory;
 use grc_formulas::{Words, words};
 use grc_graph::Graph;
@@ -53,7 +53,7 @@ impl<'a> TriRunner<'a> {
         ensures places { IfOk result HasPlaces }
     {
         let words = words(alloc, graph)?;
-        let system = make_system(alloc, graph, &words)?;
+        let system = graph_system(alloc, graph, &words)?;
         let state = State::new(alloc, graph, &words, &system)?;
         Ok(TriRunner {
             graph,

@@ -1,9 +1,12 @@
 // The system of a graph: a gate for each wire, over a table of further gates.
 
 ghost use Rattle.std.specs.Prelude.{◌≡◌, ◌++◌, length, All, IfOk, OnOk};
+ghost use Rattle.est_kernel.specs.Plain.{program_of};
+ghost use Rattle.grc_graph.specs.BuiltGraphs.{IsGraphOf};
 ghost use Rattle.grc_react.specs.Evaluations.{IsKnown};
 ghost use Rattle.grc_formulas.specs.WordLaws.{AreWordsOf};
 ghost use Rattle.grc_ternary_run.specs.Meanings.{Ready};
+ghost use Rattle.grc_ternary_run.specs.States.{ReadsGraph};
 ghost use Rattle.grc_ternary_run.specs.Systems.{CountsOf, GatesMade, IsSystemOf};
 
 use crate::chains::make_chains;
@@ -15,11 +18,22 @@ use grc_graph::Graph;
 use grc_ternary_gates::{Gate, System};
 use std::alloc::Global;
 
-/// The system of a graph's equations. Its nodes are first the wires, by their numbers; its sources are the
-/// constants, whether this is the first instant, the given signals, and for each statement whether it
-/// holds a selected pause. There are no more nodes than there are wires, ends and operators in the
-/// equations. Its only error is out of memory.
-pub fn make_system(alloc: Global, graph: &Graph, words: &Words) -> Result<System, NoMemory>
+/// The system of the equations of a program's graph, over the table of its words. Its nodes are first the wires, by their
+/// numbers. The only error is out of memory.
+pub fn graph_system(alloc: Global, graph: &Graph, words: &Words) -> Result<System, NoMemory>
+    requires graph { IsGraphOf graph.now (program_of graph.now.program) }
+    requires words { AreWordsOf graph.now words.now }
+    ensures { IfOk result (ReadsGraph graph.now words.now) }
+{
+    let system = make_system(alloc, graph, words)?;
+    Ok(system)
+}
+
+// The system of a graph's equations. Its nodes are first the wires, by their numbers; its sources are the
+// constants, whether this is the first instant, the given signals, and for each statement whether it
+// holds a selected pause. There are no more nodes than there are wires, ends and operators in the
+// equations. Its only error is out of memory.
+fn make_system(alloc: Global, graph: &Graph, words: &Words) -> Result<System, NoMemory>
     requires words { AreWordsOf graph.now words.now }
     requires plain { All (λ f. IsKnown ⊥ f) graph.now.equations.items }
     ensures { IfOk result (λ s. IsSystemOf graph.now words.now s) }

@@ -1,6 +1,9 @@
 -- A netlist around a drawn circuit, and its check, are nets.
 use Rattle.std.proofs.Common.{◌≡◌, ℕ, zero, suc, ◌+◌, ◌<◌, ◌≤◌, ◌^◌, true, List, [], ◌∷◌, length, map, take, drop, slice_index_or, refl, sym, ap, ◌∙◌, subst, arith, IsTrue, All, nat_eq}
-use Rattle.std.proofs.lemmas.List.{get_or-map, length-map, length-take-le}
+use Rattle.std.specs.List.{range_with_len}
+use Rattle.std.proofs.lemmas.Bool.{and_parts}
+use Rattle.std.proofs.lemmas.List.{get_or-map, length-append, length-map, length-take-le}
+use Rattle.std.proofs.lemmas.List.FromFn.{get_or-range_with_len, length-range_with_len}
 use Rattle.std.proofs.lemmas.List.Elements.{All-drop, All-take}
 use Rattle.base_types.specs.Distinct.{all_differ}
 use Rattle.base_types.specs.Names.{is_name, is_same_name}
@@ -19,11 +22,15 @@ use Rattle.net_ir.specs.declared.netlist.NetOut.{NetOut}
 use Rattle.net_ir.specs.Gates.{ReadsLower, carried}
 use Rattle.net_ir.specs.Netlists.{IsNet, Netlist, first_gate, net_count}
 use Rattle.grc_ternary_gates.specs.declared.gates.System.{System}
+use Rattle.est_kernel.specs.Statuses.{Status}
+use Rattle.net_unroll.specs.declared.growing.Growing.{Growing}
 use Rattle.net_unroll.specs.Copies.{next_number}
+use Rattle.net_unroll.specs.Rails.{IsAlarm}
+use Rattle.net_unroll.specs.Schedules.{are_known, is_known}
 use Rattle.net_cycles.specs.declared.drawing.Drawn.{Drawn}
 use Rattle.net_cycles.specs.Bases.{source_net}
 use Rattle.net_cycles.specs.Drawings.{IsDrawn}
-use Rattle.net_cycles.specs.Packings.{CanCheck, IsAroundDrawn, IsCheckMade, alarm_outputs}
+use Rattle.net_cycles.specs.Packings.{CanCheck, IsAroundDrawn, IsCheckAround, IsCheckMade, WatchesAll, alarm_outputs}
 
 module _ (g : Graph) (w : Words) (y : System) (schedule : List ℕ) (d : Drawn) (net : Netlist) (drawn : IsDrawn g w y schedule d)
     (few : interface_count (program_of g.program) ≤ length (program_of g.program).signals) (r : IsAroundDrawn g w d net) where
@@ -124,3 +131,50 @@ check-net net check alarm is can made =
         → (slice_index_or (alarm_outputs alarm) k o).net.0 < net_count check
     one-low net check alarm first can zero o low = omega (arith, first, can.low)
     one-low net check alarm first can (suc k) o low = absurd (omega arith)
+
+-- ---- all nodes are watched
+
+all-known : (V : ℕ → Status) (first count : ℕ) → are_known V (range_with_len first count) ≡ true → (n : ℕ) → n < count → is_known (V (first + n)) ≡ true
+all-known V first zero known n low = absurd (omega arith)
+all-known V first (suc count) known zero low =
+    ap (λ k. is_known (V k)) (let e : first + zero ≡ first = omega arith in e)
+    ∙ (and_parts (is_known (V first)) (are_known V (range_with_len (first + 1) count)) known).0
+all-known V first (suc count) known (suc n) low =
+    ap (λ k. is_known (V k)) (let e : first + suc n ≡ first + 1 + n = omega arith in e)
+    ∙ all-known V (first + 1) count (and_parts (is_known (V first)) (are_known V (range_with_len (first + 1) count)) known).1 n (omega arith)
+
+pub watches-all : (nodes : ℕ) → WatchesAll nodes (range_with_len 0 nodes)
+watches-all nodes V known n low = all-known V 0 nodes known n low
+
+pub nodes-all : (nodes : ℕ) → All (λ n. n < nodes) (range_with_len 0 nodes)
+nodes-all nodes k d low =
+    let few : k < nodes = omega (arith, low, length-range_with_len 0 nodes) in
+    subst (λ n. n < nodes) (sym (get_or-range_with_len 0 nodes k d few)) few
+
+-- ---- the check of a netlist around a drawn circuit
+
+pub can-check : (g : Graph) (w : Words) (y : System) (schedule watched : List ℕ) (d : Drawn) (net : Netlist) (after : Growing) (alarm : ℕ)
+    → IsDrawn g w y schedule d → interface_count (program_of g.program) ≤ length (program_of g.program).signals → IsAroundDrawn g w d net
+    → IsAlarm d.gates after y.gates.items d.sources.items schedule watched alarm → CanCheck net after.list.items alarm
+can-check g w y schedule watched d net after alarm drawn few r a =
+    let first : first_gate net ≡ after.first = first-is g w y schedule d net drawn few r ∙ sym a.grows.first in
+    let numbered = a.grows.growing.numbered in
+    let low = a.low in
+    let more = ap length a.grows.more.1 in
+    let both = length-append d.gates.list.items a.grows.more.0 in
+    let own = ap length r.gates in
+    record {
+      many = omega arith;
+      more = omega arith;
+      low = omega arith;
+      reads = subst (λ n. ReadsLower n after.list.items) (sym first) a.grows.growing.reads;
+      silent = a.grows.silent ∙ drawn.base.silent;
+    }
+
+pub is-check : (net check : Netlist) (after : Growing) (alarm : NetId) → IsCheckMade net check after.list.items alarm → IsCheckAround net check after alarm
+is-check net check after alarm made = record {
+  inputs = made.inputs;
+  latches = made.latches;
+  gates = made.gates_are;
+  alarm_out = ap (map (λ (o : NetOut). o.net)) made.outputs;
+}
