@@ -1,5 +1,6 @@
 -- What it says that the output of a check is never true.
-use Rattle.std.proofs.Common.{◌≡◌, ◌<◌, ◌≤◌, ℕ, zero, suc, ◌+◌, Bool, true, false, ◌==◌, List, [], ◌∷◌, length, map, slice_index_or, refl, sym, ap, ◌∙◌, subst, arith, All}
+use Rattle.std.proofs.Common.{◌≡◌, ◌<◌, ◌≤◌, ℕ, zero, suc, ◌+◌, Bool, true, false, ◌==◌, List, [], ◌∷◌, length, map, slice_index_or, refl, sym, ap, ◌∙◌, subst}
+use Rattle.std.proofs.Common.{arith, All}
 use Rattle.std.specs.List.{AllByRecursion}
 use Rattle.std.proofs.lemmas.List.{length-map, length-take-le}
 use Rattle.base_types.specs.Items.{Item, EachEvent}
@@ -50,8 +51,3 @@ never-alarms check small p fits inputs one o same never = λ items are.
     let known = allowed small p fits.relations items (initial_latches small) are in
     subst (All (λ (s : Shown). s.outputs ≡ false ∷ [])) (o.replaces.followed.runs items wide)
     (all-quiet small same (net_values_run small items) (never items narrow known))
-
-pub outputs-many : (check small : Netlist) → Optimizes check small → length small.outputs ≡ length check.outputs
-outputs-many check small o =
-    let N = λ (o : NetOut). o.name in
-    sym (length-map small.outputs N) ∙ ap length o.replaces.interface.outputs ∙ length-map check.outputs N

@@ -22,6 +22,7 @@ use Rattle.grc_ternary.specs.LeastSolutions.{IsLeast, true_wires}
 use Rattle.grc_ternary.specs.RunLaws.{LeavesTerm, ProgramsRunByLeastSolutions, RunsByLeastSolutions}
 use Rattle.grc_formulas.specs.Occasions.{state_of}
 use Rattle.net_gen.specs.Generated.{HasInterfaceOf, shown_as}
+use Rattle.net_gen.proofs.Exports.{leaves-false, next-many}
 use Rattle.net_ir.specs.declared.netlist.Gate.{Gate}
 use Rattle.net_ir.specs.declared.netlist.Latch.{Latch}
 use Rattle.net_ir.specs.Gates.{gate_values, value_in}
@@ -34,7 +35,8 @@ use Rattle.cec_cycles.specs.LoopNets.{Instant, IsCheckOf, IsLoopNet, NeverAlarms
 
 -- ---- the check has the latches of the netlist
 
-map-same : (f h : Latch → Bool) (ls : List Latch) → ((k : ℕ) (d : Latch) → k < length ls → f (slice_index_or ls k d) ≡ h (slice_index_or ls k d)) → map f ls ≡ map h ls
+map-same : (f h : Latch → Bool) (ls : List Latch) → ((k : ℕ) (d : Latch) → k < length ls → f (slice_index_or ls k d) ≡ h (slice_index_or ls k d)) → map f ls
+    ≡ map h ls
 map-same f h [] same = refl
 map-same f h (l ∷ ls) same =
     let here = same 0 l (omega arith) in
@@ -58,14 +60,6 @@ next-same net check latches inputs c wide =
 
 -- ---- leaves
 
-leaves-false : (g : Graph) → All (λ b. b ≡ false) (map (λ (f : Formula). false) g.next.items)
-leaves-false g = λ k b h.
-    let many = length-map g.next.items (λ (f : Formula). false) in
-    get_or-map (λ (f : Formula). false) g.next.items k (formulas.Const true) b (omega arith)
-
-next-many : (g : Graph) (fv : plain.Formula → Bool) → length (map fv (plain_graph g).next) ≡ length g.next.items
-next-many g fv = length-map (plain_graph g).next fv ∙ length-map g.next.items (formula_of (instances_of g) (names_of g))
-
 -- ---- from instant to instant
 
 -- from these latches on the check is quiet over some items
@@ -77,7 +71,8 @@ record Keeps (p : Program) (net : Netlist) (latches : List Bool) (r : Term) (ite
   is : run_from (interface_of p) p.body r items ≡ Some answers
   shows : map (shown net) (values_from net latches items) ≡ map net_seen answers
 
-module _ (g : Graph) (p : Program) (net check : Netlist) (formed : IsWellFormed p) (graph : IsGraphOf g p) (is : IsLoopNet g net check) (runs : RunsByLeastSolutions p)
+module _ (g : Graph) (p : Program) (net check : Netlist) (formed : IsWellFormed p) (graph : IsGraphOf g p) (is : IsLoopNet g net check)
+    (runs : RunsByLeastSolutions p)
     (start : (items : List Item) → AreItems p items → QuietFrom check (initial_latches check) items) where
   many_latches : length net.latches ≡ 1 + length g.next.items
   many_latches =
@@ -120,10 +115,12 @@ module _ (g : Graph) (p : Program) (net check : Netlist) (formed : IsWellFormed 
       let wide : length (event ++ (boot ∷ bits)) ≡ length net.inputs + length net.latches =
       (let e = fits.0.wide in let i = many_inputs in let l = many_latches in omega (arith, length-append event (boot ∷ bits))) in
       let next_net : next_latches net (net_values net (boot ∷ bits) event) ≡ false ∷ next = q.reacts.next in
-      let next_check : next_latches check (net_values check (boot ∷ bits) event) ≡ false ∷ next = next-same net check (boot ∷ bits) event is.along wide ∙ next_net in
+      let next_check : next_latches check (net_values check (boot ∷ bits) event) ≡ false ∷ next = next-same net check (boot ∷ bits) event is.along wide
+      ∙ next_net in
       let quiet_next : QuietFrom check (false ∷ next) items =
       subst (λ l. QuietFrom check l items) next_check (λ k d low. quiet (suc k) d (omega arith)) in
-      let rest = keeps-from items false next x.residual (next-many g (formula_value (plain_graph g) s event V)) (λ e. absurd (false≢true e)) match_next fits.1 quiet_next in
+      let rest = keeps-from items false next x.residual (next-many g (formula_value (plain_graph g) s event V)) (λ e. absurd (false≢true e)) match_next fits.1
+      quiet_next in
       let told : shown net (net_values net (boot ∷ bits) event) ≡ net_seen x.answer =
       q.reacts.shows ∙ ap shown_as (ap (λ (h : PlainGraph). graphs.shown h V) graph.graph ∙ sym both.0) in
       record {

@@ -1,6 +1,8 @@
 -- What a netlist around a drawn circuit shows and keeps.
-use Rattle.std.proofs.Common.{◌≡◌, ℕ, zero, suc, ◌+◌, ◌<◌, ◌≤◌, Bool, true, false, not, List, [], ◌∷◌, ◌++◌, length, map, slice_index_or, Option, Some, None, refl, sym, ap, ◌∙◌, subst}
+use Rattle.std.proofs.Common.{◌≡◌, ℕ, zero, suc, ◌+◌, ◌<◌, ◌≤◌, Bool, true, false, not, List, [], ◌∷◌, ◌++◌, length, map, slice_index_or, Option, Some, None}
+use Rattle.std.proofs.Common.{refl, sym, ap, ◌∙◌, subst}
 use Rattle.std.proofs.Common.{arith, All}
+use Rattle.std.proofs.lemmas.Bool.{not-false}
 use Rattle.std.proofs.lemmas.List.{get_or-map, length-append, length-map, length-take-le}
 use Rattle.base_types.specs.declared.indices.NetId.{NetId}
 use Rattle.base_types.specs.declared.indices.WireId.{WireId}
@@ -78,10 +80,6 @@ next-map f F fv (n ∷ ns) (d ∷ fs) e same =
     let here = same 0 d (omega arith) in
     let rest = next-map f F fv ns fs (omega arith) (λ k x low. same (suc k) x (omega arith)) in
     λ i. here i ∷ rest i
-
-not-false : (b : Bool) → not b ≡ false → b ≡ true
-not-false true e = refl
-not-false false e = absurd (cc)
 
 module _ (g : Graph) (w : Words) (y : System) (schedule watched : List ℕ) (d : Drawn) (after : Growing) (alarm : NetId) (net check : Netlist)
     (drawn : IsDrawn g w y schedule d) (a : IsAlarm d.gates after y.gates.items d.sources.items schedule watched alarm.0)
@@ -180,7 +178,8 @@ module _ (g : Graph) (w : Words) (y : System) (schedule watched : List ℕ) (d :
             ∙ ap (λ b. b ∷ map (λ (l : Latch). value_in vals l.from.0) (map leaf_latch d.next.items)) (drawn.base.no.never front wide)
             ∙ ap (λ l. false ∷ l)
             (next-map (λ n. value_in vals n.0) (formula_of (instances_of g) (names_of g))
-            (formula_value (plain_graph g) (state_of (plain_graph g).leaves t.boot t.bits) t.event (true_wires says.statuses)) d.next.items g.next.items drawn.many
+            (formula_value (plain_graph g) (state_of (plain_graph g).leaves t.boot t.bits) t.event (true_wires says.statuses)) d.next.items g.next.items
+            drawn.many
             says.next_is);
       }
 

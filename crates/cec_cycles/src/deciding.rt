@@ -28,7 +28,7 @@ use net_unroll::GrowFault;
 use sat_kernel::Literal;
 use std::alloc::Global;
 
-// How often a node of a circle stands in the longest schedule that is tried.
+// How often a node of a circle occurs in the longest schedule that is tried.
 const PASSES: usize = 8;
 
 /// The netlist of a program by its graph, whose dependencies may go round in a circle. Where there is one, the program
@@ -38,11 +38,7 @@ const PASSES: usize = 8;
 /// The errors are that a netlist would have more than 2^32 nets, and out of memory.
 ///
 /// Example: of `present A then emit B end || present B then emit A end` there is none, whatever the effort.
-pub fn constructive_net(
-    alloc: Global,
-    graph: &Graph,
-    effort: u64,
-) -> Result<Option<Net>, GrowFault>
+pub fn constructive_net(alloc: Global, graph: &Graph, effort: u64) -> Result<Option<Net>, GrowFault>
     requires { IsBuilt graph.now (program_of graph.now.program) }
     ensures { IfOk result (λ found. IfSome found (λ net.
         NetKeeps (netlist_of net) (program_of graph.now.program))) }

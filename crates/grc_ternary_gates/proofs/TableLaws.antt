@@ -66,7 +66,7 @@ gate-agrees S U V nodes sources (gates.Or a b) fits same =
     let y = same b (ltb-true b nodes p.1) in
     λ i. disjunction (x i) (y i)
 
-lt-more : (a n m : ℕ) → n ≤ m → IsTrue (nat_lt a n) → IsTrue (nat_lt a m)
+pub lt-more : (a n m : ℕ) → n ≤ m → IsTrue (nat_lt a n) → IsTrue (nat_lt a m)
 lt-more a n m le h = let l = ltb-true a n h in lt-ltb a m (omega arith)
 
 -- what reads few nodes may read more

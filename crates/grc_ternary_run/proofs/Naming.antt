@@ -201,7 +201,7 @@ meaning-agrees g w c S T U (formulas.AnyOf v) a fits same = any_meaning-agrees S
 
 -- ---- statuses by name
 
-named-off : (ws : List Wire) (V : ℕ → Status) (u : Wire) → list_any (same_wire u) ws ≡ false → status_named ws V u ≡ Minus
+pub named-off : (ws : List Wire) (V : ℕ → Status) (u : Wire) → list_any (same_wire u) ws ≡ false → status_named ws V u ≡ Minus
 named-off [] V u h = refl
 named-off (w ∷ ws) V u h = elim (cases_Bool (same_wire u w)) [
   | inl here ↦ absurd (false≢true (sym h ∙ ap (λ b. b || list_any (same_wire u) ws) here))

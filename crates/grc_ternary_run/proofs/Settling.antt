@@ -39,7 +39,7 @@ instant g w s b = record {
 }
 
 -- what stands behind the first three sources
-behind : (a b c : Bool) (xs : List Bool) (k : ℕ) → slice_index_or (a ∷ (b ∷ (c ∷ xs))) (3 + k) false ≡ slice_index_or xs k false
+pub behind : (a b c : Bool) (xs : List Bool) (k : ℕ) → slice_index_or (a ∷ (b ∷ (c ∷ xs))) (3 + k) false ≡ slice_index_or xs k false
 behind a b c xs k = let e : 3 + k ≡ suc (suc (suc k)) = omega arith in ap (λ n. slice_index_or (a ∷ (b ∷ (c ∷ xs))) n false) e
 
 inputs-are : (g : Graph) (w : Words) (c : Counts) (s : Start) (rows : List Bool) (n : ℕ) → CountsOf g w c → Begins g w s

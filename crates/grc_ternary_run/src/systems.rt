@@ -18,8 +18,8 @@ use grc_graph::Graph;
 use grc_ternary_gates::{Gate, System};
 use std::alloc::Global;
 
-/// The system of the equations of a program's graph, over the table of its words. Its nodes are first the wires, by their
-/// numbers. The only error is out of memory.
+/// The system of the equations of a program's graph, over the table of its words. Its nodes are first the wires, by
+/// their numbers. The only error is out of memory.
 pub fn graph_system(alloc: Global, graph: &Graph, words: &Words) -> Result<System, NoMemory>
     requires graph { IsGraphOf graph.now (program_of graph.now.program) }
     requires words { AreWordsOf graph.now words.now }

@@ -3,7 +3,7 @@ use Rattle.std.specs.Prelude.{◌≡◌, ℕ, ◌<◌, Option, Some, None, lengt
 use Rattle.grc_ternary_schedule.specs.declared.parts.Marks.{Marks}
 use Rattle.grc_ternary_schedule.specs.declared.search.Search.{Search}
 
--- each table has an entry for each of so many nodes, and only nodes stand in the lists
+-- each table has an entry for each of so many nodes, and the lists have nodes alone
 pub record IsSearch (nodes : ℕ) (s : Search) : Type 0 where
   pub met : length s.met.items ≡ nodes
   pub low : length s.low.items ≡ nodes

@@ -26,14 +26,14 @@ fn by_parts(alloc: Global, found: &Search) -> Result<Vec<Vec<usize>>, NoMemory> 
     Ok(lists)
 }
 
-/// Where each node stands among all, and which nodes are read before they stand.
+/// The place of each node among all, and which nodes are read before their place.
 #[derive(Drop)]
 struct Marks {
     place: Vec<usize>,
     cut: Vec<bool>,
 }
 
-// Where each node stands in the order.
+// The place of each node in the order.
 fn make_marks(alloc: Global, found: &Search) -> Result<Marks, NoMemory>
     ensures { IfOk result (AreMarks (length found.now.part.items)) }
 {
@@ -48,7 +48,7 @@ fn make_marks(alloc: Global, found: &Search) -> Result<Marks, NoMemory>
     Ok(Marks { place, cut })
 }
 
-// Marks a node that another one of its component reads before it stands, and tells whether it was not marked.
+// Marks a node that another one of its component reads before its place, and tells whether it was not marked.
 fn mark(found: &Search, marks: &mut Marks, reader: usize, operand: usize) -> bool
     requires { AreMarks (length found.now.part.items) marks.old }
     ensures { AreMarks (length found.now.part.items) marks.new }
@@ -64,7 +64,7 @@ fn mark(found: &Search, marks: &mut Marks, reader: usize, operand: usize) -> boo
     true
 }
 
-// How many nodes of a component are read before they stand.
+// How many nodes of a component are read before their place.
 fn count_cuts(found: &Search, marks: &mut Marks, gates: &[Gate], list: &[usize]) -> usize
     requires { AreMarks (length found.now.part.items) marks.old }
     ensures { AreMarks (length found.now.part.items) marks.new }
@@ -113,9 +113,11 @@ fn repeat(
     Ok(())
 }
 
-/// A schedule of a system's nodes: component by component, so that what is read stands before its readers but in a
-/// circle. The nodes of a circle stand there once more than it has nodes that are read before they stand, and at most
-/// `most` times. Its only error is want of memory.
+/// A schedule of a system's nodes: component by component, so that what is read comes before its readers, except in a
+/// circle. The nodes of a circle occur once more than it has nodes that are read before their place, and at most `most`
+/// times. The error is out of memory.
+///
+/// Example: of the two nodes of `a = not b`, `b = not a` one is read before its place. With `most` 2 both occur twice.
 pub fn find_schedule(
     alloc: Global,
     gates: &[Gate],

@@ -8,6 +8,7 @@ use Rattle.grc_graph.specs.PlainGraphs.{names_of, plain_graph, wire_at}
 use Rattle.grc_graph.specs.Walk.{State}
 use Rattle.grc_graph.specs.Wires.{Wire, same_wire}
 use Rattle.grc_graph.proofs.Exports.{length-names}
+use Rattle.grc_ternary.proofs.Exports.{plus_known}
 use Rattle.grc_ternary.specs.LeastSolutions.{is_plus}
 use Rattle.grc_formulas.specs.declared.table.Words.{Words}
 use Rattle.grc_ternary_gates.specs.declared.gates.System.{System}
@@ -21,10 +22,6 @@ use Rattle.grc_ternary_run.proofs.Exports.{least-named, named-there}
 use Rattle.net_unroll.specs.Laws.{KnownSchedulesSettle}
 use Rattle.net_unroll.specs.Schedules.{all_false, nothing_known, statuses_along, truths_along}
 use Rattle.net_cycles.specs.Found.{SchedulesFindLeast}
-
-plus_known : (b : Bool) → is_plus (known b) ≡ b
-plus_known true = refl
-plus_known false = refl
 
 -- a wire that is named has the status of its number, any other is false
 named : (ws : List Wire) (V : ℕ → Status) (u : Wire) → ((v : ℕ) → v < length ws → (b : Bool) × (V v ≡ known b))

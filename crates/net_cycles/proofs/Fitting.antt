@@ -1,10 +1,11 @@
 -- What rows and sources may read, and which nets there are.
-use Rattle.std.proofs.Common.{◌≡◌, ℕ, zero, suc, ◌+◌, ◌<◌, ◌≤◌, ◌^◌, Bool, true, ◌&&◌, List, [], ◌∷◌, ◌++◌, length, map, slice_index_or, refl, sym, ap, ◌∙◌, subst, arith}
+use Rattle.std.proofs.Common.{◌≡◌, ℕ, zero, suc, ◌+◌, ◌<◌, ◌≤◌, ◌^◌, Bool, true, ◌&&◌, List, [], ◌∷◌, ◌++◌, length, map, slice_index_or, refl, sym, ap, ◌∙◌}
+use Rattle.std.proofs.Common.{subst, arith}
 use Rattle.std.proofs.Common.{IsTrue, All, nat_lt}
 use Rattle.std.specs.List.{range_with_len}
 use Rattle.std.proofs.lemmas.Bool.{and_from, and_parts, cases_lt, lt-ltb, ltb-true}
 use Rattle.std.proofs.lemmas.List.{get_or-append-add, get_or-map, get_or_append_left, length-append, length-map}
-use Rattle.std.proofs.lemmas.List.FromFn.{get_or-map-range_with_len}
+use Rattle.std.proofs.lemmas.List.FromFn.{get_or-map-range_with_len, length-range_with_len}
 use Rattle.base_types.specs.declared.indices.NetId.{NetId}
 use Rattle.grc_formulas.specs.declared.table.Source.{Source}
 use Rattle.grc_formulas.specs.declared.table.Source.TheVariants as sources
@@ -15,6 +16,7 @@ use Rattle.net_ir.specs.Gates.{value_in}
 use Rattle.net_unroll.specs.declared.growing.Growing.{Growing}
 use Rattle.net_unroll.specs.Copies.{AreNets, Grows, net_at, next_number, values_at, values_of}
 use Rattle.net_unroll.proofs.Exports.{grows-value}
+use Rattle.grc_ternary_gates.proofs.Exports.{lt-more}
 use Rattle.net_cycles.specs.Bases.{numbered_nets}
 
 -- ---- bounds
@@ -24,9 +26,6 @@ pub record IsLess (B C : Bounds) : Type 0 where
   pub given : B.given ≤ C.given
   pub wires : B.wires ≤ C.wires
   pub rows : B.rows ≤ C.rows
-
-lt-more : (a m n : ℕ) → m ≤ n → IsTrue (nat_lt a m) → IsTrue (nat_lt a n)
-lt-more a m n le h = let l = ltb-true a m h in lt-ltb a n (omega arith)
 
 pub source-more : (B C : Bounds) (s : Source) → IsLess B C → IsTrue (source_fits B s) → IsTrue (source_fits C s)
 source-more B C (sources.Const c) l fits = refl
@@ -56,15 +55,11 @@ append-nets d [] ms are these = these
 append-nets d (n ∷ ns) ms are these =
     cons-nets d n (ns ++ ms) (are 0 n (omega arith)) (append-nets d ns ms (λ k x h. are (suc k) x (omega arith)) these)
 
-length-range : (n a : ℕ) → length (range_with_len a n) ≡ n
-length-range zero a = refl
-length-range (suc n) a = let r = length-range n (a + 1) in omega arith
-
 abbrev net_of : ℕ → NetId
 net_of n = record { 0 = n }
 
 pub length-numbered : (n : ℕ) → length (numbered_nets n) ≡ n
-length-numbered n = length-map (range_with_len 0 n) net_of ∙ length-range n 0
+length-numbered n = length-map (range_with_len 0 n) net_of ∙ length-range_with_len 0 n
 
 pub numbered-are : (d : Growing) (n : ℕ) → n ≤ next_number d → AreNets d (numbered_nets n)
 numbered-are d n few = λ i x low.

@@ -1,6 +1,5 @@
 mod RowSteps
 mod Lowering
-mod FirstNumbers
 mod Beginnings
 mod Sourcing
 mod Finding

@@ -1,5 +1,6 @@
 -- Nets of formulas.
-use Rattle.std.proofs.Common.{◌≡◌, ℕ, zero, suc, ◌+◌, ◌-◌, ◌<◌, ◌≤◌, ◌^◌, Bool, true, false, not, ◌&&◌, ◌||◌, List, [], ◌∷◌, ◌++◌, length, map, min, take, refl, sym, ap, ◌∙◌, subst, arith}
+use Rattle.std.proofs.Common.{◌≡◌, ℕ, zero, suc, ◌+◌, ◌-◌, ◌<◌, ◌≤◌, ◌^◌, Bool, true, false, not, ◌&&◌, ◌||◌, List, [], ◌∷◌, ◌++◌, length, map, min, take, refl}
+use Rattle.std.proofs.Common.{sym, ap, ◌∙◌, subst, arith}
 use Rattle.std.proofs.Common.{IsTrue, All, slice_index_or, ⊎_elim}
 use Rattle.std.specs.List.{list_any}
 use Rattle.std.proofs.lemmas.Bool.{and_parts, cases_lt, ltb-true, lt-ltb}
@@ -29,7 +30,8 @@ use Rattle.net_unroll.specs.Copies.{AreNets, Grows, Pushed, net_at, next_number,
 use Rattle.net_unroll.proofs.Exports.{grows-both, grows-none, grows-push, grows-value, nets-stay, pushed-new, pushed-number, pushed-old}
 use Rattle.net_cycles.specs.declared.base.Nets.{Nets}
 use Rattle.net_cycles.specs.Bases.{AnySays, AreRows, CarryWires, GrowsOn, IsReady, IsWhole, Lowers, NextMade, RunSays, bounds_of, form_value, source_net}
-use Rattle.net_cycles.proofs.RowSteps.{base-stays, carry-before, front-wide, source-low, source-says}
+use Rattle.net_cycles.proofs.RowSteps.{base-stays, carry-before, source-low, source-says}
+use Rattle.net_gen.proofs.Exports.{length-start}
 
 -- the size of a formula, which falls from a formula to its parts
 abbrev pub weight : Formula → ℕ
@@ -71,7 +73,8 @@ module _ (n : Nets) where
           row_nets = record {
             nets = nets-stay old new k n.rows.now m r.row_nets.nets;
             says = λ t c i low.
-                grows-value old new k (front_at t) (net_at n.rows.now i).0 m (front-wide n.graph.now t ∙ sym r.base.first) (r.row_nets.nets i (record { 0 = 0 }) low)
+                grows-value old new k (front_at t) (net_at n.rows.now i).0 m (length-start n.graph.now t ∙ sym r.base.first)
+                (r.row_nets.nets i (record { 0 = 0 }) low)
                 ∙ r.row_nets.says t (carry-before n.graph.now n.base n.wires.now old new k t r.base r.wire_nets m c) i low;
           };
         };
@@ -83,12 +86,12 @@ module _ (n : Nets) where
   carry-after old new t h more c = record {
     off = c.off;
     says = λ v low.
-        grows-value old new more.count (front_at t) (net_at n.wires.now v).0 more.grows (front-wide n.graph.now t ∙ sym h.ready.base.first)
+        grows-value old new more.count (front_at t) (net_at n.wires.now v).0 more.grows (length-start n.graph.now t ∙ sym h.ready.base.first)
         (h.ready.wire_nets v (record { 0 = 0 }) low) ∙ c.says v low;
   }
 
   wide-at : (d : Growing) (t : Occasion n.graph.now) → IsWhole n d → length (front_at t) ≡ d.first
-  wide-at d t h = front-wide n.graph.now t ∙ sym h.ready.base.first
+  wide-at d t h = length-start n.graph.now t ∙ sym h.ready.base.first
 
   -- a net that there is
   pub lowers-here : (d : Growing) (f : Formula) (net : ℕ) → IsWhole n d → net < next_number d
@@ -110,7 +113,7 @@ module _ (n : Nets) where
   -- a net before the gates
   front-says : (d : Growing) (k : ℕ) (t : Occasion n.graph.now) → k < first_of n.graph.now
       → value_in (values_of d (front_at t)) k ≡ slice_index_or (front_at t) k false
-  front-says d k t low = let m = front-wide n.graph.now t in value_in-gate_values (front_at t) d.list.items k (omega arith)
+  front-says d k t low = let m = length-start n.graph.now t in value_in-gate_values (front_at t) d.list.items k (omega arith)
 
   pub lowers-boot : (d : Growing) (f : Formula) → IsWhole n d → ((t : Occasion n.graph.now) → t.boot ≡ form_value n.graph.now t f)
       → Lowers n d d f n.base.given
@@ -150,7 +153,8 @@ module _ (n : Nets) where
   late-fits : (d : Growing) → IsWhole n d → (s : Source) → IsTrue (source_fits (late_bounds n.graph.now (length n.words.now.rows.items)) s)
       → IsTrue (source_fits (bounds_of n.base (length n.wires.now) (length n.rows.now)) s)
   late-fits d h (sources.Const b) fits = refl
-  late-fits d h (sources.Leaf k) fits = let l = ltb-true k (length n.graph.now.next.items) fits in let e = h.ready.base.leaves in lt-ltb k n.base.leaves (omega arith)
+  late-fits d h (sources.Leaf k) fits = let l = ltb-true k (length n.graph.now.next.items) fits in let e = h.ready.base.leaves in lt-ltb k n.base.leaves
+      (omega arith)
   late-fits d h (sources.Input s) fits = let l = ltb-true s.0 _ fits in let e = h.ready.base.given in lt-ltb s.0 n.base.given (omega arith)
   late-fits d h (sources.Wire v) fits = let l = ltb-true v.0 _ fits in let e = h.wires in lt-ltb v.0 (length n.wires.now) (omega arith)
   late-fits d h (sources.Row r) fits = let l = ltb-true r _ fits in let e = h.rows in lt-ltb r (length n.rows.now) (omega arith)
@@ -299,7 +303,8 @@ module _ (n : Nets) where
   run-lowers old new f first count net r is = record { grew = r.grew; low = r.low; says = λ t c. r.says t c ∙ is t c }
 
   any-means : (R : plain.Formula → Bool) (V : WireId → Bool) (name : WireId → plain.Formula) (list : List WireId) → R (plain.Const false) ≡ false
-      → ((a b : plain.Formula) → R (plain.Disjunction a b) ≡ (R a || R b)) → ((v : WireId) → V v ≡ R (name v)) → list_any V list ≡ R (plain.any_of (map name list))
+      → ((a b : plain.Formula) → R (plain.Disjunction a b) ≡ (R a || R b)) → ((v : WireId) → V v ≡ R (name v)) → list_any V list
+      ≡ R (plain.any_of (map name list))
   any-means R V name [] none either same = sym none
   any-means R V name (v ∷ []) none either same = or-false (V v) ∙ same v
   any-means R V name (v ∷ (u ∷ list)) none either same =
@@ -331,7 +336,8 @@ module _ (n : Nets) where
   }
 
   pub next-more : (old now new : Growing) (nets : List NetId) (k : ℕ) (f : Formula) (net : NetId) → IsWhole n old → NextMade n old now nets k
-      → k < length n.graph.now.next.items → f ≡ slice_index_or n.graph.now.next.items k f → Lowers n now new f net.0 → NextMade n old new (nets ++ net ∷ []) (k + 1)
+      → k < length n.graph.now.next.items → f ≡ slice_index_or n.graph.now.next.items k f → Lowers n now new f net.0
+      → NextMade n old new (nets ++ net ∷ []) (k + 1)
   next-more old now new nets k f net h m low is l =
       let more = l.grew in
       let many = m.many in

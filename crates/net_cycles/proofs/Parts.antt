@@ -1,5 +1,6 @@
 -- The parts of a circuit, one after another.
-use Rattle.std.proofs.Common.{◌≡◌, ℕ, zero, suc, ◌+◌, ◌<◌, ◌≤◌, ◌^◌, Bool, true, false, ◌||◌, List, [], ◌∷◌, ◌++◌, length, map, take, slice_index_or, refl, sym, ap, ◌∙◌, subst, arith}
+use Rattle.std.proofs.Common.{◌≡◌, ℕ, zero, suc, ◌+◌, ◌<◌, ◌≤◌, ◌^◌, Bool, true, false, ◌||◌, List, [], ◌∷◌, ◌++◌, length, map, take, slice_index_or, refl, sym}
+use Rattle.std.proofs.Common.{ap, ◌∙◌, subst, arith}
 use Rattle.std.proofs.Common.{IsTrue, All, inl, inr}
 use Rattle.std.specs.List.{list_any}
 use Rattle.std.proofs.lemmas.Bool.{cases_Bool, cond-false, false≢true}
@@ -24,9 +25,11 @@ use Rattle.net_ir.specs.Gates.{value_in}
 use Rattle.net_cycles.specs.declared.base.Base.{Base}
 use Rattle.net_cycles.specs.declared.base.Nets.{Nets}
 use Rattle.grc_ternary_gates.specs.Systems.{gate_fits}
-use Rattle.net_cycles.specs.Bases.{numbered_nets, AreRows, CarryWires, GrowsOn, IsBase, IsReady, IsWhole, NextMade, RowsAdded, RowsFit, bounds_of, form_value, source_net, sources_of}
-use Rattle.net_cycles.proofs.RowSteps.{base-stays, carry-before, front-wide, source-low, source-says}
+use Rattle.net_cycles.specs.Bases.{numbered_nets, AreRows, CarryWires, GrowsOn, IsBase, IsReady, IsWhole, NextMade, RowsAdded, RowsFit, bounds_of, form_value}
+use Rattle.net_cycles.specs.Bases.{source_net, sources_of}
+use Rattle.net_cycles.proofs.RowSteps.{base-stays, carry-before, source-low, source-says}
 use Rattle.grc_ternary_gates.specs.declared.gates.System.{System}
+use Rattle.grc_ternary_run.proofs.Exports.{named-off}
 use Rattle.grc_ternary_run.specs.Instants.{AreSources, Instant, status_named}
 use Rattle.grc_ternary_run.specs.Systems.{IsSystemOf}
 use Rattle.net_unroll.specs.declared.growing.Growing.{Growing}
@@ -38,6 +41,7 @@ use Rattle.net_cycles.specs.Found.{FindsLeast, SchedulesFindLeast, SourceNetsAre
 use Rattle.net_cycles.specs.Drawings.{CanDraw, IsDrawn, IsWhollyKnown, SaysLeast, front_of, occasion_of}
 use Rattle.net_cycles.specs.declared.drawing.Drawn.{Drawn}
 use Rattle.net_cycles.proofs.Fitting.{append-nets, cons-nets, length-numbered, mapped-are, no-nets, numbered-are, row-more, source-more, values-stay}
+use Rattle.net_gen.proofs.Exports.{length-start}
 
 -- ---- before the first row
 
@@ -73,7 +77,8 @@ pub can-unroll : (g : Graph) (w : Words) (y : System) (b : Base) (schedule : Lis
 can-unroll g w y b schedule rs d can ready early = record {
   growing = ready.base.growing;
   fit = subst (λ n. All (λ x. IsTrue (gate_fits (length y.gates.items) n x)) y.gates.items) many y.fit;
-  source_nets = cons-nets d b.no (b.yes ∷ (record { 0 = b.given } ∷ others)) ready.base.no.low (cons-nets d b.yes (record { 0 = b.given } ∷ others) ready.base.yes.low
+  source_nets = cons-nets d b.no (b.yes ∷ (record { 0 = b.given } ∷ others)) ready.base.no.low
+      (cons-nets d b.yes (record { 0 = b.given } ∷ others) ready.base.yes.low
       (cons-nets d (record { 0 = b.given }) others
       (let e = ready.base.given in let f = ready.base.first in omega arith)
       (append-nets d (numbered_nets b.given) (map (source_net b [] rs) w.selected.items)
@@ -114,7 +119,7 @@ ready-copies g w y b schedule rs ss nodes copies old new ready u is few = record
   row_nets = record {
     nets = nets-stay old new (length schedule) rs u.grows ready.row_nets.nets;
     says = λ t c r low.
-        grows-value old new (length schedule) (start_of g t) (net_at rs r).0 u.grows (front-wide g t ∙ sym ready.base.first)
+        grows-value old new (length schedule) (start_of g t) (net_at rs r).0 u.grows (length-start g t ∙ sym ready.base.first)
         (ready.row_nets.nets r (record { 0 = 0 }) low)
         ∙ ready.row_nets.says t (record { off = c.off; says = λ v h. absurd (omega arith) }) r low;
   };
@@ -130,23 +135,16 @@ late-rows g w b d wires from words base few k row above low =
 
 -- ---- the whole
 
-named-off : (ws : List Wire) (V : ℕ → Status) (u : Wire) → list_any (same_wire u) ws ≡ false → status_named ws V u ≡ Minus
-named-off [] V u h = refl
-named-off (w ∷ ws) V u h = elim (cases_Bool (same_wire u w)) [
-  | inl here ↦ absurd (false≢true (sym h ∙ ap (λ b. b || list_any (same_wire u) ws) here))
-  | inr other ↦
-      cond-false (same_wire u w) (V 0) (status_named ws (λ n. V (suc n)) u) other
-      ∙ named-off ws (λ n. V (suc n)) u (sym (ap (λ b. b || list_any (same_wire u) ws) other) ∙ h)
-]
-
-map-same : (f h : Source → Bool) (ss : List Source) → ((k : ℕ) (d : Source) → k < length ss → f (slice_index_or ss k d) ≡ h (slice_index_or ss k d)) → map f ss ≡ map h ss
+map-same : (f h : Source → Bool) (ss : List Source) → ((k : ℕ) (d : Source) → k < length ss → f (slice_index_or ss k d) ≡ h (slice_index_or ss k d))
+    → map f ss ≡ map h ss
 map-same f h [] same = refl
 map-same f h (s ∷ ss) same =
     let here = same 0 s (omega arith) in
     let rest = map-same f h ss (λ k d low. same (suc k) d (omega arith)) in
     λ i. here i ∷ rest i
 
-module _ (find : SchedulesFindLeast) (given : SourceNetsAreSources) (g : Graph) (w : Words) (y : System) (b : Base) (schedule : List ℕ) (can : CanDraw g w y schedule)
+module _ (find : SchedulesFindLeast) (given : SourceNetsAreSources) (g : Graph) (w : Words) (y : System) (b : Base) (schedule : List ℕ)
+    (can : CanDraw g w y schedule)
     (d1 d2 d3 d4 : Growing) (rs1 ss nodes copies rs3 next : List NetId) (one : IsReady g w b [] rs1 d1) (early : w.early ≤ length rs1)
     (same : ss ≡ sources_of b w rs1) (u : IsUnrolled d1 d2 y.gates.items ss nodes schedule) (taken : copies ≡ take (length g.wires.items) nodes)
     (late : RowsAdded g w b d2 d3 copies rs3 (length w.rows.items)) (last : GrowsOn d3 d4)
@@ -210,7 +208,7 @@ module _ (find : SchedulesFindLeast) (given : SourceNetsAreSources) (g : Graph) 
       front = front_of g t
 
       wide : length front ≡ d1.first
-      wide = front-wide g (occasion_of g t (λ x. false)) ∙ sym one.base.first
+      wide = length-start g (occasion_of g t (λ x. false)) ∙ sym one.base.first
 
       S : List Bool
       S = values_at d4 ss front
@@ -244,7 +242,8 @@ module _ (find : SchedulesFindLeast) (given : SourceNetsAreSources) (g : Graph) 
             let c = copies-many in
             let m = wires-many in
             let each = u.made.each in
-            let place : net_at copies v ≡ net_at nodes v = ap (λ l. net_at l v) taken ∙ get_or-take (length g.wires.items) nodes v (record { 0 = 0 }) (omega arith) in
+            let place : net_at copies v ≡ net_at nodes v = ap (λ l. net_at l v) taken
+            ∙ get_or-take (length g.wires.items) nodes v (record { 0 = 0 }) (omega arith) in
             grows-value d2 d3 late.grew.count front (net_at copies v).0 late.grew.grows (wide ∙ sym u.grows.first)
             (subst (λ (n : NetId). n.0 < next_number d2) (sym place) (u.made.nets v (record { 0 = 0 }) (omega arith)))
             ∙ ap (λ (n : NetId). value_in (values_of d2 front) n.0) place

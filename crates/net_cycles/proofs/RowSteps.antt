@@ -1,5 +1,6 @@
 -- What nets of sources and rows say, and one more row.
-use Rattle.std.proofs.Common.{◌≡◌, ℕ, suc, ◌+◌, ◌-◌, ◌<◌, ◌≤◌, ◌^◌, Bool, true, false, not, ◌&&◌, ◌||◌, List, [], ◌∷◌, ◌++◌, length, refl, sym, ap, ◌∙◌, subst, arith}
+use Rattle.std.proofs.Common.{◌≡◌, ℕ, suc, ◌+◌, ◌-◌, ◌<◌, ◌≤◌, ◌^◌, Bool, true, false, not, ◌&&◌, ◌||◌, List, [], ◌∷◌, ◌++◌, length, refl, sym, ap, ◌∙◌, subst}
+use Rattle.std.proofs.Common.{arith}
 use Rattle.std.proofs.Common.{IsTrue, All, slice_index_or, ⊎_elim}
 use Rattle.std.proofs.lemmas.Bool.{and_parts, cases_lt, ltb-true}
 use Rattle.std.proofs.lemmas.List.{get_or-append-add, get_or_append_left, get_or_push, length-append, length_push}
@@ -23,6 +24,7 @@ use Rattle.net_unroll.specs.Copies.{AreNets, Grows, IsGrowing, IsNo, Pushed, net
 use Rattle.net_unroll.proofs.Exports.{grows-both, grows-none, grows-push, grows-value, nets-stay, pushed-new, pushed-number, pushed-old}
 use Rattle.net_cycles.specs.declared.base.Base.{Base}
 use Rattle.net_cycles.specs.Bases.{AreRows, CarryWires, GrowsOn, IsBase, IsReady, IsYes, RowsAdded, bounds_of, row_op, rows_in, source_net}
+use Rattle.net_gen.proofs.Exports.{length-start}
 
 -- ---- what stays while gates grow
 
@@ -44,19 +46,13 @@ base-stays g b old new k base more = record {
   silent = more.silent ∙ base.silent;
 }
 
--- the front of an occasion is as wide as there are nets before the gates
-pub front-wide : (g : Graph) (t : Occasion g) → length (start_of g t) ≡ first_of g
-front-wide g t =
-    let e = t.one_per_given in
-    let b = t.one_per_leaf in
-    omega (arith, length-append t.event (t.boot ∷ t.bits))
-
-pub carry-before : (g : Graph) (b : Base) (wires : List NetId) (old new : Growing) (k : ℕ) (t : Occasion g) → IsBase g b old → AreNets old wires → Grows old new k
+pub carry-before : (g : Graph) (b : Base) (wires : List NetId) (old new : Growing) (k : ℕ) (t : Occasion g) → IsBase g b old → AreNets old wires
+    → Grows old new k
     → CarryWires g wires new t → CarryWires g wires old t
 carry-before g b wires old new k t base nets more c = record {
   off = c.off;
   says = λ v low.
-      sym (grows-value old new k (start_of g t) (net_at wires v).0 more (front-wide g t ∙ sym base.first) (nets v (record { 0 = 0 }) low)) ∙ c.says v low;
+      sym (grows-value old new k (start_of g t) (net_at wires v).0 more (length-start g t ∙ sym base.first) (nets v (record { 0 = 0 }) low)) ∙ c.says v low;
 }
 
 -- ---- what sources and rows say
@@ -64,10 +60,10 @@ carry-before g b wires old new k t base nets more c = record {
 module _ (g : Graph) (w : Words) (b : Base) (wires rs : List NetId) (d : Growing) (base : IsBase g b d) (a : AreRows g w wires rs d) (t : Occasion g)
     (c : CarryWires g wires d t) where
   before : (n : ℕ) → n < first_of g → value_in (values_of d (start_of g t)) n ≡ slice_index_or (start_of g t) n false
-  before n low = let m = front-wide g t in value_in-gate_values (start_of g t) d.list.items n (omega arith)
+  before n low = let m = length-start g t in value_in-gate_values (start_of g t) d.list.items n (omega arith)
 
   wide : length (start_of g t) ≡ d.first
-  wide = front-wide g t ∙ sym base.first
+  wide = length-start g t ∙ sym base.first
 
   pub source-says : (s : Source) → IsTrue (source_fits (bounds_of b (length wires) (length rs)) s)
       → value_in (values_of d (start_of g t)) (source_net b wires rs s).0 ≡ source_value (surroundings g t) (rows_in g w t) s
@@ -164,7 +160,7 @@ module _ (g : Graph) (w : Words) (b : Base) (wires rs : List NetId) (d : Growing
         says = λ t c r low.
             let front = start_of g t in
             let old = carry-before g b wires d new 1 t ready.base ready.wire_nets more c in
-            let wide_d : length front ≡ d.first = front-wide g t ∙ sym ready.base.first in
+            let wide_d : length front ≡ d.first = length-start g t ∙ sym ready.base.first in
             ⊎_elim
             (λ (less : r < length rs).
             ap (λ (y : NetId). value_in (values_of new front) y.0) (get_or_append_left rs (net ∷ []) (record { 0 = 0 }) r less)
@@ -205,7 +201,8 @@ rows-more g w b old now new wires rs k row op net a few is fits made p number ro
     let many = a.many in
     let low : length rs < length w.rows.items = omega arith in
     let here : row ≡ slice_index_or w.rows.items (length rs) row = is ∙ ap (λ n. slice_index_or w.rows.items n row) (sym many) in
-    let fit : IsTrue (row_fits (bounds_of b (length wires) (length rs)) row) = subst (λ n. IsTrue (row_fits (bounds_of b (length wires) n) row)) (sym many) fits in
+    let fit : IsTrue (row_fits (bounds_of b (length wires) (length rs)) row) = subst (λ n. IsTrue (row_fits (bounds_of b (length wires) n) row)) (sym many)
+    fits in
     let s = row-step g w b wires rs now a.ready new row op net low here fit made p number room in
     record {
       ready = s.0;

@@ -1,5 +1,6 @@
 -- The nets of a system's sources have the values of the instant.
-use Rattle.std.proofs.Common.{◌≡◌, ℕ, zero, suc, ◌+◌, ◌-◌, ◌<◌, ◌≤◌, Bool, true, false, nat_lt, if◌then◌else◌, min, List, [], ◌∷◌, ◌++◌, length, map, slice_index_or}
+use Rattle.std.proofs.Common.{◌≡◌, ℕ, zero, suc, ◌+◌, ◌-◌, ◌<◌, ◌≤◌, Bool, true, false, nat_lt, if◌then◌else◌, min, List, [], ◌∷◌, ◌++◌, length, map}
+use Rattle.std.proofs.Common.{slice_index_or}
 use Rattle.std.proofs.Common.{refl, sym, ap, ◌∙◌, subst, arith, IsTrue}
 use Rattle.std.specs.List.{range_with_len}
 use Rattle.std.proofs.lemmas.Bool.{ltb-false, ltb-true, lt-ltb}
@@ -20,9 +21,11 @@ use Rattle.grc_formulas.specs.WordLaws.{early_bounds, selected_source}
 use Rattle.net_gen.specs.Senses.{first_of, start_of}
 use Rattle.net_ir.specs.Gates.{value_in}
 use Rattle.net_ir.proofs.Exports.{value_in-gate_values}
+use Rattle.grc_ternary_run.proofs.Exports.{behind}
+use Rattle.net_cycles.proofs.Fitting.{length-numbered}
 use Rattle.net_cycles.specs.declared.base.Base.{Base}
 use Rattle.net_cycles.specs.Bases.{CarryWires, IsReady, bounds_of, numbered_nets, source_net, sources_of}
-use Rattle.net_cycles.proofs.RowSteps.{front-wide, source-says}
+use Rattle.net_cycles.proofs.RowSteps.{source-says}
 use Rattle.grc_ternary_gates.specs.declared.gates.System.{System}
 use Rattle.grc_ternary_run.specs.Instants.{AreSources, Instant}
 use Rattle.grc_ternary_run.specs.Numbers.{input_number, selected_number}
@@ -30,20 +33,10 @@ use Rattle.grc_ternary_run.specs.Systems.{IsSystemOf}
 use Rattle.net_unroll.specs.declared.growing.Growing.{Growing}
 use Rattle.net_unroll.specs.Copies.{values_at, values_of}
 use Rattle.net_cycles.specs.Found.{SourceNetsAreSources}
-
--- what stands after the first three sources
-after : (a b c : Bool) (xs : List Bool) (k : ℕ) → slice_index_or (a ∷ (b ∷ (c ∷ xs))) (3 + k) false ≡ slice_index_or xs k false
-after a b c xs k = let e : 3 + k ≡ suc (suc (suc k)) = omega arith in ap (λ n. slice_index_or (a ∷ (b ∷ (c ∷ xs))) n false) e
-
-length-range : (n a : ℕ) → length (range_with_len a n) ≡ n
-length-range zero a = refl
-length-range (suc n) a = let r = length-range n (a + 1) in omega arith
+use Rattle.net_gen.proofs.Exports.{length-start}
 
 abbrev net_of : ℕ → NetId
 net_of n = record { 0 = n }
-
-length-numbered : (n : ℕ) → length (numbered_nets n) ≡ n
-length-numbered n = length-map (range_with_len 0 n) net_of ∙ length-range n 0
 
 module _ (g : Graph) (w : Words) (y : System) (is : IsSystemOf g w y) (b : Base) (rs : List NetId) (d : Growing) (t : Instant g) (ready : IsReady g w b [] rs d)
     (early : w.early ≤ length rs) where
@@ -79,7 +72,7 @@ module _ (g : Graph) (w : Words) (y : System) (is : IsSystemOf g w y) (b : Base)
 
   wide : length front ≡ d.first
   unfolding o
-  wide = front-wide g o ∙ sym ready.base.first
+  wide = length-start g o ∙ sym ready.base.first
 
   boot-value : V (net_of b.given) ≡ t.boot
   boot-value =
@@ -87,11 +80,11 @@ module _ (g : Graph) (w : Words) (y : System) (is : IsSystemOf g w y) (b : Base)
       before b.given (let e = given in omega (arith, length-append t.event (t.boot ∷ t.bits)))
       ∙ ap (λ k. slice_index_or front k false) place ∙ get_or-append-add t.event (t.boot ∷ t.bits) 0 false
 
-  -- the place after the first three
+  -- the place behind the first three
   third : (k : ℕ) (n : NetId) → k < length (N ++ R) → slice_index_or (N ++ R) k (net_of 0) ≡ n
       → slice_index_or (values_at d (sources_of b w rs) front) (3 + k) false ≡ V n
   third k n low at =
-      after (V b.no) (V b.yes) (V (net_of b.given)) (map V (N ++ R)) k
+      behind (V b.no) (V b.yes) (V (net_of b.given)) (map V (N ++ R)) k
       ∙ get_or-map V (N ++ R) k (net_of 0) false low ∙ ap V at
 
   many : length (N ++ R) ≡ b.given + length w.selected.items

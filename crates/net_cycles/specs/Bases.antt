@@ -1,5 +1,6 @@
--- Inner: nets for what a graph says besides the equations of its wires, over nets that carry the wires.
-use Rattle.std.specs.Prelude.{◌≡◌, ℕ, ◌+◌, ◌<◌, ◌≤◌, ◌^◌, Bool, true, false, if◌then◌else◌, List, [], ◌∷◌, ◌++◌, length, map}
+-- Inner: nets for what a graph says in addition to the equations of its wires, over nets that carry the wires.
+use Rattle.std.specs.Prelude.{◌≡◌, ℕ, ◌+◌, ◌<◌, ◌≤◌, ◌^◌, Bool, true, false, if◌then◌else◌, List, [], ◌∷◌, ◌++◌, length}
+use Rattle.std.specs.Prelude.{map}
 use Rattle.std.specs.Prelude.{slice_index_or, All, IsTrue}
 use Rattle.std.specs.List.{list_any, range_with_len}
 use Rattle.base_types.specs.declared.indices.NetId.{NetId}

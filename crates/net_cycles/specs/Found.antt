@@ -26,12 +26,13 @@ wires_along g y sources schedule =
     status_named (names_of g) (statuses_along y.gates.items sources nothing_known schedule)
 
 -- They are the least solution of the graph, each is known, and the truth values along the schedule are theirs.
-pub record FindsLeast (g : Graph) (y : System) (q : State) (event sources : List Bool) (schedule : List ℕ) : Type 0 where
-  pub least : IsLeast (plain_graph g) q event (wires_along g y sources schedule)
-  pub known : IsKnown (wires_along g y sources schedule)
-  pub truths : (v : ℕ) → v < length g.wires.items
-      → true_wires (wires_along g y sources schedule) (wire_at (names_of g) v)
-      ≡ truths_along y.gates.items sources all_false schedule v
+pub record FindsLeast (g : Graph) (y : System) (q : State) (event sources : List Bool) (schedule : List ℕ) : Type 0
+  where
+    pub least : IsLeast (plain_graph g) q event (wires_along g y sources schedule)
+    pub known : IsKnown (wires_along g y sources schedule)
+    pub truths : (v : ℕ) → v < length g.wires.items
+        → true_wires (wires_along g y sources schedule) (wire_at (names_of g) v)
+        ≡ truths_along y.gates.items sources all_false schedule v
 
 -- So it is where the schedule leaves no node of the graph's system unknown.
 abbrev pub SchedulesFindLeast : Type 0

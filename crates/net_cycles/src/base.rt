@@ -10,8 +10,8 @@ use net_ir::{Gate, Op};
 use net_unroll::Growing;
 use std::alloc::Global;
 
-/// How the nets before the gates are numbered: the inputs, the latch of the first instant, the leaves; and the nets that
-/// are never and always true.
+/// How the nets before the gates are numbered (the inputs, the latch of the first instant, the leaves), and the nets
+/// that are never and always true.
 #[derive(Clone, Copy)]
 pub struct Base {
     pub given: u32,

@@ -19,7 +19,8 @@ pub fn next_nets(
     nets: &Nets<'_>,
 ) -> Result<Vec<NetId>, GrowFault>
     requires whole { IsWhole nets.now gates.old }
-    ensures { IfOk result (λ made. NextMade nets.now gates.old gates.new made.items (length nets.now.graph.now.next.items)) }
+    ensures { IfOk result
+        (λ made. NextMade nets.now gates.old gates.new made.items (length nets.now.graph.now.next.items)) }
 {
     let mut made = Vec::new(alloc);
     for formula in nets.graph.next.as_slice() {

@@ -19,7 +19,7 @@ use est_kernel::KernelProgram;
 use grc_formulas::{Source, Words};
 use grc_graph::Graph;
 use grc_ternary_gates::System;
-use net_gen::{input_names, make_latches, signal_name};
+use net_gen::{copied_name, input_names, make_latches};
 use net_ir::{Gate, Latch, Net, NetOut};
 use net_simp::copied_names;
 use net_unroll::{GrowFault, raise_alarm};
@@ -108,7 +108,7 @@ fn outputs_of(
     let first = program.inputs as usize;
     let mut outs = Vec::new(alloc);
     for (place, source) in sources.iter().enumerate() {
-        let name = signal_name(alloc, program, first + place)?;
+        let name = copied_name(alloc, program, first + place)?;
         let net = source_net(drawn.base, &drawn.copies, &drawn.rows, *source);
         outs.push(NetOut { name, net })?;
     }
@@ -168,7 +168,15 @@ fn check_of(
         ..
     } = drawn;
     let watched = all_nodes(alloc, system.gates.len())?;
-    let alarm = raise_alarm(alloc, &mut gates, &system.gates, &sources, base.no, schedule, &watched)?;
+    let alarm = raise_alarm(
+        alloc,
+        &mut gates,
+        &system.gates,
+        &sources,
+        base.no,
+        schedule,
+        &watched,
+    )?;
     let check = check_around(alloc, net, gates.list, alarm)?;
     Ok(check)
 }

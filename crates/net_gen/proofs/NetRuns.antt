@@ -23,7 +23,7 @@ record Follows (g : Graph) (net : Netlist) (latches : List Bool) (items : List I
   shows : map (shown net) (values_from net latches items) ≡ map (λ V. shown_as (graphs.shown (plain_graph g) V)) Vs
   carries : EachInstant (Carries g net) (values_from net latches items) Vs
 
-leaves-false : (g : Graph) → All (λ b. b ≡ false) (map (λ (f : Formula). false) g.next.items)
+pub leaves-false : (g : Graph) → All (λ b. b ≡ false) (map (λ (f : Formula). false) g.next.items)
 leaves-false g = λ k b h.
     let many = length-map g.next.items (λ (f : Formula). false) in
     get_or-map (λ (f : Formula). false) g.next.items k (formulas.Const true) b (omega arith)
@@ -37,7 +37,7 @@ follows-event : (g : Graph) (net : Netlist) (t : Occasion g) (items : List Item)
     → Follows g net (t.boot ∷ t.bits) (Event t.event ∷ items) (t.valuation ∷ Vs)
 follows-event g net t items Vs r f = record { shows = λ i. r.shows i ∷ f.shows i; carries = (r.carries, f.carries) }
 
-next-many : (g : Graph) (fv : plain.Formula → Bool) → length (map fv (plain_graph g).next) ≡ length g.next.items
+pub next-many : (g : Graph) (fv : plain.Formula → Bool) → length (map fv (plain_graph g).next) ≡ length g.next.items
 next-many g fv = length-map (plain_graph g).next fv ∙ length-map g.next.items (formula_of (instances_of g) (names_of g))
 
 follows-from : (g : Graph) (net : Netlist) → HasInterfaceOf g net → FollowsInstants g net →

@@ -16,6 +16,6 @@ mod making;
 mod names;
 mod whole;
 
-pub use assembly::{make_latches, net_over};
+pub use assembly::make_latches;
 pub use generation::generate;
-pub use names::{input_names, signal_name};
+pub use names::{copied_name, input_names};

@@ -21,13 +21,13 @@ pub fn input_names(alloc: Global, program: &KernelProgram) -> Result<Vec<Text>, 
     let given = program.inputs as usize + program.both as usize;
     let mut names = Vec::new(alloc);
     for signal in 0..given {
-        names.push(signal_name(alloc, program, signal)?)?;
+        names.push(copied_name(alloc, program, signal)?)?;
     }
     Ok(names)
 }
 
 /// The name of a signal, in memory of its own. The error is out of memory.
-pub fn signal_name(alloc: Global, program: &KernelProgram, signal: usize) -> Result<Text, NoMemory>
+pub fn copied_name(alloc: Global, program: &KernelProgram, signal: usize) -> Result<Text, NoMemory>
     requires { signal < length program.now.signals.items }
     ensures { IfOk result (λ name. slice_get (program_of program.now).signals signal ≡ Some name) }
 {
@@ -53,7 +53,7 @@ pub(crate) fn outputs_of(
     let first = program.inputs as usize;
     let mut outs = Vec::new(alloc);
     for (place, source) in sources.iter().enumerate() {
-        let name = signal_name(alloc, program, first + place)?;
+        let name = copied_name(alloc, program, first + place)?;
         let net = circuit.source(*source);
         outs.push(NetOut { name, net })?;
     }

@@ -1,5 +1,6 @@
 -- One more pair of rails of a node, and one more watched node.
-use Rattle.std.proofs.Common.{◌≡◌, ◌≢◌, ℕ, suc, ◌+◌, ◌*◌, ◌<◌, ◌≤◌, ◌^◌, Bool, true, false, not, ◌&&◌, ◌||◌, ◌==◌, if◌then◌else◌, nat_lt, List, [], ◌∷◌, ◌++◌, length, refl, sym, ap, ◌∙◌, subst, arith}
+use Rattle.std.proofs.Common.{◌≡◌, ◌≢◌, ℕ, suc, ◌+◌, ◌*◌, ◌<◌, ◌≤◌, ◌^◌, Bool, true, false, not, ◌&&◌, ◌||◌, ◌==◌, if◌then◌else◌, nat_lt, List, [], ◌∷◌, ◌++◌}
+use Rattle.std.proofs.Common.{length, refl, sym, ap, ◌∙◌, subst, arith}
 use Rattle.std.proofs.Common.{IsTrue, ⊎_elim, slice_index_or, slice_set, replicate, All}
 use Rattle.std.specs.List.{list_all}
 use Rattle.std.proofs.Math.Bool.{and-true}
@@ -185,7 +186,8 @@ module _ (old : Growing) (system : List Gate) (sources : List NetId) (no : NetId
       → IsUnrolledTwice old now system sources r done → node < length system
       → where_true ≡ sure_op sources r (gate_at system node) → where_false ≡ excluded_op sources r (gate_at system node)
       → Pushed now mid where_true → sure.0 ≡ next_number now → Pushed mid new where_false → excluded.0 ≡ next_number mid
-      → next_number now + 2 ≤ 2 ^ 32 → (t : Rails) → t.sure.items ≡ slice_set r.sure.items node sure → t.excluded.items ≡ slice_set r.excluded.items node excluded
+      → next_number now + 2 ≤ 2 ^ 32 → (t : Rails) → t.sure.items ≡ slice_set r.sure.items node sure → t.excluded.items
+      ≡ slice_set r.excluded.items node excluded
       → IsUnrolledTwice old new system sources t (done ++ node ∷ [])
   rails-step now mid new r done node sure excluded where_true where_false u low is_t is_f p number_t q number_f room t at_t at_f = record {
     grows = subst (Grows old new) count grown;
@@ -193,7 +195,8 @@ module _ (old : Growing) (system : List Gate) (sources : List NetId) (no : NetId
       sure_each = ap length at_t ∙ length-set r.sure.items node sure ∙ u.rails.sure_each;
       excluded_each = ap length at_f ∙ length-set r.excluded.items node excluded ∙ u.rails.excluded_each;
       sure_nets = subst (AreNets new) (sym at_t) (set-nets new r.sure.items node sure new_sure low_t (let m = to_mid in let e = to_new in omega arith));
-      excluded_nets = subst (AreNets new) (sym at_f) (set-nets new r.excluded.items node excluded new_excluded low_f (let m = to_mid in let e = to_new in omega arith));
+      excluded_nets = subst (AreNets new) (sym at_f)
+          (set-nets new r.excluded.items node excluded new_excluded low_f (let m = to_mid in let e = to_new in omega arith));
       sure = λ front wide n h.
           let S = values_at old sources front in
           let V = statuses_along system S nothing_known done in
@@ -363,7 +366,8 @@ watch-step old now mid new r watched done node so_far told next can w low_t low_
 -- rails of statuses tell which nodes are known
 told-all : (values : List Bool) (r : Rails) (V : ℕ → Status) (watched : List ℕ)
     → ((k : ℕ) (d : ℕ) → k < length watched → value_in values (net_at r.sure.items (slice_index_or watched k d)).0 ≡ is_true (V (slice_index_or watched k d)))
-    → ((k : ℕ) (d : ℕ) → k < length watched → value_in values (net_at r.excluded.items (slice_index_or watched k d)).0 ≡ is_false (V (slice_index_or watched k d)))
+    → ((k : ℕ) (d : ℕ) → k < length watched → value_in values (net_at r.excluded.items (slice_index_or watched k d)).0
+    ≡ is_false (V (slice_index_or watched k d)))
     → told_by values r watched ≡ are_known V watched
 told-all values r V [] t f = refl
 told-all values r V (n ∷ ns) t f =

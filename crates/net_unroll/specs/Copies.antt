@@ -74,7 +74,8 @@ pub record CanUnroll (old : Growing) (system : List systems.Gate) (sources : Lis
   pub nodes : IsSchedule system schedule
 
 -- The copies of the nodes have the truth values along the schedule, from all false.
-pub record AreCopies (old new : Growing) (system : List systems.Gate) (sources copies : List NetId) (schedule : List ℕ) :
+pub record AreCopies (old new : Growing) (system : List systems.Gate) (sources copies : List NetId)
+    (schedule : List ℕ) :
     Type 0 where
   pub each : length copies ≡ length system
   pub nets : AreNets new copies
@@ -82,7 +83,8 @@ pub record AreCopies (old new : Growing) (system : List systems.Gate) (sources c
       → value_in (values_of new front) (net_at copies n).0
       ≡ truths_along system (values_at old sources front) all_false schedule n
 
-pub record IsUnrolled (old new : Growing) (system : List systems.Gate) (sources copies : List NetId) (schedule : List ℕ) :
+pub record IsUnrolled (old new : Growing) (system : List systems.Gate) (sources copies : List NetId)
+    (schedule : List ℕ) :
     Type 0 where
   pub grows : Grows old new (length schedule)
   pub made : AreCopies old new system sources copies schedule

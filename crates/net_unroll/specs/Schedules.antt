@@ -1,5 +1,5 @@
--- Contract: the values of a system's nodes along a schedule. A schedule is a list of nodes. Each in turn takes the value
--- of its gate, and a node may stand in the list more than once.
+-- Contract: the values of a system's nodes along a schedule. A schedule is a list of nodes. Each in turn takes the
+-- value of its gate, and a node may occur in the list more than once.
 use Rattle.std.specs.Prelude.{ℕ, Bool, true, false, not, ◌&&◌, ◌||◌, ◌==◌, if◌then◌else◌, List, [], ◌∷◌, slice_index_or}
 use Rattle.std.specs.List.{list_all}
 use Rattle.est_kernel.specs.Statuses.{Status, Plus, Minus, Unknown, with_status}

@@ -6,13 +6,15 @@ ghost use Rattle.net_unroll.specs.Copies.{Pushed, next_number};
 use base_types::{NetId, NoMemory};
 use net_ir::{Gate, Op};
 use std::alloc::{AllocError, AllocFailed};
+use thiserror::Error;
 
-/// Why gates cannot grow.
-#[derive(Debug, Drop)]
+/// Why no gate can be added.
+#[derive(Debug, Drop, Error)]
 pub enum GrowFault {
-    /// There would be more nets than numbers of nets.
+    /// There would be more than 2^32 nets.
+    #[error("too many nets")]
     TooManyNets,
-    /// Want of memory.
+    #[error("out of memory")]
     NoMemory,
 }
 
@@ -34,7 +36,7 @@ impl From<NoMemory> for GrowFault {
     }
 }
 
-/// Gates under way, and how many nets stand before them.
+/// Gates under way, and how many nets come before them.
 #[derive(Drop)]
 pub struct Growing {
     pub first: u32,

@@ -1,7 +1,7 @@
 use Rattle.std.proofs.Common.{◌≡◌, ◌+◌, [], ◌∷◌, ap, arith, length, refl, ◌∙◌}
 use Rattle.est_kernel.specs.declared.programs.KernelProgram.{KernelProgram}
 use Rattle.net_cycles.proofs.Beginnings.{begun}
-use Rattle.net_cycles.proofs.FirstNumbers.{numbers_are_few}
+use Rattle.net_gen.proofs.Exports.{numbers_are_few}
 use Rattle.net_cycles.proofs.base.begin.Goals as goal
 
 pub overflow_cast-leaves : goal.overflow_cast-leaves

@@ -68,7 +68,8 @@ add_rows-requires-2-clause-fits c =
     let many : length c.as_slice-6.result.now ≡ length g.wires.items = ap length (c.as_slice-6.ensures.value ∙ taken)
     ∙ length-take-le (length g.wires.items) nodes few in
     λ k row above low.
-    late-rows g w b c.add_rows.new.gates (length c.as_slice-6.result.now) (length c.add_rows.new.rows.items) c.requires.words c.in_ok-add_rows.ensures.ready.base
+    late-rows g w b c.add_rows.new.gates (length c.as_slice-6.result.now) (length c.add_rows.new.rows.items) c.requires.words
+    c.in_ok-add_rows.ensures.ready.base
     (omega arith) k row above (omega (arith, low, c.len-all.ensures, w.rows.ok.0))
 
 pub returns : goal.returns
@@ -110,7 +111,8 @@ returns c =
       many = made.many;
       low = made.low;
       fits = late-fit find given g w y b s c.requires one two three four rs ss nodes copies last_rows next ready early same u taken late made.grew following;
-      reads = drawn-reads find given g w y b s c.requires one two three four rs ss nodes copies last_rows next ready early same u taken late made.grew following;
+      reads = drawn-reads find given g w y b s c.requires one two three four rs ss nodes copies last_rows next ready early same u taken late made.grew
+          following;
       can = drawn-can find given g w y b s c.requires one two three four rs ss nodes copies last_rows next ready early same u taken late made.grew following;
       says = drawn-says find given g w y b s c.requires one two three four rs ss nodes copies last_rows next ready early same u taken late made.grew following;
     }

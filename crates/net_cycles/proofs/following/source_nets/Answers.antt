@@ -49,4 +49,5 @@ returns c =
     let e = c.as_slice-source-items.ensures.value in
     let many = ap length e in
     let whole : length c.args.words.now.selected.items ≤ c.loop-source.source-index = omega arith in
-    c.loop-source.invariant.made ∙ ap (λ l. from_boot b (numbered_nets b.given ++ map F l)) (take_all c.loop-source.source-index c.args.words.now.selected.items whole)
+    c.loop-source.invariant.made
+    ∙ ap (λ l. from_boot b (numbered_nets b.given ++ map F l)) (take_all c.loop-source.source-index c.args.words.now.selected.items whole)

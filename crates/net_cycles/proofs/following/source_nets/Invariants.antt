@@ -8,5 +8,7 @@ invariant-loop-signal l = record { made : l.nets.items ≡ l.base.no ∷ (l.base
 abbrev pub invariant-loop-source : goal.invariant-loop-source
 invariant-loop-source l = record {
   made : l.nets.items
-      ≡ l.base.no ∷ (l.base.yes ∷ (record { 0 = l.base.given } ∷ (numbered_nets l.base.given ++ map (source_net l.base [] l.rows) (take l.source-index l.words.selected.items))));
+      ≡ l.base.no ∷
+      (l.base.yes ∷
+      (record { 0 = l.base.given } ∷ (numbered_nets l.base.given ++ map (source_net l.base [] l.rows) (take l.source-index l.words.selected.items))));
 }

@@ -7,7 +7,8 @@ use Rattle.grc_graph.specs.Walk.{is_initial}
 use Rattle.grc_formulas.specs.Occasions.{state_of}
 use Rattle.grc_formulas.specs.WordLaws.{ends_upto, first_end, selected_source}
 use Rattle.net_cycles.specs.Bases.{AnySays, Lowers, form_value, source_net}
-use Rattle.net_cycles.proofs.Lowering.{any-lowers, run-lowers, lowers-and, lowers-boot, lowers-here, lowers-input, lowers-no, lowers-not, lowers-or, lowers-silent, lowers-source}
+use Rattle.net_cycles.proofs.Lowering.{any-lowers, run-lowers, lowers-and, lowers-boot, lowers-here, lowers-input, lowers-no, lowers-not, lowers-or}
+use Rattle.net_cycles.proofs.Lowering.{lowers-silent, lowers-source}
 use Rattle.net_cycles.proofs.Lowering.{lowers-wire, lowers-yes, selected-fits, weight, whole-stays}
 use Rattle.net_cycles.proofs.formulas.+lower.Goals as goal
 
@@ -81,7 +82,8 @@ pub returns-in-Selected : goal.returns-in-Selected
 returns-in-Selected t c =
     let n = c.args.nets.now in
     let p = c.in-Selected.path.0 in
-    let made = lowers-source n c.args.gates.now c.args.formula.now (selected_source n.words.now p) c.requires.whole (selected-fits n c.args.gates.now p c.requires.whole)
+    let made = lowers-source n c.args.gates.now c.args.formula.now (selected_source n.words.now p) c.requires.whole
+    (selected-fits n c.args.gates.now p c.requires.whole)
     (λ o k. c.requires.whole.ready.words.selected o p k.off ∙ ap (form_value n.graph.now o) (sym c.in-Selected.is)) in
     subst (λ (x : NetId). Lowers n c.args.gates.now c.args.gates.now c.args.formula.now x.0)
     (sym (c.source_net.ensures ∙ ap (source_net n.base n.wires.now n.rows.now) c.selected_source-source.ensures)) made
@@ -117,7 +119,8 @@ returns-in-Held t c =
 pub returns-in_ok-inverse-in-Not : goal.returns-in_ok-inverse-in-Not
 returns-in_ok-inverse-in-Not t c =
     let n = c.args.nets.now in
-    lowers-not n c.args.gates.now c.lower.new.gates c.push.new.self c.deref.result.now c.args.formula.now c.in_ok-net-in-Not.net c.in_ok-inverse-in-Not.inverse.0
+    lowers-not n c.args.gates.now c.lower.new.gates c.push.new.self c.deref.result.now c.args.formula.now c.in_ok-net-in-Not.net
+    c.in_ok-inverse-in-Not.inverse.0
     c.requires.whole c.in_ok-net-in-Not.ensures c.in_ok-inverse-in-Not.ensures.pushed c.in_ok-inverse-in-Not.ensures.number c.in_ok-inverse-in-Not.ensures.room
     (λ o. ap (λ x. not (form_value n.graph.now o x)) c.deref.ensures ∙ ap (form_value n.graph.now o) (sym c.in-Not.is))
 
@@ -126,7 +129,8 @@ returns-in_ok-both-in-And t c =
     let n = c.args.nets.now in
     lowers-and n c.args.gates.now c.lower-in-And.new.gates c.lower-in-And-2.new.gates c.push-in-And.new.self c.deref-in-And.result.now
     c.deref-in-And-2.result.now c.args.formula.now c.in_ok-first-in-And.first c.in_ok-second-in-And.second c.in_ok-both-in-And.both.0 c.requires.whole
-    c.in_ok-first-in-And.ensures c.in_ok-second-in-And.ensures c.in_ok-both-in-And.ensures.pushed c.in_ok-both-in-And.ensures.number c.in_ok-both-in-And.ensures.room
+    c.in_ok-first-in-And.ensures c.in_ok-second-in-And.ensures c.in_ok-both-in-And.ensures.pushed c.in_ok-both-in-And.ensures.number
+    c.in_ok-both-in-And.ensures.room
     (λ o. (λ i. form_value n.graph.now o (c.deref-in-And.ensures i) && form_value n.graph.now o (c.deref-in-And-2.ensures i))
     ∙ ap (form_value n.graph.now o) (sym c.in-And.is))
 
@@ -135,7 +139,8 @@ returns-in_ok-either-in-Or t c =
     let n = c.args.nets.now in
     lowers-or n c.args.gates.now c.lower-in-Or.new.gates c.lower-in-Or-2.new.gates c.push-in-Or.new.self c.deref-in-Or.result.now
     c.deref-in-Or-2.result.now c.args.formula.now c.in_ok-first-in-Or.first c.in_ok-second-in-Or.second c.in_ok-either-in-Or.either.0 c.requires.whole
-    c.in_ok-first-in-Or.ensures c.in_ok-second-in-Or.ensures c.in_ok-either-in-Or.ensures.pushed c.in_ok-either-in-Or.ensures.number c.in_ok-either-in-Or.ensures.room
+    c.in_ok-first-in-Or.ensures c.in_ok-second-in-Or.ensures c.in_ok-either-in-Or.ensures.pushed c.in_ok-either-in-Or.ensures.number
+    c.in_ok-either-in-Or.ensures.room
     (λ o. (λ i. form_value n.graph.now o (c.deref-in-Or.ensures i) || form_value n.graph.now o (c.deref-in-Or-2.ensures i))
     ∙ ap (form_value n.graph.now o) (sym c.in-Or.is))
 

@@ -15,7 +15,9 @@ loop-wire-preserved c =
     let zero_wire : WireId = record { 0 = 0 } in
     let v = slice_index_or c.args.list.now k zero_wire in
     let made = any-more c.args.nets.now c.args.gates.now c.loop-wire.gates c.push.new.self (take k c.args.list.now) v c.loop-wire.net c.in_ok-net.net.0
-    c.requires.whole c.loop-wire.invariant.made (c.requires.fits k zero_wire low) c.in_ok-net.ensures.pushed c.in_ok-net.ensures.number c.in_ok-net.ensures.room in
+    c.requires.whole c.loop-wire.invariant.made (c.requires.fits k zero_wire low) c.in_ok-net.ensures.pushed c.in_ok-net.ensures.number
+    c.in_ok-net.ensures.room in
     record {
-      made = subst (λ done. AnySays c.args.nets.now c.args.gates.now c.push.new.self done c.in_ok-net.net.0) (sym (take_more c.args.list.now k zero_wire low)) made;
+      made = subst (λ done. AnySays c.args.nets.now c.args.gates.now c.push.new.self done c.in_ok-net.net.0) (sym (take_more c.args.list.now k zero_wire low))
+          made;
     }

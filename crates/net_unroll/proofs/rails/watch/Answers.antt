@@ -28,7 +28,8 @@ loop-node-preserved c =
     let made = watch-step c.args.gates.now c.loop-node.gates c.push-in-loop-node.new.self c.push-in-loop-node-2.new.self r c.args.watched.now
     (take k c.args.watched.now) node c.loop-node.whole c.in_ok-known.known c.in_ok-whole-2.whole c.requires.can c.loop-node.invariant.made low_t low_f p
     c.in_ok-known.ensures.number c.in_ok-whole-2.ensures.pushed c.in_ok-whole-2.ensures.number
-    (let a = c.in_ok-whole-2.ensures.room in let e = pushed-number c.loop-node.gates c.push-in-loop-node.new.self _ c.in_ok-known.ensures.pushed in omega arith) in
+    (let a = c.in_ok-whole-2.ensures.room in let e = pushed-number c.loop-node.gates c.push-in-loop-node.new.self _ c.in_ok-known.ensures.pushed in omega
+    arith) in
     record {
       made = subst (λ done. Watches c.args.gates.now c.push-in-loop-node-2.new.self r done c.in_ok-whole-2.whole.0)
           (sym (take_more c.args.watched.now k 0 low)) made;
