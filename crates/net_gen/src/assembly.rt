@@ -20,7 +20,12 @@ use net_ir::{Latch, Net};
 use std::alloc::Global;
 
 /// The netlist of a graph, over the table of its words. Its only error is out of memory.
-pub(crate) fn net_over(alloc: Global, graph: &Graph, words: &Words, order: &Order) -> Result<Net, NoMemory>
+pub(crate) fn net_over(
+    alloc: Global,
+    graph: &Graph,
+    words: &Words,
+    order: &Order,
+) -> Result<Net, NoMemory>
     requires words { AreWordsOf graph.now words.now }
     requires order { IsReadingOrder (names_of graph.now)
         (map (formula_of (instances_of graph.now) (names_of graph.now)) graph.now.equations.items)
