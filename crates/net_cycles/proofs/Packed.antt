@@ -1,5 +1,5 @@
 -- A netlist around a drawn circuit, and its check, are nets.
-use Rattle.std.proofs.Common.{◌≡◌, ℕ, zero, suc, ◌+◌, ◌<◌, ◌≤◌, ◌^◌, true, List, [], ◌∷◌, length, map, take, drop, slice_index_or, refl, sym, ap, ◌∙◌, subst}
+use Rattle.std.proofs.Common.{◌≡◌, ℕ, zero, suc, ◌+◌, ◌<◌, ◌≤◌, ◌^◌, true, List, [], ◌∷◌, ◌++◌, length, map, take, drop, slice_index_or, refl, sym, ap, ◌∙◌, subst}
 use Rattle.std.proofs.Common.{arith, IsTrue, All, nat_eq}
 use Rattle.std.specs.List.{range_with_len}
 use Rattle.std.proofs.lemmas.Bool.{and_parts}
@@ -145,12 +145,25 @@ all-known V first (suc count) known (suc n) low =
     ∙ all-known V (first + 1) count (and_parts (is_known (V first)) (are_known V (range_with_len (first + 1) count)) known).1 n (omega arith)
 
 pub watches-all : (nodes : ℕ) → WatchesAll nodes (range_with_len 0 nodes)
-watches-all nodes V known n low = all-known V 0 nodes known n low
+watches-all nodes V known n low =
+    ap (λ m. is_known (V m)) (let e : n ≡ 0 + n = omega arith in e) ∙ all-known V 0 nodes known n low
 
 pub nodes-all : (nodes : ℕ) → All (λ n. n < nodes) (range_with_len 0 nodes)
 nodes-all nodes k d low =
     let few : k < nodes = omega (arith, low, length-range_with_len 0 nodes) in
-    subst (λ n. n < nodes) (sym (get_or-range_with_len 0 nodes k d few)) few
+    let there : 0 + k < nodes = omega (arith, few) in
+    subst (λ n. n < nodes) (sym (get_or-range_with_len 0 nodes k d few)) there
+
+range-more : (first n : ℕ) → range_with_len first (suc n) ≡ range_with_len first n ++ (first + n) ∷ []
+range-more first zero = ap (λ m. m ∷ []) (let e : first ≡ first + zero = omega arith in e)
+range-more first (suc n) =
+    ap (λ l. first ∷ l) (range-more (first + 1) n
+    ∙ ap (λ m. range_with_len (first + 1) n ++ m ∷ []) (let e : first + 1 + n ≡ first + suc n = omega arith in e))
+
+pub nodes-more : (n m : ℕ) → m ≡ n + 1 → range_with_len 0 m ≡ range_with_len 0 n ++ n ∷ []
+nodes-more n m is =
+    ap (range_with_len 0) (let e : m ≡ suc n = omega (arith, is) in e) ∙ range-more 0 n
+    ∙ ap (λ k. range_with_len 0 n ++ k ∷ []) (let e : 0 + n ≡ n = omega arith in e)
 
 -- ---- the check of a netlist around a drawn circuit
 

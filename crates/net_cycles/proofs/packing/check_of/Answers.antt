@@ -21,7 +21,8 @@ raise_alarm-requires-clause-can c =
 pub raise_alarm-requires-clause-watched : goal.raise_alarm-requires-clause-watched
 raise_alarm-requires-clause-watched c =
     let y = c.args.system.now in
-    let watched = c.deref-3.ensures.value ∙ c.in_ok-watched.ensures ∙ ap (range_with_len 0) c.len.ensures in
+    let many : c.len.result ≡ length y.gates.items = omega (arith, c.len.ensures, y.gates.ok.0) in
+    let watched = c.deref-3.ensures.value ∙ c.in_ok-watched.ensures ∙ ap (range_with_len 0) many in
     subst (λ xs. IsSchedule xs c.deref-3.result.now) (sym c.deref.ensures.value)
     (subst (IsSchedule y.gates.items) (sym watched) (nodes-all (length y.gates.items)))
 
@@ -40,7 +41,8 @@ check_around-requires c =
 pub returns : goal.returns
 returns c =
     let y = c.args.system.now in
-    let watched = c.deref-3.ensures.value ∙ c.in_ok-watched.ensures ∙ ap (range_with_len 0) c.len.ensures in
+    let many : c.len.result ≡ length y.gates.items = omega (arith, c.len.ensures, y.gates.ok.0) in
+    let watched = c.deref-3.ensures.value ∙ c.in_ok-watched.ensures ∙ ap (range_with_len 0) many in
     record {
       after = c.raise_alarm.new.gates;
       watched = c.deref-3.result.now;

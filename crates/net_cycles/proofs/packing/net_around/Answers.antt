@@ -1,4 +1,4 @@
-use Rattle.std.proofs.Common.{◌≡◌, ◌+◌, ◌<◌, ◌≤◌, ◌∷◌, ◌^◌, List, length, map, refl, sym, ap, ◌∙◌, subst, arith, All, IsTrue}
+use Rattle.std.proofs.Common.{◌≡◌, ◌+◌, ◌<◌, ◌≤◌, ◌∷◌, ◌^◌, List, length, map, refl, sym, ap, ◌∙◌, subst, arith, All, IsTrue, slice_index_or}
 use Rattle.std.proofs.lemmas.List.{length-map}
 use Rattle.base_types.specs.declared.interface.SignalInfo.{SignalInfo}
 use Rattle.base_types.specs.declared.indices.NetId.{NetId}
@@ -6,6 +6,7 @@ use Rattle.est_kernel.specs.declared.programs.KernelProgram.{KernelProgram}
 use Rattle.est_kernel.specs.Plain.{program_of, interface_count, given_names, outgoing_count, outgoing_names}
 use Rattle.grc_formulas.specs.declared.table.Source.{Source}
 use Rattle.grc_formulas.specs.Rows.{source_fits}
+use Rattle.grc_formulas.specs.WordLaws.{late_bounds}
 use Rattle.net_ir.specs.Netlists.{Netlist}
 use Rattle.net_gen.specs.Assembled.{boot_latch, leaf_latch}
 use Rattle.net_cycles.specs.Bases.{bounds_of, source_net}
@@ -73,9 +74,11 @@ returns c =
 
 pub outputs_of-requires-clause-fit : goal.outputs_of-requires-clause-fit
 outputs_of-requires-clause-fit c =
-    let d = c.args.drawn.now in
-    λ k s low.
-    c.requires.drawn.fits _ (subst (All (λ (s : Source). IsTrue (source_fits _ s))) (sym c.deref.ensures.value) c.requires.words.fit.outputs k s low)
+    let g = c.args.graph.now in
+    let w = c.args.words.now in
+    let all = subst (All (λ (s : Source). IsTrue (source_fits (late_bounds g (length w.rows.items)) s))) (sym c.deref.ensures.value)
+    c.requires.words.fit.outputs in
+    λ k s low. c.requires.drawn.fits (slice_index_or c.deref.result.now k s) (all k s low)
 
 pub source_net-paused-requires-clause-fits : goal.source_net-paused-requires-clause-fits
 source_net-paused-requires-clause-fits c =
