@@ -1,17 +1,13 @@
 -- Gates that begin with the constants.
-use Rattle.std.proofs.Common.{◌≡◌, ℕ, zero, suc, ◌+◌, ◌<◌, ◌≤◌, ◌^◌, Bool, true, false, List, [], ◌∷◌, ◌++◌, length, None, refl, sym, ap, ◌∙◌, subst, arith}
-use Rattle.std.proofs.Common.{slice_index_or}
+use Rattle.std.proofs.Common.{◌≡◌, ℕ, zero, suc, ◌+◌, ◌<◌, ◌^◌, Bool, true, false, [], ◌∷◌, ◌++◌, length, None, sym, ap, ◌∙◌, subst, arith}
 use Rattle.std.proofs.lemmas.List.{get_or_push, length_push, get_or_append_left}
-use Rattle.base_types.specs.declared.indices.NetId.{NetId}
 use Rattle.est_kernel.specs.Plain.{program_of, given_count}
 use Rattle.grc_graph.specs.declared.graph.Graph.{Graph}
 use Rattle.net_gen.specs.Senses.{first_of}
 use Rattle.net_ir.specs.declared.netlist.Gate.{Gate}
-use Rattle.net_ir.specs.declared.netlist.Op.{Op}
 use Rattle.net_ir.specs.declared.netlist.Op.TheVariants as ops
-use Rattle.net_ir.specs.Gates.{ReadsLower, carried, gate_values, operand_end, value_in}
+use Rattle.net_ir.specs.Gates.{ReadsLower, carried, gate_values, value_in}
 use Rattle.net_unroll.specs.declared.growing.Growing.{Growing}
-use Rattle.net_unroll.specs.Copies.{values_of}
 use Rattle.net_cycles.specs.declared.base.Base.{Base}
 use Rattle.net_cycles.specs.Bases.{IsBase}
 

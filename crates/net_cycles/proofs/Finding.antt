@@ -1,23 +1,19 @@
 -- The least solution of a graph's system is that of the graph.
-use Rattle.std.proofs.Common.{◌≡◌, ℕ, zero, suc, ◌+◌, ◌<◌, Bool, true, false, List, [], ◌∷◌, length, refl, sym, ap, ◌∙◌, subst, arith, inl, inr}
+use Rattle.std.proofs.Common.{◌≡◌, ℕ, suc, ◌<◌, Bool, false, List, [], ◌∷◌, length, refl, ap, ◌∙◌, subst, arith, inl, inr}
 use Rattle.std.proofs.lemmas.Bool.{cases_Bool, cond-false, cond-true}
 use Rattle.std.proofs.lemmas.List.{length-append}
-use Rattle.est_kernel.specs.Statuses.{Status, Minus, known}
-use Rattle.grc_graph.specs.declared.graph.Graph.{Graph}
-use Rattle.grc_graph.specs.PlainGraphs.{names_of, plain_graph, wire_at}
-use Rattle.grc_graph.specs.Walk.{State}
+use Rattle.est_kernel.specs.Statuses.{Status, known}
+use Rattle.grc_graph.specs.PlainGraphs.{names_of}
 use Rattle.grc_graph.specs.Wires.{Wire, same_wire}
 use Rattle.grc_graph.proofs.Exports.{length-names}
 use Rattle.grc_ternary.proofs.Exports.{plus_known}
 use Rattle.grc_ternary.specs.LeastSolutions.{is_plus}
-use Rattle.grc_formulas.specs.declared.table.Words.{Words}
-use Rattle.grc_ternary_gates.specs.declared.gates.System.{System}
 use Rattle.grc_ternary_gates.specs.Systems.{IsLeastSolution}
 use Rattle.grc_ternary_gates.proofs.Exports.{least-of-wires}
-use Rattle.grc_ternary_run.specs.Instants.{Instant, status_named}
+use Rattle.grc_ternary_run.specs.Instants.{status_named}
 use Rattle.grc_ternary_run.specs.Meanings.{meaning_in}
 use Rattle.grc_ternary_run.specs.Numbers.{shape}
-use Rattle.grc_ternary_run.specs.Systems.{IsSystemOf, equation_at}
+use Rattle.grc_ternary_run.specs.Systems.{equation_at}
 use Rattle.grc_ternary_run.proofs.Exports.{least-named, named-there}
 use Rattle.net_unroll.specs.Laws.{KnownSchedulesSettle}
 use Rattle.net_unroll.specs.Schedules.{all_false, nothing_known, statuses_along, truths_along}

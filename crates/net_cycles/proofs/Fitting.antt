@@ -1,10 +1,10 @@
 -- What rows and sources may read, and which nets there are.
-use Rattle.std.proofs.Common.{◌≡◌, ℕ, zero, suc, ◌+◌, ◌<◌, ◌≤◌, ◌^◌, Bool, true, ◌&&◌, List, [], ◌∷◌, ◌++◌, length, map, slice_index_or, refl, sym, ap, ◌∙◌}
+use Rattle.std.proofs.Common.{◌≡◌, ℕ, zero, suc, ◌<◌, ◌≤◌, Bool, List, [], ◌∷◌, ◌++◌, length, map, slice_index_or, refl, sym, ◌∙◌}
 use Rattle.std.proofs.Common.{subst, arith}
-use Rattle.std.proofs.Common.{IsTrue, All, nat_lt}
+use Rattle.std.proofs.Common.{IsTrue}
 use Rattle.std.specs.List.{range_with_len}
-use Rattle.std.proofs.lemmas.Bool.{and_from, and_parts, cases_lt, lt-ltb, ltb-true}
-use Rattle.std.proofs.lemmas.List.{get_or-append-add, get_or-map, get_or_append_left, length-append, length-map}
+use Rattle.std.proofs.lemmas.Bool.{and_from, and_parts}
+use Rattle.std.proofs.lemmas.List.{length-map}
 use Rattle.std.proofs.lemmas.List.FromFn.{get_or-map-range_with_len, length-range_with_len}
 use Rattle.base_types.specs.declared.indices.NetId.{NetId}
 use Rattle.grc_formulas.specs.declared.table.Source.{Source}
@@ -12,9 +12,8 @@ use Rattle.grc_formulas.specs.declared.table.Source.TheVariants as sources
 use Rattle.grc_formulas.specs.declared.table.Row.{Row}
 use Rattle.grc_formulas.specs.declared.table.Row.TheVariants as rows
 use Rattle.grc_formulas.specs.Rows.{Bounds, row_fits, source_fits}
-use Rattle.net_ir.specs.Gates.{value_in}
 use Rattle.net_unroll.specs.declared.growing.Growing.{Growing}
-use Rattle.net_unroll.specs.Copies.{AreNets, Grows, net_at, next_number, values_at, values_of}
+use Rattle.net_unroll.specs.Copies.{AreNets, Grows, next_number, values_at}
 use Rattle.net_unroll.proofs.Exports.{grows-value}
 use Rattle.grc_ternary_gates.proofs.Exports.{lt-more}
 use Rattle.net_cycles.specs.Bases.{numbered_nets}

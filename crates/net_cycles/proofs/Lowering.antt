@@ -1,35 +1,33 @@
 -- Nets of formulas.
-use Rattle.std.proofs.Common.{◌≡◌, ℕ, zero, suc, ◌+◌, ◌-◌, ◌<◌, ◌≤◌, ◌^◌, Bool, true, false, not, ◌&&◌, ◌||◌, List, [], ◌∷◌, ◌++◌, length, map, min, take, refl}
+use Rattle.std.proofs.Common.{◌≡◌, ℕ, suc, ◌+◌, ◌-◌, ◌<◌, ◌≤◌, ◌^◌, Bool, true, false, not, ◌&&◌, ◌||◌, List, [], ◌∷◌, ◌++◌, length, map, min, refl}
 use Rattle.std.proofs.Common.{sym, ap, ◌∙◌, subst, arith}
-use Rattle.std.proofs.Common.{IsTrue, All, slice_index_or, ⊎_elim}
+use Rattle.std.proofs.Common.{IsTrue, slice_index_or, ⊎_elim}
 use Rattle.std.specs.List.{list_any}
-use Rattle.std.proofs.lemmas.Bool.{and_parts, cases_lt, ltb-true, lt-ltb}
+use Rattle.std.proofs.lemmas.Bool.{cases_lt, ltb-true, lt-ltb}
 use Rattle.std.proofs.lemmas.List.{get_or-append-add, get_or_append_left, get_or_past, get_or_default, get_or_push, length_push}
 use Rattle.std.proofs.lemmas.List.Folds.{list_any-append}
 use Rattle.base_types.specs.declared.indices.NetId.{NetId}
 use Rattle.base_types.specs.declared.indices.WireId.{WireId}
 use Rattle.grc_graph.specs.declared.formulas.Formula.{Formula}
 use Rattle.grc_graph.specs.declared.formulas.Formula.TheVariants as formulas
-use Rattle.grc_graph.specs.declared.graph.Graph.{Graph}
 use Rattle.grc_graph.specs.Formulas as plain
 use Rattle.grc_graph.specs.GraphRuns.{formula_value}
-use Rattle.grc_graph.specs.PlainGraphs.{formula_of, instances_of, names_of, plain_graph, wire_at}
+use Rattle.grc_graph.specs.PlainGraphs.{names_of, plain_graph, wire_at}
 use Rattle.grc_formulas.specs.declared.table.Source.{Source}
 use Rattle.grc_formulas.specs.declared.table.Source.TheVariants as sources
-use Rattle.grc_formulas.specs.declared.table.Words.{Words}
-use Rattle.grc_formulas.specs.Occasions.{Occasion, state_in, surroundings}
-use Rattle.grc_formulas.specs.Rows.{Bounds, source_fits, source_value}
-use Rattle.grc_formulas.specs.WordLaws.{any_from, early_bounds, ends_upto, first_end, late_bounds, selected_source, value_of}
+use Rattle.grc_formulas.specs.Occasions.{Occasion, state_in}
+use Rattle.grc_formulas.specs.Rows.{source_fits}
+use Rattle.grc_formulas.specs.WordLaws.{any_from, early_bounds, late_bounds, selected_source, value_of}
 use Rattle.net_gen.specs.Senses.{first_of, start_of, wire_value}
 use Rattle.net_ir.specs.declared.netlist.Op.{Op}
 use Rattle.net_ir.specs.declared.netlist.Op.TheVariants as ops
 use Rattle.net_ir.specs.Gates.{op_value, operand_end, value_in}
 use Rattle.net_ir.proofs.Exports.{value_in-gate_values}
 use Rattle.net_unroll.specs.declared.growing.Growing.{Growing}
-use Rattle.net_unroll.specs.Copies.{AreNets, Grows, Pushed, net_at, next_number, values_of}
-use Rattle.net_unroll.proofs.Exports.{grows-both, grows-none, grows-push, grows-value, nets-stay, pushed-new, pushed-number, pushed-old}
+use Rattle.net_unroll.specs.Copies.{Pushed, net_at, next_number, values_of}
+use Rattle.net_unroll.proofs.Exports.{grows-both, grows-none, grows-push, grows-value, nets-stay, pushed-new, pushed-number}
 use Rattle.net_cycles.specs.declared.base.Nets.{Nets}
-use Rattle.net_cycles.specs.Bases.{AnySays, AreRows, CarryWires, GrowsOn, IsReady, IsWhole, Lowers, NextMade, RunSays, bounds_of, form_value, source_net}
+use Rattle.net_cycles.specs.Bases.{AnySays, CarryWires, GrowsOn, IsWhole, Lowers, NextMade, RunSays, bounds_of, form_value, source_net}
 use Rattle.net_cycles.proofs.RowSteps.{base-stays, carry-before, source-low, source-says}
 use Rattle.net_gen.proofs.Exports.{length-start}
 

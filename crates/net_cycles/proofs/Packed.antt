@@ -1,5 +1,6 @@
 -- A netlist around a drawn circuit, and its check, are nets.
-use Rattle.std.proofs.Common.{◌≡◌, ℕ, zero, suc, ◌+◌, ◌<◌, ◌≤◌, ◌^◌, true, List, [], ◌∷◌, ◌++◌, length, map, take, drop, slice_index_or, refl, sym, ap, ◌∙◌, subst}
+use Rattle.std.proofs.Common.{◌≡◌, ℕ, zero, suc, ◌+◌, ◌<◌, ◌≤◌, true, List, [], ◌∷◌, ◌++◌, length, map, take, slice_index_or, refl, sym, ap, ◌∙◌}
+use Rattle.std.proofs.Common.{subst}
 use Rattle.std.proofs.Common.{arith, IsTrue, All, nat_eq}
 use Rattle.std.specs.List.{range_with_len}
 use Rattle.std.proofs.lemmas.Bool.{and_parts}
@@ -12,7 +13,6 @@ use Rattle.base_types.specs.declared.indices.NetId.{NetId}
 use Rattle.est_kernel.specs.Plain.{given_count, interface_count, outgoing_names, program_of}
 use Rattle.est_kernel.specs.WellFormed.{HasNames}
 use Rattle.grc_graph.specs.declared.graph.Graph.{Graph}
-use Rattle.grc_formulas.specs.declared.table.Source.{Source}
 use Rattle.grc_formulas.specs.declared.table.Source.TheVariants as sources
 use Rattle.grc_formulas.specs.declared.table.Words.{Words}
 use Rattle.grc_formulas.specs.WordLaws.{AreWordsOf}

@@ -1,45 +1,35 @@
 -- The parts of a circuit, one after another.
-use Rattle.std.proofs.Common.{◌≡◌, ℕ, zero, suc, ◌+◌, ◌<◌, ◌≤◌, ◌^◌, Bool, true, false, ◌||◌, List, [], ◌∷◌, ◌++◌, length, map, take, slice_index_or, refl, sym}
+use Rattle.std.proofs.Common.{◌≡◌, ℕ, suc, ◌+◌, ◌<◌, ◌≤◌, ◌^◌, Bool, false, List, [], ◌∷◌, ◌++◌, length, map, take, slice_index_or, refl, sym}
 use Rattle.std.proofs.Common.{ap, ◌∙◌, subst, arith}
-use Rattle.std.proofs.Common.{IsTrue, All, inl, inr}
-use Rattle.std.specs.List.{list_any}
-use Rattle.std.proofs.lemmas.Bool.{cases_Bool, cond-false, false≢true}
+use Rattle.std.proofs.Common.{IsTrue, All}
 use Rattle.std.proofs.lemmas.List.{get_or-take, length-append, length-map, length-take-le}
 use Rattle.base_types.specs.declared.indices.NetId.{NetId}
-use Rattle.est_kernel.specs.Statuses.{Status, Minus}
 use Rattle.grc_graph.specs.declared.formulas.Formula.{Formula}
 use Rattle.grc_graph.specs.declared.graph.Graph.{Graph}
-use Rattle.grc_graph.specs.GraphRuns.{shown}
 use Rattle.grc_graph.specs.PlainGraphs.{names_of, plain_graph}
-use Rattle.grc_graph.specs.Wires.{Wire, same_wire}
 use Rattle.grc_ternary.specs.LeastSolutions.{Statuses, is_plus, true_wires}
 use Rattle.grc_formulas.specs.declared.table.Source.{Source}
-use Rattle.grc_formulas.specs.declared.table.Source.TheVariants as sources
-use Rattle.grc_formulas.specs.declared.table.Row.{Row}
 use Rattle.grc_formulas.specs.declared.table.Words.{Words}
 use Rattle.grc_formulas.specs.Occasions.{FalseOffWires, Occasion, state_of}
-use Rattle.grc_formulas.specs.Rows.{row_fits, source_fits}
+use Rattle.grc_formulas.specs.Rows.{source_fits}
 use Rattle.grc_formulas.specs.WordLaws.{AreWordsOf, early_bounds, late_bounds, value_of}
-use Rattle.net_gen.specs.Senses.{first_of, start_of}
+use Rattle.net_gen.specs.Senses.{start_of}
 use Rattle.net_ir.specs.Gates.{value_in}
 use Rattle.net_cycles.specs.declared.base.Base.{Base}
-use Rattle.net_cycles.specs.declared.base.Nets.{Nets}
 use Rattle.grc_ternary_gates.specs.Systems.{gate_fits}
-use Rattle.net_cycles.specs.Bases.{numbered_nets, AreRows, CarryWires, GrowsOn, IsBase, IsReady, IsWhole, NextMade, RowsAdded, RowsFit, bounds_of, form_value}
+use Rattle.net_cycles.specs.Bases.{numbered_nets, CarryWires, GrowsOn, IsBase, IsReady, RowsAdded, RowsFit, bounds_of, form_value}
 use Rattle.net_cycles.specs.Bases.{source_net, sources_of}
-use Rattle.net_cycles.proofs.RowSteps.{base-stays, carry-before, source-low, source-says}
+use Rattle.net_cycles.proofs.RowSteps.{base-stays, source-low, source-says}
 use Rattle.grc_ternary_gates.specs.declared.gates.System.{System}
 use Rattle.grc_ternary_run.proofs.Exports.{named-off}
-use Rattle.grc_ternary_run.specs.Instants.{AreSources, Instant, status_named}
-use Rattle.grc_ternary_run.specs.Systems.{IsSystemOf}
+use Rattle.grc_ternary_run.specs.Instants.{AreSources, Instant}
 use Rattle.net_unroll.specs.declared.growing.Growing.{Growing}
 use Rattle.net_unroll.specs.Copies.{AreNets, CanUnroll, Grows, IsUnrolled, net_at, next_number, values_at, values_of}
 use Rattle.net_unroll.specs.Schedules.{all_false, nothing_known, statuses_along, truths_along}
 use Rattle.net_unroll.proofs.Exports.{grows-both, grows-value, nets-stay}
 use Rattle.grc_graph.specs.Walk.{State}
 use Rattle.net_cycles.specs.Found.{FindsLeast, SchedulesFindLeast, SourceNetsAreSources, wires_along}
-use Rattle.net_cycles.specs.Drawings.{CanDraw, IsDrawn, IsWhollyKnown, SaysLeast, front_of, occasion_of}
-use Rattle.net_cycles.specs.declared.drawing.Drawn.{Drawn}
+use Rattle.net_cycles.specs.Drawings.{CanDraw, IsWhollyKnown, SaysLeast, front_of, occasion_of}
 use Rattle.net_cycles.proofs.Fitting.{append-nets, cons-nets, length-numbered, mapped-are, no-nets, numbered-are, row-more, source-more, values-stay}
 use Rattle.net_gen.proofs.Exports.{length-start}
 

@@ -1,9 +1,9 @@
 -- What nets of sources and rows say, and one more row.
-use Rattle.std.proofs.Common.{◌≡◌, ℕ, suc, ◌+◌, ◌-◌, ◌<◌, ◌≤◌, ◌^◌, Bool, true, false, not, ◌&&◌, ◌||◌, List, [], ◌∷◌, ◌++◌, length, refl, sym, ap, ◌∙◌, subst}
+use Rattle.std.proofs.Common.{◌≡◌, ℕ, suc, ◌+◌, ◌<◌, ◌≤◌, ◌^◌, true, false, not, ◌&&◌, ◌||◌, List, [], ◌∷◌, ◌++◌, length, refl, sym, ap, ◌∙◌, subst}
 use Rattle.std.proofs.Common.{arith}
-use Rattle.std.proofs.Common.{IsTrue, All, slice_index_or, ⊎_elim}
+use Rattle.std.proofs.Common.{IsTrue, slice_index_or, ⊎_elim}
 use Rattle.std.proofs.lemmas.Bool.{and_parts, cases_lt, ltb-true}
-use Rattle.std.proofs.lemmas.List.{get_or-append-add, get_or_append_left, get_or_push, length-append, length_push}
+use Rattle.std.proofs.lemmas.List.{get_or-append-add, get_or_append_left, get_or_push, length_push}
 use Rattle.base_types.specs.declared.indices.NetId.{NetId}
 use Rattle.grc_graph.specs.declared.graph.Graph.{Graph}
 use Rattle.grc_formulas.specs.declared.table.Source.{Source}
@@ -12,18 +12,18 @@ use Rattle.grc_formulas.specs.declared.table.Row.{Row}
 use Rattle.grc_formulas.specs.declared.table.Row.TheVariants as rows
 use Rattle.grc_formulas.specs.declared.table.Words.{Words}
 use Rattle.grc_formulas.specs.Occasions.{Occasion, surroundings}
-use Rattle.grc_formulas.specs.Rows.{row_fits, row_value, row_values, source_fits, source_value}
-use Rattle.grc_formulas.specs.WordLaws.{AreWordsOf, late_bounds}
+use Rattle.grc_formulas.specs.Rows.{row_fits, row_value, source_fits, source_value}
+use Rattle.grc_formulas.specs.WordLaws.{late_bounds}
 use Rattle.grc_formulas.proofs.Exports.{rows-met}
-use Rattle.net_gen.specs.Senses.{first_of, start_of, wire_value}
+use Rattle.net_gen.specs.Senses.{first_of, start_of}
 use Rattle.net_ir.specs.declared.netlist.Op.{Op}
 use Rattle.net_ir.specs.Gates.{op_value, operand_end, value_in}
 use Rattle.net_ir.proofs.Exports.{value_in-gate_values}
 use Rattle.net_unroll.specs.declared.growing.Growing.{Growing}
-use Rattle.net_unroll.specs.Copies.{AreNets, Grows, IsGrowing, IsNo, Pushed, net_at, next_number, values_of}
-use Rattle.net_unroll.proofs.Exports.{grows-both, grows-none, grows-push, grows-value, nets-stay, pushed-new, pushed-number, pushed-old}
+use Rattle.net_unroll.specs.Copies.{AreNets, Grows, Pushed, net_at, next_number, values_of}
+use Rattle.net_unroll.proofs.Exports.{grows-both, grows-none, grows-push, grows-value, nets-stay, pushed-new}
 use Rattle.net_cycles.specs.declared.base.Base.{Base}
-use Rattle.net_cycles.specs.Bases.{AreRows, CarryWires, GrowsOn, IsBase, IsReady, IsYes, RowsAdded, bounds_of, row_op, rows_in, source_net}
+use Rattle.net_cycles.specs.Bases.{AreRows, CarryWires, IsBase, IsReady, RowsAdded, bounds_of, row_op, rows_in, source_net}
 use Rattle.net_gen.proofs.Exports.{length-start}
 
 -- ---- what stays while gates grow

@@ -1,8 +1,7 @@
 -- The nets of a system's sources have the values of the instant.
-use Rattle.std.proofs.Common.{◌≡◌, ℕ, zero, suc, ◌+◌, ◌-◌, ◌<◌, ◌≤◌, Bool, true, false, nat_lt, if◌then◌else◌, min, List, [], ◌∷◌, ◌++◌, length, map}
+use Rattle.std.proofs.Common.{◌≡◌, ℕ, ◌+◌, ◌-◌, ◌<◌, ◌≤◌, Bool, true, false, nat_lt, if◌then◌else◌, min, List, [], ◌∷◌, ◌++◌, length, map}
 use Rattle.std.proofs.Common.{slice_index_or}
-use Rattle.std.proofs.Common.{refl, sym, ap, ◌∙◌, subst, arith, IsTrue}
-use Rattle.std.specs.List.{range_with_len}
+use Rattle.std.proofs.Common.{refl, sym, ap, ◌∙◌, arith, IsTrue}
 use Rattle.std.proofs.lemmas.Bool.{ltb-false, ltb-true, lt-ltb}
 use Rattle.std.proofs.lemmas.List.{get_or-append-add, get_or-map, get_or_append_left, get_or_past, length-append, length-map}
 use Rattle.std.proofs.lemmas.List.FromFn.{get_or-map-range_with_len}
@@ -18,7 +17,6 @@ use Rattle.grc_formulas.specs.declared.table.Words.{Words}
 use Rattle.grc_formulas.specs.Occasions.{Occasion, state_of}
 use Rattle.grc_formulas.specs.Rows.{source_fits}
 use Rattle.grc_formulas.specs.WordLaws.{early_bounds, selected_source}
-use Rattle.net_gen.specs.Senses.{first_of, start_of}
 use Rattle.net_ir.specs.Gates.{value_in}
 use Rattle.net_ir.proofs.Exports.{value_in-gate_values}
 use Rattle.grc_ternary_run.proofs.Exports.{behind}

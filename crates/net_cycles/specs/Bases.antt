@@ -1,7 +1,7 @@
 -- Inner: nets for what a graph says in addition to the equations of its wires, over nets that carry the wires.
 use Rattle.std.specs.Prelude.{◌≡◌, ℕ, ◌+◌, ◌<◌, ◌≤◌, ◌^◌, Bool, true, false, if◌then◌else◌, List, [], ◌∷◌, ◌++◌, length}
 use Rattle.std.specs.Prelude.{map}
-use Rattle.std.specs.Prelude.{slice_index_or, All, IsTrue}
+use Rattle.std.specs.Prelude.{slice_index_or, IsTrue}
 use Rattle.std.specs.List.{list_any, range_with_len}
 use Rattle.base_types.specs.declared.indices.NetId.{NetId}
 use Rattle.base_types.specs.declared.indices.WireId.{WireId}
@@ -16,7 +16,7 @@ use Rattle.grc_formulas.specs.declared.table.Row.{Row}
 use Rattle.grc_formulas.specs.declared.table.Row.TheVariants as rows
 use Rattle.grc_formulas.specs.declared.table.Words.{Words}
 use Rattle.grc_formulas.specs.Occasions.{Occasion, FalseOffWires, state_in, surroundings}
-use Rattle.grc_formulas.specs.Rows.{Bounds, row_fits, row_values, source_fits}
+use Rattle.grc_formulas.specs.Rows.{Bounds, row_fits, row_values}
 use Rattle.grc_formulas.specs.WordLaws.{AreWordsOf, any_from}
 use Rattle.net_gen.specs.Senses.{first_of, start_of, wire_value}
 use Rattle.net_ir.specs.declared.netlist.Op.{Op}

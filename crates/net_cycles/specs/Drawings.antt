@@ -1,5 +1,5 @@
 -- Contract: the circuit of a graph whose equations may go round in circles, along a schedule of its system.
-use Rattle.std.specs.Prelude.{◌≡◌, ℕ, ◌<◌, ◌≤◌, Bool, true, false, List, ◌∷◌, ◌++◌, length, map, slice_index_or, All}
+use Rattle.std.specs.Prelude.{◌≡◌, ℕ, ◌<◌, Bool, true, List, ◌∷◌, ◌++◌, length, map, slice_index_or, All}
 use Rattle.std.specs.Prelude.{IsTrue}
 use Rattle.base_types.specs.declared.indices.NetId.{NetId}
 use Rattle.grc_graph.specs.declared.formulas.Formula.{Formula}

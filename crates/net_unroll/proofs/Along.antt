@@ -1,13 +1,13 @@
 -- Along a schedule, more and more is known, never more than in a solution, and the truth values agree with it.
-use Rattle.std.proofs.Common.{◌≡◌, ◌≢◌, ℕ, suc, ◌+◌, ◌<◌, Bool, true, false, ◌==◌, if◌then◌else◌, List, [], ◌∷◌, length, refl, sym, ap, ◌∙◌, subst, arith, All}
+use Rattle.std.proofs.Common.{◌≡◌, ℕ, suc, ◌<◌, Bool, true, false, ◌==◌, if◌then◌else◌, List, [], ◌∷◌, length, refl, sym, ap, ◌∙◌, subst, arith}
 use Rattle.std.proofs.lemmas.Bool.{eqb-true}
 use Rattle.est_kernel.specs.Laws.{IsBelow, KnowsMore}
-use Rattle.est_kernel.specs.Statuses.{Status, Plus, Minus, Unknown, known, opposite, conjunction, disjunction, with_status}
+use Rattle.est_kernel.specs.Statuses.{Status, Plus, Minus, Unknown, known, with_status}
 use Rattle.est_kernel.proofs.Exports.{below_self, below_trans, conjunction_below, conjunction-known, disjunction_below, disjunction-known, opposite_below}
 use Rattle.est_kernel.proofs.Exports.{opposite-known, with_status-more}
 use Rattle.grc_ternary_gates.specs.declared.gates.Gate.{Gate}
 use Rattle.grc_ternary_gates.specs.declared.gates.Gate.TheVariants as gates
-use Rattle.grc_ternary_gates.specs.Systems.{IsLeastSolution, IsSolution, gate_at, gate_status}
+use Rattle.grc_ternary_gates.specs.Systems.{IsSolution, gate_at, gate_status}
 use Rattle.net_unroll.specs.Laws.{IsSchedule, KnownSchedulesSettle, SchedulesStayBelow, TruthsAgree}
 use Rattle.net_unroll.specs.Schedules.{all_false, gate_truth, is_known, nothing_known, statuses_along, truths_along, with_truth}
 

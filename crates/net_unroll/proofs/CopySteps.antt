@@ -1,7 +1,7 @@
 -- One more copy of a node.
-use Rattle.std.proofs.Common.{◌≡◌, ◌≢◌, ℕ, ◌+◌, ◌<◌, ◌≤◌, ◌^◌, Bool, false, not, ◌&&◌, ◌||◌, ◌==◌, nat_lt, List, [], ◌∷◌, ◌++◌, length, refl, sym, ap, ◌∙◌}
+use Rattle.std.proofs.Common.{◌≡◌, ◌≢◌, ℕ, ◌<◌, ◌≤◌, ◌^◌, Bool, false, not, ◌&&◌, ◌||◌, ◌==◌, nat_lt, List, [], ◌∷◌, ◌++◌, length, refl, sym, ap, ◌∙◌}
 use Rattle.std.proofs.Common.{subst, arith}
-use Rattle.std.proofs.Common.{IsTrue, ⊎_elim, slice_index_or, slice_set, replicate, All}
+use Rattle.std.proofs.Common.{IsTrue, ⊎_elim, slice_index_or, slice_set, replicate}
 use Rattle.std.proofs.lemmas.Bool.{and_parts, cases_eq, cond-false, cond-true, eq-eqb, ltb-true, ne_eqb}
 use Rattle.std.proofs.lemmas.List.{get_or-replicate, get_or-set_other, get_or-set_same, length-replicate, length-set, length_push}
 use Rattle.base_types.specs.declared.indices.NetId.{NetId}
@@ -11,7 +11,7 @@ use Rattle.grc_ternary_gates.specs.declared.gates.Gate.{Gate}
 use Rattle.grc_ternary_gates.specs.declared.gates.Gate.TheVariants as gates
 use Rattle.grc_ternary_gates.specs.Systems.{gate_at, gate_fits}
 use Rattle.net_unroll.specs.declared.growing.Growing.{Growing}
-use Rattle.net_unroll.specs.Copies.{AreCopies, AreNets, CanUnroll, Grows, IsUnrolled, Pushed, net_at, next_number, truth_op, values_at, values_of}
+use Rattle.net_unroll.specs.Copies.{AreNets, CanUnroll, Grows, IsUnrolled, Pushed, net_at, next_number, truth_op, values_at, values_of}
 use Rattle.net_unroll.specs.Schedules.{all_false, gate_truth, truths_along, with_truth}
 use Rattle.net_unroll.proofs.Growth.{grows-none, grows-push, grows-value, nets-stay, pushed-new, pushed-number, pushed-old, value-at}
 

@@ -1,5 +1,5 @@
 -- One more pair of rails of a node, and one more watched node.
-use Rattle.std.proofs.Common.{◌≡◌, ◌≢◌, ℕ, suc, ◌+◌, ◌*◌, ◌<◌, ◌≤◌, ◌^◌, Bool, true, false, not, ◌&&◌, ◌||◌, ◌==◌, if◌then◌else◌, nat_lt, List, [], ◌∷◌, ◌++◌}
+use Rattle.std.proofs.Common.{◌≡◌, ℕ, suc, ◌+◌, ◌*◌, ◌<◌, ◌≤◌, ◌^◌, Bool, true, false, not, ◌&&◌, ◌||◌, ◌==◌, nat_lt, List, [], ◌∷◌, ◌++◌}
 use Rattle.std.proofs.Common.{length, refl, sym, ap, ◌∙◌, subst, arith}
 use Rattle.std.proofs.Common.{IsTrue, ⊎_elim, slice_index_or, slice_set, replicate, All}
 use Rattle.std.specs.List.{list_all}
@@ -18,7 +18,7 @@ use Rattle.grc_ternary_gates.specs.Systems.{gate_at, gate_fits, gate_status}
 use Rattle.net_unroll.specs.declared.growing.Growing.{Growing}
 use Rattle.net_unroll.specs.declared.rails.Rails.{Rails}
 use Rattle.net_unroll.specs.Copies.{AreNets, CanUnroll, Grows, Pushed, net_at, next_number, values_at, values_of}
-use Rattle.net_unroll.specs.Rails.{AreRails, CanWatch, IsAlarm, IsUnrolledTwice, Watches, excluded_op, is_false, is_true, sure_op, told_by}
+use Rattle.net_unroll.specs.Rails.{CanWatch, IsAlarm, IsUnrolledTwice, Watches, excluded_op, is_false, is_true, sure_op, told_by}
 use Rattle.net_unroll.specs.Schedules.{are_known, is_known, nothing_known, statuses_along}
 use Rattle.net_unroll.proofs.CopySteps.{set-nets, set-other, set-same, source-says}
 use Rattle.net_unroll.proofs.Growth.{grows-both, grows-none, grows-push, grows-value, nets-stay, pushed-new, pushed-number, pushed-old}

@@ -1,6 +1,6 @@
 -- Two nodes that read each other, by hand: a = x and b, b = not x or a, where x is a source.
-use Rattle.std.proofs.Common.{◌≡◌, ℕ, Bool, true, false, List, [], ◌∷◌, map, refl}
-use Rattle.est_kernel.specs.Statuses.{Status, Plus, Minus, Unknown}
+use Rattle.std.proofs.Common.{◌≡◌, ℕ, true, false, List, [], ◌∷◌, map, refl}
+use Rattle.est_kernel.specs.Statuses.{Plus, Minus, Unknown}
 use Rattle.grc_ternary_gates.specs.declared.gates.Gate.{Gate}
 use Rattle.grc_ternary_gates.specs.declared.gates.Gate.TheVariants as gates
 use Rattle.net_unroll.specs.Schedules.{all_false, are_known, nothing_known, statuses_along, truths_along}

@@ -1,4 +1,4 @@
-use Rattle.std.proofs.Common.{◌≡◌, ℕ, ◌+◌, ◌<◌, ◌≤◌, Bool, true, false, not, ◌&&◌, ◌||◌, List, length, slice_index_or, sym, ap, ◌∙◌, subst, arith, IsTrue, refl}
+use Rattle.std.proofs.Common.{◌≡◌, ℕ, Bool, true, false, not, ◌&&◌, ◌||◌, List, length, slice_index_or, sym, ap, ◌∙◌, subst, arith, IsTrue, refl}
 use Rattle.std.proofs.lemmas.Bool.{and_parts, ltb-true}
 use Rattle.base_types.specs.declared.indices.NetId.{NetId}
 use Rattle.grc_graph.specs.declared.formulas.Formula.{Formula}
@@ -7,7 +7,7 @@ use Rattle.grc_graph.specs.Walk.{is_initial}
 use Rattle.grc_formulas.specs.Occasions.{state_of}
 use Rattle.grc_formulas.specs.WordLaws.{ends_upto, first_end, selected_source}
 use Rattle.net_cycles.specs.Bases.{AnySays, Lowers, form_value, source_net}
-use Rattle.net_cycles.proofs.Lowering.{any-lowers, run-lowers, lowers-and, lowers-boot, lowers-here, lowers-input, lowers-no, lowers-not, lowers-or}
+use Rattle.net_cycles.proofs.Lowering.{any-lowers, run-lowers, lowers-and, lowers-boot, lowers-input, lowers-no, lowers-not, lowers-or}
 use Rattle.net_cycles.proofs.Lowering.{lowers-silent, lowers-source}
 use Rattle.net_cycles.proofs.Lowering.{lowers-wire, lowers-yes, selected-fits, weight, whole-stays}
 use Rattle.net_cycles.proofs.formulas.+lower.Goals as goal

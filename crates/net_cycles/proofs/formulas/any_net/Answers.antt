@@ -1,4 +1,4 @@
-use Rattle.std.proofs.Common.{◌≡◌, ◌+◌, ◌<◌, [], ◌∷◌, ◌++◌, length, take, slice_index_or, sym, subst, arith}
+use Rattle.std.proofs.Common.{◌<◌, length, take, slice_index_or, sym, subst, arith}
 use Rattle.std.proofs.lemmas.List.{take_more}
 use Rattle.base_types.specs.declared.indices.WireId.{WireId}
 use Rattle.net_cycles.specs.Bases.{AnySays}

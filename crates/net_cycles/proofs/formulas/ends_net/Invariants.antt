@@ -1,5 +1,4 @@
-use Rattle.std.proofs.Common.{◌≡◌, ◌+◌, ◌-◌, ◌≤◌, length}
-use Rattle.grc_formulas.specs.WordLaws.{first_end}
+use Rattle.std.proofs.Common.{◌-◌}
 use Rattle.net_cycles.specs.Bases.{RunSays}
 use Rattle.net_cycles.proofs.formulas.ends_net.Given as goal
 

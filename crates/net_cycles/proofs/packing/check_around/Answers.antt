@@ -1,4 +1,4 @@
-use Rattle.std.proofs.Common.{◌≡◌, refl, sym, ap, ◌∙◌}
+use Rattle.std.proofs.Common.{refl, ◌∙◌}
 use Rattle.net_ir.specs.Runs.{netlist_of}
 use Rattle.net_cycles.proofs.Packed.{check-net}
 use Rattle.net_cycles.proofs.packing.check_around.Goals as goal

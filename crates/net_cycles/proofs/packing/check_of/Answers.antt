@@ -1,4 +1,4 @@
-use Rattle.std.proofs.Common.{◌≡◌, ◌≤◌, length, sym, ap, ◌∙◌, subst, arith, All}
+use Rattle.std.proofs.Common.{◌≡◌, ◌≤◌, length, sym, ap, ◌∙◌, subst, arith}
 use Rattle.std.specs.List.{range_with_len}
 use Rattle.std.proofs.lemmas.List.{length-map}
 use Rattle.base_types.specs.declared.interface.SignalInfo.{SignalInfo}
@@ -33,7 +33,8 @@ check_around-requires c =
     omega (arith, length-map g.program.signals.items (λ (s : SignalInfo). s.name), c.requires.signals) in
     can-check g c.args.words.now c.args.system.now c.args.schedule.now c.deref-3.result.now c.args.drawn (netlist_of c.args.net.now) c.raise_alarm.new.gates
     c.in_ok-alarm.alarm.0 c.requires.drawn signals c.requires.around
-    (subst (λ xs. IsAlarm c.args.drawn.gates c.raise_alarm.new.gates c.args.system.now.gates.items xs c.args.schedule.now c.deref-3.result.now c.in_ok-alarm.alarm.0)
+    (subst (λ xs. IsAlarm c.args.drawn.gates c.raise_alarm.new.gates c.args.system.now.gates.items xs c.args.schedule.now c.deref-3.result.now
+    c.in_ok-alarm.alarm.0)
     c.deref-2.ensures.value
     (subst (λ xs. IsAlarm c.args.drawn.gates c.raise_alarm.new.gates xs c.deref-2.result.now c.args.schedule.now c.deref-3.result.now c.in_ok-alarm.alarm.0)
     c.deref.ensures.value c.in_ok-alarm.ensures))
@@ -47,9 +48,11 @@ returns c =
       after = c.raise_alarm.new.gates;
       watched = c.deref-3.result.now;
       alarm = c.in_ok-alarm.alarm;
-      is_alarm = subst (λ xs. IsAlarm c.args.drawn.gates c.raise_alarm.new.gates y.gates.items xs c.args.schedule.now c.deref-3.result.now c.in_ok-alarm.alarm.0)
+      is_alarm = subst
+          (λ xs. IsAlarm c.args.drawn.gates c.raise_alarm.new.gates y.gates.items xs c.args.schedule.now c.deref-3.result.now c.in_ok-alarm.alarm.0)
           c.deref-2.ensures.value
-          (subst (λ xs. IsAlarm c.args.drawn.gates c.raise_alarm.new.gates xs c.deref-2.result.now c.args.schedule.now c.deref-3.result.now c.in_ok-alarm.alarm.0)
+          (subst (λ xs. IsAlarm c.args.drawn.gates c.raise_alarm.new.gates xs c.deref-2.result.now c.args.schedule.now c.deref-3.result.now
+          c.in_ok-alarm.alarm.0)
           c.deref.ensures.value c.in_ok-alarm.ensures);
       watches = subst (WatchesAll (length y.gates.items)) (sym watched) (watches-all (length y.gates.items));
       check_around = is-check (netlist_of c.args.net.now) (netlist_of c.in_ok-check.check) c.raise_alarm.new.gates c.in_ok-alarm.alarm c.in_ok-check.ensures;

@@ -1,9 +1,9 @@
-use Rattle.std.proofs.Common.{◌≡◌, ◌+◌, ◌<◌, ◌≤◌, ◌∷◌, ◌^◌, List, length, map, refl, sym, ap, ◌∙◌, subst, arith, All, IsTrue, slice_index_or}
+use Rattle.std.proofs.Common.{◌≤◌, ◌∷◌, length, map, sym, ap, ◌∙◌, subst, arith, All, IsTrue, slice_index_or}
 use Rattle.std.proofs.lemmas.List.{length-map}
 use Rattle.base_types.specs.declared.interface.SignalInfo.{SignalInfo}
 use Rattle.base_types.specs.declared.indices.NetId.{NetId}
 use Rattle.est_kernel.specs.declared.programs.KernelProgram.{KernelProgram}
-use Rattle.est_kernel.specs.Plain.{program_of, interface_count, given_names, outgoing_count, outgoing_names}
+use Rattle.est_kernel.specs.Plain.{program_of, interface_count, given_names, outgoing_names}
 use Rattle.grc_formulas.specs.declared.table.Source.{Source}
 use Rattle.grc_formulas.specs.Rows.{source_fits}
 use Rattle.grc_formulas.specs.WordLaws.{late_bounds}

@@ -1,4 +1,4 @@
-use Rattle.std.proofs.Common.{◌≡◌, ◌+◌, ◌<◌, ◌≤◌, [], ◌∷◌, ◌++◌, length, slice_index_or, sym, subst, arith, ap, refl, ◌∙◌, IsTrue}
+use Rattle.std.proofs.Common.{◌≡◌, ◌+◌, ◌<◌, ◌≤◌, length, slice_index_or, sym, subst, arith, ap, ◌∙◌, IsTrue}
 use Rattle.grc_formulas.specs.declared.table.Row.{Row}
 use Rattle.grc_formulas.specs.Rows.{row_fits}
 use Rattle.net_cycles.specs.Bases.{RowsAdded, bounds_of, row_op}

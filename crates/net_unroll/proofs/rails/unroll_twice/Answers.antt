@@ -1,5 +1,5 @@
-use Rattle.std.proofs.Common.{◌≡◌, ◌+◌, ◌<◌, ◌∷◌, [], ◌++◌, length, take, slice_index_or, slice_set, refl, sym, ap, ◌∙◌, subst, arith}
-use Rattle.std.proofs.lemmas.List.{get_or_read, take_more}
+use Rattle.std.proofs.Common.{◌≡◌, ◌<◌, length, take, slice_index_or, slice_set, refl, sym, subst, arith}
+use Rattle.std.proofs.lemmas.List.{take_more}
 use Rattle.net_unroll.specs.Rails.{IsUnrolledTwice}
 use Rattle.net_unroll.proofs.RailSteps.{begun-twice, rails-step}
 use Rattle.std.specs.Vec.{with_item}
