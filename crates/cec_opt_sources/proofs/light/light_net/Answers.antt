@@ -1,5 +1,7 @@
+use Rattle.std.proofs.Common.{subst}
 use Rattle.std.specs.Prelude.{option_map}
 use Rattle.net_ir.specs.Runs.{netlist_of}
+use Rattle.cec_compile.specs.WireGroups.{SharesWires, is_shared}
 use Rattle.cec_opt_sources.proofs.LightNets.{light_stands}
 use Rattle.cec_opt_sources.proofs.light.light_net.Goals as goal
 
@@ -9,7 +11,13 @@ light_of-requires-clause-stands g c = let s = c.in_ok-compiled.ensures.compiles 
 pub returns-clause-light : goal.returns-clause-light
 returns-clause-light g c =
     let s = c.in_ok-compiled.ensures.compiles in
-    (c.in_ok-compiled.compiled, record { stands = s; shares = c.in_ok-compiled.ensures.shares; light = c.in_ok-net.ensures s.program s.compiled })
+    ( c.in_ok-compiled.compiled
+    , record {
+        stands = s;
+        shares = subst (λ q. SharesWires q (is_shared c.in_ok-compiled.compiled.graph)) s.compiled.program c.in_ok-compiled.ensures.shares;
+        light = c.in_ok-net.ensures s.program s.compiled;
+      }
+    )
 
 pub returns-clause-compiles : goal.returns-clause-compiles
 returns-clause-compiles g c =
