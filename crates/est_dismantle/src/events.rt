@@ -29,8 +29,6 @@ pub(crate) fn test_of(alloc: Global, event: &FlatExpr) -> Result<Test, NoMemory>
             let parts = tests_of(alloc, parts.as_slice())?;
             Ok(disjunction(alloc, parts)?)
         }
-        FlatExpr::Round(part) => Ok(test_of(alloc, part)?),
-        FlatExpr::Square(part) => Ok(test_of(alloc, part)?),
     }
 }
 
