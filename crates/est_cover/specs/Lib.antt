@@ -1,0 +1,5 @@
+pub mod Points
+pub mod Covered
+pub mod Portions
+pub mod Nodes
+pub mod NewNames
