@@ -177,9 +177,7 @@ def dismantle(flat: Flat) -> KernelProgram:
         if f == "Not":
             x = test(e[1])
             return made(("Not", x[0]), (x,))
-        if f in ("And", "Or"):
-            return right(f, [test(x) for x in e[1]])
-        return test(e[1])  # Round, Square
+        return right(f, [test(x) for x in e[1]])
 
     def opt(s: Optional[Tree], traps: tuple[Any, ...]) -> Built:
         return nothing() if s is None else stmt(s, traps)

@@ -103,7 +103,10 @@ def expand(program: list[Any], table: Table) -> Flat:
             return ("Sig", signal(scope, e[1])[0])
         if f in ("And", "Or"):
             return (f, [expr(scope, x) for x in e[1]])
-        return (f, expr(scope, e[1]))
+        if f == "Not":
+            return (f, expr(scope, e[1]))
+        # brackets leave no trace
+        return expr(scope, e[1])
 
     def delay(scope: Scope, d: Tree) -> Tree:
         return d[:-1] + (expr(scope, d[-1]),)

@@ -73,7 +73,7 @@ fn is_read_as(
             return Ok(false);
         }
     }
-    Ok(is_end(&mut reader)?)
+    is_end(&mut reader)
 }
 
 /// The trace of events of a program, where `cec run` reads it as these events. None where the events do not meet the

@@ -1,6 +1,6 @@
 -- Contract: what the statements of a flat program keep.
 use Rattle.std.specs.Prelude.{ℕ, Bool, ◌+◌, ◌<◌, ◌≤◌, ◌==◌, ◌||◌, IsTrue, ⊤, List, [], ◌∷◌}
-use Rattle.est_ast.specs.FlatTrees.{Expr, Tick, Sig, Not, And, Or, Round, Square, Exprs, NoExprs, MoreExprs, Delay}
+use Rattle.est_ast.specs.FlatTrees.{Expr, Tick, Sig, Not, And, Or, Exprs, NoExprs, MoreExprs, Delay}
 use Rattle.est_ast.specs.FlatTrees.{Plain, Immediate, Count, Stmt, At, Form, Nothing, Pause, Halt, Emit, Sustain, Await}
 use Rattle.est_ast.specs.FlatTrees.{AwaitCase, Present, PresentCase, Loop, LoopEach, Every, Repeat, Abort, AbortCase}
 use Rattle.est_ast.specs.FlatTrees.{WeakAbort, Suspend, Trap, Exit, Signal, Seq, Par, Part, Missing, Written, Stmts}
@@ -30,8 +30,6 @@ abbrev mutual
   TestFits visible (Not e) = TestFits visible e
   TestFits visible (And parts) = TestsFit visible parts
   TestFits visible (Or parts) = TestsFit visible parts
-  TestFits visible (Round e) = TestFits visible e
-  TestFits visible (Square e) = TestFits visible e
 
   pub TestsFit : (ℕ → Bool) → Exprs → Type 0
   TestsFit visible NoExprs = ⊤

@@ -11,8 +11,6 @@ mutual
     Not : (e : Expr) → Expr
     And : (parts : Exprs) → Expr
     Or : (parts : Exprs) → Expr
-    Round : (e : Expr) → Expr
-    Square : (e : Expr) → Expr
 
   pub data Exprs : Type 0 where
     NoExprs : Exprs

@@ -16,7 +16,7 @@ use Rattle.est_ast.specs.declared.flat.FlatForm.{end_of-FlatCase, more_of-FlatCa
 use Rattle.est_ast.specs.declared.flat.FlatForm.{more_of-FlatStmt}
 use Rattle.est_ast.specs.declared.flat.FlatForm.TheVariants as forms
 use Rattle.est_ast.specs.declared.flat.FlatStmt.{FlatStmt}
-use Rattle.est_ast.specs.FlatTrees.{Expr, Tick, Sig, Not, And, Or, Round, Square, Exprs, NoExprs, MoreExprs, Delay}
+use Rattle.est_ast.specs.FlatTrees.{Expr, Tick, Sig, Not, And, Or, Exprs, NoExprs, MoreExprs, Delay}
 use Rattle.est_ast.specs.FlatTrees.{Plain, Immediate, Count, Stmt, At, Form, Nothing, Pause, Halt, Emit, Sustain, Await}
 use Rattle.est_ast.specs.FlatTrees.{AwaitCase, Present, PresentCase, Loop, LoopEach, Every, Repeat, Abort, AbortCase}
 use Rattle.est_ast.specs.FlatTrees.{WeakAbort, Suspend, Trap, Exit, Signal, Seq, Par, Part, Missing, Written, Stmts}
@@ -29,8 +29,6 @@ abbrev mutual
   flat_expr_of (exprs.Not' _ e) = Not (flat_expr_of e)
   flat_expr_of (exprs.And' _ row) = And (flat_exprs_of row)
   flat_expr_of (exprs.Or' _ row) = Or (flat_exprs_of row)
-  flat_expr_of (exprs.Round' _ e) = Round (flat_expr_of e)
-  flat_expr_of (exprs.Square' _ e) = Square (flat_expr_of e)
 
   pub flat_exprs_of : {n : _} → Row_of-FlatExpr n → Exprs
   flat_exprs_of end_of-FlatExpr = NoExprs

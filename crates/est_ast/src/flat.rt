@@ -33,8 +33,6 @@ pub enum FlatExpr {
     Not(Box<FlatExpr>),
     And(Vec<FlatExpr>),
     Or(Vec<FlatExpr>),
-    Round(Box<FlatExpr>),
-    Square(Box<FlatExpr>),
 }
 
 /// What a statement waits for.

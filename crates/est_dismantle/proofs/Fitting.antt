@@ -7,7 +7,7 @@ use Rattle.base_types.specs.declared.place.Span.{Span}
 use Rattle.est_kernel.specs.Terms as terms
 use Rattle.est_kernel.specs.Terms.{Term, Expression}
 use Rattle.est_kernel.specs.WellFormed.{TestsVisible, ExitsStandInTraps, SignalsFit, with_signal}
-use Rattle.est_ast.specs.FlatTrees.{Expr, Tick, Sig, Not, And, Or, Round, Square, Exprs, NoExprs, MoreExprs, Delay, Plain, Immediate, Count, Stmt, At, Form}
+use Rattle.est_ast.specs.FlatTrees.{Expr, Tick, Sig, Not, And, Or, Exprs, NoExprs, MoreExprs, Delay, Plain, Immediate, Count, Stmt, At, Form}
 use Rattle.est_ast.specs.FlatTrees.{Nothing, Pause, Halt, Emit, Sustain, Await, AwaitCase, Present, PresentCase, Loop, LoopEach, Every, Repeat, Abort}
 use Rattle.est_ast.specs.FlatTrees.{AbortCase, WeakAbort, Suspend, Trap, Exit, Signal, Seq, Par, Part, Missing, Written, Stmts, NoStmts, MoreStmts, Cases}
 use Rattle.est_ast.specs.FlatTrees.{NoCases, MoreCases}
@@ -72,8 +72,6 @@ mutual
   test_visible v (Not e) h = test_visible v e h
   test_visible v (And parts) h = and_visible v (expressions parts) (tests_visible v parts h)
   test_visible v (Or parts) h = or_visible v (expressions parts) (tests_visible v parts h)
-  test_visible v (Round e) h = test_visible v e h
-  test_visible v (Square e) h = test_visible v e h
 
   tests_visible : (v : ℕ → Bool) (es : Exprs) → TestsFit v es → AllVisible v (expressions es)
   tests_visible v NoExprs h = tt

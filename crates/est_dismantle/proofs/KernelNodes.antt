@@ -65,19 +65,11 @@ pub test-Or : (v : Vec FlatExpr Global) → event_test (nodes.Or v) ≡ nested t
 unfolding event_test
 test-Or v = ap expression (flat_expr-Or v) ∙ ap (nested terms.Or terms.Tick) (tests-in v.items)
 
-pub test-Round : (e : Box FlatExpr Global) → event_test (nodes.Round e) ≡ event_test e.value
-unfolding event_test
-test-Round e = refl
-
-pub test-Square : (e : Box FlatExpr Global) → event_test (nodes.Square e) ≡ event_test e.value
-unfolding event_test
-test-Square e = refl
-
 pub tests-list : (l : List FlatExpr) → events_tests l ≡ map event_test l
 unfolding events_tests
 tests-list l = refl
 
-pub ruleset event_rows = (test-Tick, test-Sig, test-Not, test-And, test-Or, test-Round, test-Square, tests-list)
+pub ruleset event_rows = (test-Tick, test-Sig, test-Not, test-And, test-Or, tests-list)
 
 pub case-event : (c : FlatCase) → case_test c ≡ event_test (out-FlatCase c).event
 unfolding case_test event_test out-FlatCase denote.Hole.Carrier.out

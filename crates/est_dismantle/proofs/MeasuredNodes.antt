@@ -119,17 +119,7 @@ unfolding event_measures events_measures
 event-Or x n v is h = along x _ _ (ap event_measures is ∙ ap (λ e. test_measures (expression e)) (flat_expr-Or v)
     ∙ m-disjunction (expressions (exprs (map flat_expr_of v.items))) ∙ ap (nested joined leaf) (m-exprs v.items)) h
 
-pub event-Round : (x : Extent) (n : FlatExpr) (e : Box FlatExpr Global) → n ≡ nodes.Round e → IsExtent x (event_measures e.value) →
-    IsExtent x (event_measures n)
-unfolding event_measures
-event-Round x n e is h = along x _ _ (ap event_measures is) h
-
-pub event-Square : (x : Extent) (n : FlatExpr) (e : Box FlatExpr Global) → n ≡ nodes.Square e → IsExtent x (event_measures e.value) →
-    IsExtent x (event_measures n)
-unfolding event_measures
-event-Square x n e is h = along x _ _ (ap event_measures is) h
-
-pub ruleset event_extents = (event-Tick, event-Sig, event-Not, event-And, event-Or, event-Round, event-Square)
+pub ruleset event_extents = (event-Tick, event-Sig, event-Not, event-And, event-Or)
 
 pub events-none : (l : List FlatExpr) → length l ≡ 0 → events_measures l ≡ leaf
 unfolding events_measures

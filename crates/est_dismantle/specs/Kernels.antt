@@ -9,7 +9,7 @@ use Rattle.std.specs.Prelude.{ℕ, zero, suc, ◌+◌, Bool, true, false, nat_le
 use Rattle.base_types.specs.declared.place.Span.{Span}
 use Rattle.est_kernel.specs.Terms as terms
 use Rattle.est_kernel.specs.Terms.{Term, Expression}
-use Rattle.est_ast.specs.FlatTrees.{Expr, Tick, Sig, Not, And, Or, Round, Square, Exprs, NoExprs, MoreExprs, Delay}
+use Rattle.est_ast.specs.FlatTrees.{Expr, Tick, Sig, Not, And, Or, Exprs, NoExprs, MoreExprs, Delay}
 use Rattle.est_ast.specs.FlatTrees.{Plain, Immediate, Count, Stmt, At, Form, Nothing, Pause, Halt, Emit, Sustain, Await}
 use Rattle.est_ast.specs.FlatTrees.{AwaitCase, Present, PresentCase, Loop, LoopEach, Every, Repeat, Abort, AbortCase}
 use Rattle.est_ast.specs.FlatTrees.{WeakAbort, Suspend, Trap, Exit, Signal, Seq, Par, Part, Missing, Written, Stmts}
@@ -44,8 +44,6 @@ abbrev mutual
   expression (Not e) = terms.Not (expression e)
   expression (And parts) = nested terms.And terms.Tick (expressions parts)
   expression (Or parts) = nested terms.Or terms.Tick (expressions parts)
-  expression (Round e) = expression e
-  expression (Square e) = expression e
 
   pub expressions : Exprs → List Expression
   expressions NoExprs = []

@@ -23,14 +23,12 @@ pub(crate) fn test_of(alloc: Global, event: &FlatExpr) -> Result<Test, NoMemory>
         FlatExpr::Not(part) => Ok(Test::Not(Box::new(alloc, test_of(alloc, part)?)?)),
         FlatExpr::And(parts) => {
             let parts = tests_of(alloc, parts.as_slice())?;
-            Ok(conjunction(alloc, parts)?)
+            conjunction(alloc, parts)
         }
         FlatExpr::Or(parts) => {
             let parts = tests_of(alloc, parts.as_slice())?;
-            Ok(disjunction(alloc, parts)?)
+            disjunction(alloc, parts)
         }
-        FlatExpr::Round(part) => Ok(test_of(alloc, part)?),
-        FlatExpr::Square(part) => Ok(test_of(alloc, part)?),
     }
 }
 

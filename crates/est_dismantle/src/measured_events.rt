@@ -18,8 +18,6 @@ pub(crate) fn event_extent(event: &FlatExpr) -> Extent
         FlatExpr::Not(part) => event_extent(part).over(),
         FlatExpr::And(parts) => events_extent(parts.as_slice()),
         FlatExpr::Or(parts) => events_extent(parts.as_slice()),
-        FlatExpr::Round(part) => event_extent(part),
-        FlatExpr::Square(part) => event_extent(part),
     }
 }
 

@@ -96,8 +96,8 @@ mutual
   test-IfOk scope visible (Not e) sees = on_ok-IfOk (test scope e) _ (fits.TestFits visible) _ (test-IfOk scope visible e sees) (λ f is. is)
   test-IfOk scope visible (And parts) sees = on_ok-IfOk (tests scope parts) _ (fits.TestsFit visible) _ (tests-IfOk scope visible parts sees) (λ f is. is)
   test-IfOk scope visible (Or parts) sees = on_ok-IfOk (tests scope parts) _ (fits.TestsFit visible) _ (tests-IfOk scope visible parts sees) (λ f is. is)
-  test-IfOk scope visible (Round e) sees = on_ok-IfOk (test scope e) _ (fits.TestFits visible) _ (test-IfOk scope visible e sees) (λ f is. is)
-  test-IfOk scope visible (Square e) sees = on_ok-IfOk (test scope e) _ (fits.TestFits visible) _ (test-IfOk scope visible e sees) (λ f is. is)
+  test-IfOk scope visible (Round e) sees = test-IfOk scope visible e sees
+  test-IfOk scope visible (Square e) sees = test-IfOk scope visible e sees
 
   tests-IfOk : (scope : NameScope) (visible : ℕ → Bool) (es : Exprs) → SeesNames scope visible → IfOk (tests scope es) (λ fs. fits.TestsFit visible fs)
   tests-IfOk scope visible NoExprs sees = tt

@@ -256,10 +256,8 @@ module _ (pairs : Pairs) (scope other : NameScope) (agree : Agree pairs scope ot
         (λ a b is. ap flat.And is)
     test-both (BothOr {es = es} {fs = fs} same) = on_ok-both (λ a b. a ≡ b) (λ a b. a ≡ b) (tests scope es) (tests other fs) _ _ (tests-both same)
         (λ a b is. ap flat.Or is)
-    test-both (BothRound {e = e} {f = f} same) = on_ok-both (λ a b. a ≡ b) (λ a b. a ≡ b) (test scope e) (test other f) _ _ (test-both same)
-        (λ a b is. ap flat.Round is)
-    test-both (BothSquare {e = e} {f = f} same) = on_ok-both (λ a b. a ≡ b) (λ a b. a ≡ b) (test scope e) (test other f) _ _ (test-both same)
-        (λ a b is. ap flat.Square is)
+    test-both (BothRound same) = test-both same
+    test-both (BothSquare same) = test-both same
 
     tests-both : {es fs : Exprs} → SameExprs pairs es fs → BothAre (λ a b. a ≡ b) (tests scope es) (tests other fs)
     tests-both BothNoExprs = refl

@@ -25,8 +25,8 @@ abbrev mutual
   test scope (Not e) = on_ok (test scope e) (λ e. Ok (flat.Not e))
   test scope (And parts) = on_ok (tests scope parts) (λ parts. Ok (flat.And parts))
   test scope (Or parts) = on_ok (tests scope parts) (λ parts. Ok (flat.Or parts))
-  test scope (Round e) = on_ok (test scope e) (λ e. Ok (flat.Round e))
-  test scope (Square e) = on_ok (test scope e) (λ e. Ok (flat.Square e))
+  test scope (Round e) = test scope e
+  test scope (Square e) = test scope e
 
   pub tests : NameScope → Exprs → Result flat.Exprs FlattenFault
   tests scope NoExprs = Ok flat.NoExprs

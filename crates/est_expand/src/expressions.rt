@@ -37,14 +37,8 @@ pub fn flat_test(alloc: Global, scope: &Scope, e: &SigExpr) -> Result<FlatExpr, 
             let e = flat_test(alloc, scope, e)?;
             Ok(FlatExpr::Not(Box::new(alloc, e)?))
         }
-        SigExpr::Round(e) => {
-            let e = flat_test(alloc, scope, e)?;
-            Ok(FlatExpr::Round(Box::new(alloc, e)?))
-        }
-        SigExpr::Square(e) => {
-            let e = flat_test(alloc, scope, e)?;
-            Ok(FlatExpr::Square(Box::new(alloc, e)?))
-        }
+        SigExpr::Round(e) => flat_test(alloc, scope, e),
+        SigExpr::Square(e) => flat_test(alloc, scope, e),
         SigExpr::And(parts) => Ok(FlatExpr::And(flat_tests(alloc, scope, parts)?)),
         SigExpr::Or(parts) => Ok(FlatExpr::Or(flat_tests(alloc, scope, parts)?)),
     }

@@ -52,7 +52,7 @@ fn push_coded(list: &mut Vec<sat_kernel::Literal>, literal: Literal) -> Result<b
             push_constant(list, literal.positive)?;
             Ok(true)
         }
-        Side::Old | Side::New => Ok(push_net(list, literal)?),
+        Side::Old | Side::New => push_net(list, literal),
     }
 }
 

@@ -60,10 +60,7 @@ impl Draft {
     {
         match op {
             Op::Copy(net) => Ok(net),
-            Op::Const(_) | Op::Not(_) | Op::And(_, _) | Op::Or(_, _) => {
-                let net = self.push(op)?;
-                Ok(net)
-            }
+            Op::Const(_) | Op::Not(_) | Op::And(_, _) | Op::Or(_, _) => self.push(op),
         }
     }
 

@@ -326,7 +326,7 @@ fn tried_merge(
     if !telling.tells || is_no_larger(&telling.new, net) {
         return Ok(telling);
     }
-    Ok(tried_classes(alloc, net, classes, exclusions, Change::Keep)?)
+    tried_classes(alloc, net, classes, exclusions, Change::Keep)
 }
 
 // Whether there is a netlist, of no more gates and no more latches.

@@ -48,7 +48,7 @@ pub fn decide(
     let mut left = effort.saturating_sub(kept);
     let found = searched(alloc, net, allowed, bad, &mut left)?;
     let rest = left.saturating_add(kept);
-    Ok(confirmed(alloc, net, allowed, bad, found, rest)?)
+    confirmed(alloc, net, allowed, bad, found, rest)
 }
 
 // Checks what was found.

@@ -5,7 +5,7 @@ use Rattle.std.specs.Prelude.{◌≡◌, ℕ, List, [], ◌∷◌}
 use Rattle.std.proofs.Common.{refl}
 use Rattle.base_types.specs.declared.place.Span.{Span}
 use Rattle.est_kernel.specs.Terms as t
-use Rattle.est_ast.specs.FlatTrees.{Tick, Sig, Not, And, Or, Round, Square, exprs, Plain, Immediate, Count, Stmt, Form, At, Nothing, Pause, Halt, Emit, Sustain}
+use Rattle.est_ast.specs.FlatTrees.{Tick, Sig, Not, And, Or, exprs, Plain, Immediate, Count, Stmt, Form, At, Nothing, Pause, Halt, Emit, Sustain}
 use Rattle.est_ast.specs.FlatTrees.{Await, AwaitCase, Present, PresentCase, Loop, LoopEach, Every, Repeat, Abort, AbortCase, WeakAbort, Suspend, Trap, Exit}
 use Rattle.est_ast.specs.FlatTrees.{Signal, Seq, Par, Missing, Written, stmts, NoCases, MoreCases}
 use Rattle.est_dismantle.specs.Kernels.{kernel}
@@ -39,7 +39,7 @@ expansion signals body = expands (new_in body) (bad_in body) (kernel [] signals 
 abbrev flat_0 : Stmt
 flat_0 = s 38 182 (Seq (stmts (s 38 107 (Signal (5 ∷ []) (s 50 103 (Loop (s 55 94 (Seq (stmts (s 56 86 (Every (Plain (Sig 3)) (s 67 82 (Seq (stmts (s 67 73
     (Emit 4) ∷ s 75 82 Nothing ∷ []))))) ∷ s 89 94 Pause ∷ []))))))) ∷ s 109 182 (Every (Plain (Tick (at 115 119))) (s 123 178 (Present (Or (exprs (Not (Sig
-    2) ∷ Square (Sig 0) ∷ Sig 2 ∷ []))) (Written (s 154 161 Nothing)) (Written (s 167 174 Nothing))))) ∷ [])))
+    2) ∷ Sig 0 ∷ Sig 2 ∷ []))) (Written (s 154 161 Nothing)) (Written (s 167 174 Nothing))))) ∷ [])))
 
 flat_0_expansion : expansion 6 flat_0 ≡ expands 0 [] (t.Seq (t.Local 5 (t.Loop (at 50 103) (t.Seq (t.Seq (t.Trap (t.Loop (at 56 86) (t.Seq t.Pause (t.Present
     (t.Sig 3) (t.Exit 2) t.Nothing)))) (t.Loop (at 56 86) (t.Trap (t.Par (t.Seq (t.Suspend (t.Sig 3) (t.Seq (t.Seq (t.Emit 4) t.Nothing) (t.Loop (at 56 86)
@@ -77,8 +77,8 @@ flat_3_expansion = refl
 
 abbrev flat_4 : Stmt
 flat_4 = s 79 205 (Abort (s 85 188 (Par (stmts (s 85 133 (WeakAbort (s 96 120 (Par (stmts (s 96 102 (Emit 7) ∷ s 106 111 Pause ∷ s 115 120 Pause ∷ []))))
-    (Plain (Square (Not (Sig 0))))) ∷ s 137 188 (PresentCase (MoreCases (Sig 2) (Written (s 155 172 (Await (Immediate (Sig 7)) Missing))) NoCases) (Written (s
-    178 184 (Emit 7)))) ∷ [])))) (Immediate (Sig 4)) Missing)
+    (Plain (Not (Sig 0)))) ∷ s 137 188 (PresentCase (MoreCases (Sig 2) (Written (s 155 172 (Await (Immediate (Sig 7)) Missing))) NoCases) (Written (s 178 184
+    (Emit 7)))) ∷ [])))) (Immediate (Sig 4)) Missing)
 
 flat_4_expansion : expansion 8 flat_4 ≡ expands 0 [] (t.Present (t.Sig 4) t.Nothing (t.Trap (t.Par (t.Seq (t.Suspend (t.Sig 4) (t.Par (t.Trap (t.Par (t.Seq
     (t.Par (t.Emit 7) (t.Par t.Pause t.Pause)) (t.Exit 2)) (t.Seq (t.Trap (t.Loop (at 85 133) (t.Seq t.Pause (t.Present (t.Not (t.Sig 0)) (t.Exit 2)
@@ -87,8 +87,8 @@ flat_4_expansion : expansion 8 flat_4 ≡ expands 0 [] (t.Present (t.Sig 4) t.No
 flat_4_expansion = refl
 
 abbrev flat_5 : Stmt
-flat_5 = s 23 114 (Seq (stmts (s 23 56 (Suspend (s 31 47 (Par (stmts (s 31 37 (Emit 1) ∷ s 41 47 (Emit 0) ∷ [])))) (Plain (Square (Sig 0)))) ∷ s 58 91 (Repeat
-    3 (at 65 66) (s 73 80 Nothing)) ∷ s 93 114 (Present (Sig 1) Missing Missing) ∷ [])))
+flat_5 = s 23 114 (Seq (stmts (s 23 56 (Suspend (s 31 47 (Par (stmts (s 31 37 (Emit 1) ∷ s 41 47 (Emit 0) ∷ [])))) (Plain (Sig 0))) ∷ s 58 91 (Repeat 3 (at 65
+    66) (s 73 80 Nothing)) ∷ s 93 114 (Present (Sig 1) Missing Missing) ∷ [])))
 
 flat_5_expansion : expansion 2 flat_5 ≡ expands 0 [] (t.Seq (t.Suspend (t.Sig 0) (t.Par (t.Emit 1) (t.Emit 0))) (t.Seq (t.Seq t.Nothing (t.Seq t.Nothing
     t.Nothing)) (t.Present (t.Sig 1) t.Nothing t.Nothing)))
@@ -111,15 +111,15 @@ flat_7_expansion = refl
 
 abbrev flat_8 : Stmt
 flat_8 = s 47 130 (Present (Not (Sig 1)) (Written (s 66 83 (Seq (stmts (s 66 72 (Emit 2) ∷ s 74 83 (Sustain 2) ∷ []))))) (Written (s 89 126 (Present (Or
-    (exprs (Sig 1 ∷ Round (Sig 2) ∷ Sig 3 ∷ []))) (Written (s 116 122 (Emit 3))) Missing))))
+    (exprs (Sig 1 ∷ Sig 2 ∷ Sig 3 ∷ []))) (Written (s 116 122 (Emit 3))) Missing))))
 
 flat_8_expansion : expansion 4 flat_8 ≡ expands 0 [] (t.Present (t.Not (t.Sig 1)) (t.Seq (t.Emit 2) (t.Loop (at 74 83) (t.Seq (t.Emit 2) t.Pause))) (t.Present
     (t.Or (t.Sig 1) (t.Or (t.Sig 2) (t.Sig 3))) (t.Emit 3) t.Nothing))
 flat_8_expansion = refl
 
 abbrev flat_9 : Stmt
-flat_9 = s 56 161 (Trap (s 66 157 (Present (And (exprs (Square (Tick (at 75 79)) ∷ Sig 3 ∷ []))) (Written (s 92 133 (Trap (s 102 124 (Signal (7 ∷ []) (s 114
-    120 (Emit 7)))) Missing))) (Written (s 139 153 (Seq (stmts (s 139 145 (Exit 0) ∷ s 147 153 (Emit 3) ∷ []))))))) Missing)
+flat_9 = s 56 161 (Trap (s 66 157 (Present (And (exprs (Tick (at 75 79) ∷ Sig 3 ∷ []))) (Written (s 92 133 (Trap (s 102 124 (Signal (7 ∷ []) (s 114 120 (Emit
+    7)))) Missing))) (Written (s 139 153 (Seq (stmts (s 139 145 (Exit 0) ∷ s 147 153 (Emit 3) ∷ []))))))) Missing)
 
 flat_9_expansion : expansion 8 flat_9 ≡ expands 0 [] (t.Trap (t.Present (t.And t.Tick (t.Sig 3)) (t.Trap (t.Local 7 (t.Emit 7))) (t.Seq (t.Exit 2) (t.Emit
     3))))
@@ -171,8 +171,8 @@ flat_14_expansion = refl
 
 abbrev flat_15 : Stmt
 flat_15 = s 20 168 (Par (stmts (s 20 78 (Trap (s 31 54 (Seq (stmts (s 31 37 (Emit 0) ∷ s 39 46 (Exit 0) ∷ s 48 53 Pause ∷ [])))) (Written (s 68 74 (Emit 0))))
-    ∷ s 82 168 (Every (Immediate (Tick (at 98 102))) (s 106 164 (Abort (s 112 155 (Abort (s 118 125 Nothing) (Immediate (Square (Or (exprs (And (exprs (Sig 0
-    ∷ Sig 0 ∷ [])) ∷ Sig 0 ∷ []))))) Missing)) (Count 3 (at 161 162) (Sig 0)) Missing))) ∷ [])))
+    ∷ s 82 168 (Every (Immediate (Tick (at 98 102))) (s 106 164 (Abort (s 112 155 (Abort (s 118 125 Nothing) (Immediate (Or (exprs (And (exprs (Sig 0 ∷ Sig 0
+    ∷ [])) ∷ Sig 0 ∷ [])))) Missing)) (Count 3 (at 161 162) (Sig 0)) Missing))) ∷ [])))
 
 flat_15_expansion : expansion 1 flat_15 ≡ expands 1 [] (t.Par (t.Trap (t.Seq (t.Trap (t.Seq (t.Seq (t.Emit 0) (t.Seq (t.Exit 2) t.Pause)) (t.Exit 3))) (t.Emit
     0))) (t.Seq (t.Trap (t.Loop (at 82 168) (t.Seq (t.Present t.Tick (t.Exit 2) t.Nothing) t.Pause))) (t.Loop (at 82 168) (t.Trap (t.Par (t.Seq (t.Suspend
@@ -207,9 +207,9 @@ flat_18_expansion = refl
 
 abbrev flat_19 : Stmt
 flat_19 = s 35 199 (Loop (s 40 195 (Seq (stmts (s 41 187 (PresentCase (MoreCases (Or (exprs (And (exprs (Sig 1 ∷ Sig 1 ∷ [])) ∷ Sig 3 ∷ []))) (Written (s 70
-    104 (WeakAbort (s 81 87 (Emit 3)) (Immediate (Sig 0))))) (MoreCases (Or (exprs (Square (Or (exprs (Sig 2 ∷ Not (Sig 3) ∷ []))) ∷ Round (Or (exprs (Round
-    (Sig 0) ∷ Sig 2 ∷ []))) ∷ []))) (Written (s 140 160 (Seq (stmts (s 140 145 Pause ∷ s 147 153 (Emit 2) ∷ s 155 160 Pause ∷ []))))) (MoreCases (Sig 2)
-    (Written (s 171 183 (Seq (stmts (s 171 176 Pause ∷ s 178 183 Pause ∷ []))))) NoCases))) Missing) ∷ s 190 195 Pause ∷ [])))))
+    104 (WeakAbort (s 81 87 (Emit 3)) (Immediate (Sig 0))))) (MoreCases (Or (exprs (Or (exprs (Sig 2 ∷ Not (Sig 3) ∷ [])) ∷ Or (exprs (Sig 0 ∷ Sig 2 ∷ [])) ∷
+    []))) (Written (s 140 160 (Seq (stmts (s 140 145 Pause ∷ s 147 153 (Emit 2) ∷ s 155 160 Pause ∷ []))))) (MoreCases (Sig 2) (Written (s 171 183 (Seq (stmts
+    (s 171 176 Pause ∷ s 178 183 Pause ∷ []))))) NoCases))) Missing) ∷ s 190 195 Pause ∷ [])))))
 
 flat_19_expansion : expansion 4 flat_19 ≡ expands 0 [] (t.Loop (at 35 199) (t.Seq (t.Present (t.Or (t.And (t.Sig 1) (t.Sig 1)) (t.Sig 3)) (t.Trap (t.Par
     (t.Seq (t.Emit 3) (t.Exit 2)) (t.Seq (t.Trap (t.Loop (at 70 104) (t.Seq (t.Present (t.Sig 0) (t.Exit 2) t.Nothing) t.Pause))) (t.Exit 2)))) (t.Present
@@ -232,9 +232,9 @@ flat_21_expansion : expansion 7 flat_21 ≡ expands 0 [] (t.Trap (t.Loop (at 66 
 flat_21_expansion = refl
 
 abbrev flat_22 : Stmt
-flat_22 = s 67 203 (Par (stmts (s 67 160 (Trap (s 77 132 (AwaitCase (MoreCases (And (exprs (Sig 0 ∷ Sig 1 ∷ Square (Sig 3) ∷ []))) (Written (s 107 114 (Await
-    (Plain (Sig 1)) Missing))) (MoreCases (Sig 2) Missing (MoreCases (Sig 1) Missing NoCases))))) (Written (s 145 151 (Emit 3)))) ∷ s 164 203 (Loop (s 169 199
-    (Seq (stmts (s 170 191 (Abort (s 176 182 (Emit 2)) (Plain (Square (Sig 4))) Missing) ∷ s 194 199 Pause ∷ []))))) ∷ [])))
+flat_22 = s 67 203 (Par (stmts (s 67 160 (Trap (s 77 132 (AwaitCase (MoreCases (And (exprs (Sig 0 ∷ Sig 1 ∷ Sig 3 ∷ []))) (Written (s 107 114 (Await (Plain
+    (Sig 1)) Missing))) (MoreCases (Sig 2) Missing (MoreCases (Sig 1) Missing NoCases))))) (Written (s 145 151 (Emit 3)))) ∷ s 164 203 (Loop (s 169 199 (Seq
+    (stmts (s 170 191 (Abort (s 176 182 (Emit 2)) (Plain (Sig 4)) Missing) ∷ s 194 199 Pause ∷ []))))) ∷ [])))
 
 flat_22_expansion : expansion 5 flat_22 ≡ expands 0 [] (t.Par (t.Trap (t.Seq (t.Trap (t.Seq (t.Seq (t.Trap (t.Loop (at 77 132) (t.Seq t.Pause (t.Present (t.Or
     (t.And (t.Sig 0) (t.And (t.Sig 1) (t.Sig 3))) (t.Or (t.Sig 2) (t.Sig 1))) (t.Exit 2) t.Nothing)))) (t.Present (t.And (t.Sig 0) (t.And (t.Sig 1) (t.Sig
@@ -255,8 +255,8 @@ flat_23_expansion = refl
 
 abbrev flat_24 : Stmt
 flat_24 = s 40 167 (Par (stmts (s 41 111 (Loop (s 46 107 (Seq (stmts (s 46 51 Pause ∷ s 54 106 (Loop (s 59 102 (Seq (stmts (s 60 94 (Suspend (s 68 74 (Emit
-    3)) (Plain (Square (Or (exprs (Square (Sig 2) ∷ Not (Sig 2) ∷ [])))))) ∷ s 97 102 Pause ∷ []))))) ∷ []))))) ∷ s 116 167 (Suspend (s 124 158 (Trap (s 134
-    154 (Seq (stmts (s 134 139 Pause ∷ s 141 147 (Emit 3) ∷ s 149 154 Pause ∷ [])))) Missing)) (Plain (Square (Sig 2)))) ∷ [])))
+    3)) (Plain (Or (exprs (Sig 2 ∷ Not (Sig 2) ∷ []))))) ∷ s 97 102 Pause ∷ []))))) ∷ []))))) ∷ s 116 167 (Suspend (s 124 158 (Trap (s 134 154 (Seq (stmts (s
+    134 139 Pause ∷ s 141 147 (Emit 3) ∷ s 149 154 Pause ∷ [])))) Missing)) (Plain (Sig 2))) ∷ [])))
 
 flat_24_expansion : expansion 4 flat_24 ≡ expands 0 [] (t.Par (t.Loop (at 41 111) (t.Seq t.Pause (t.Loop (at 54 106) (t.Seq (t.Suspend (t.Or (t.Sig 2) (t.Not
     (t.Sig 2))) (t.Emit 3)) t.Pause)))) (t.Suspend (t.Sig 2) (t.Trap (t.Seq t.Pause (t.Seq (t.Emit 3) t.Pause)))))
@@ -275,7 +275,7 @@ flat_26_expansion : expansion 6 flat_26 ≡ expands 0 [] (t.Local 4 (t.Local 5 (
 flat_26_expansion = refl
 
 abbrev flat_27 : Stmt
-flat_27 = s 53 107 (Every (Plain (Square (Sig 2))) (s 66 103 (Present (And (exprs (Sig 2 ∷ Sig 4 ∷ Not (Sig 3) ∷ []))) Missing Missing)))
+flat_27 = s 53 107 (Every (Plain (Sig 2)) (s 66 103 (Present (And (exprs (Sig 2 ∷ Sig 4 ∷ Not (Sig 3) ∷ []))) Missing Missing)))
 
 flat_27_expansion : expansion 6 flat_27 ≡ expands 0 [] (t.Seq (t.Trap (t.Loop (at 53 107) (t.Seq t.Pause (t.Present (t.Sig 2) (t.Exit 2) t.Nothing)))) (t.Loop
     (at 53 107) (t.Trap (t.Par (t.Seq (t.Suspend (t.Sig 2) (t.Seq (t.Present (t.And (t.Sig 2) (t.And (t.Sig 4) (t.Not (t.Sig 3)))) t.Nothing t.Nothing)
@@ -291,7 +291,7 @@ flat_28_expansion = refl
 abbrev flat_29 : Stmt
 flat_29 = s 51 228 (Abort (s 57 221 (Par (stmts (s 57 142 (Seq (stmts (s 57 88 (Signal (4 ∷ []) (s 70 77 Nothing)) ∷ s 90 142 (AbortCase (s 96 102 (Emit 3))
     (MoreCases (Not (Sig 3)) Missing (MoreCases (Not (Sig 2)) (Written (s 133 138 Pause)) NoCases))) ∷ []))) ∷ s 147 220 (Seq (stmts (s 147 211 (PresentCase
-    (MoreCases (Or (exprs (Sig 3 ∷ Round (Sig 1) ∷ []))) (Written (s 172 178 (Emit 2))) (MoreCases (Not (Sig 3)) Missing (MoreCases (Sig 3) Missing NoCases)))
+    (MoreCases (Or (exprs (Sig 3 ∷ Sig 1 ∷ []))) (Written (s 172 178 (Emit 2))) (MoreCases (Not (Sig 3)) Missing (MoreCases (Sig 3) Missing NoCases)))
     (Written (s 202 207 Pause))) ∷ s 213 219 (Emit 2) ∷ []))) ∷ [])))) (Plain (Sig 3)) Missing)
 
 flat_29_expansion : expansion 5 flat_29 ≡ expands 0 [] (t.Trap (t.Par (t.Seq (t.Suspend (t.Sig 3) (t.Par (t.Seq (t.Local 4 t.Nothing) (t.Trap (t.Seq (t.Trap
@@ -344,9 +344,9 @@ flat_33_expansion = refl
 
 abbrev flat_34 : Stmt
 flat_34 = s 41 197 (LoopEach (s 46 190 (PresentCase (MoreCases (Sig 0) (Written (s 64 79 (Seq (stmts (s 64 70 (Emit 4) ∷ s 72 79 (Await (Plain (Sig 5))
-    Missing) ∷ []))))) (MoreCases (Or (exprs (Not (Not (Round (Sig 4))) ∷ Sig 5 ∷ []))) (Written (s 105 164 (Present (Or (exprs (And (exprs (Round (Sig 3) ∷
-    Round (Or (exprs (And (exprs (Sig 5 ∷ Not (Sig 0) ∷ [])) ∷ Not (Sig 4) ∷ []))) ∷ [])) ∷ Sig 2 ∷ []))) (Written (s 154 160 (Emit 4))) Missing))) NoCases))
-    (Written (s 170 186 (Par (stmts (s 170 177 Nothing ∷ s 181 186 Pause ∷ []))))))) (Plain (Sig 5)))
+    Missing) ∷ []))))) (MoreCases (Or (exprs (Not (Not (Sig 4)) ∷ Sig 5 ∷ []))) (Written (s 105 164 (Present (Or (exprs (And (exprs (Sig 3 ∷ Or (exprs (And
+    (exprs (Sig 5 ∷ Not (Sig 0) ∷ [])) ∷ Not (Sig 4) ∷ [])) ∷ [])) ∷ Sig 2 ∷ []))) (Written (s 154 160 (Emit 4))) Missing))) NoCases)) (Written (s 170 186
+    (Par (stmts (s 170 177 Nothing ∷ s 181 186 Pause ∷ []))))))) (Plain (Sig 5)))
 
 flat_34_expansion : expansion 6 flat_34 ≡ expands 0 [] (t.Loop (at 41 197) (t.Trap (t.Par (t.Seq (t.Suspend (t.Sig 5) (t.Seq (t.Present (t.Sig 0) (t.Seq
     (t.Emit 4) (t.Trap (t.Loop (at 72 79) (t.Seq t.Pause (t.Present (t.Sig 5) (t.Exit 2) t.Nothing))))) (t.Present (t.Or (t.Not (t.Not (t.Sig 4))) (t.Sig 5))
@@ -363,9 +363,9 @@ flat_35_expansion = refl
 
 abbrev flat_36 : Stmt
 flat_36 = s 58 232 (Seq (stmts (s 58 102 (Trap (s 68 98 (Signal (6 ∷ []) (s 80 94 (Seq (stmts (s 80 85 Pause ∷ s 87 94 (Await (Plain (Sig 4)) Missing) ∷
-    [])))))) Missing) ∷ s 104 183 (Present (Or (exprs (Square (Or (exprs (And (exprs (Sig 5 ∷ Round (Sig 0) ∷ [])) ∷ Sig 5 ∷ []))) ∷ Not (Sig 1) ∷ Round (Not
-    (Sig 0)) ∷ []))) (Written (s 154 160 (Emit 5))) (Written (s 166 171 Pause))) ∷ s 185 232 (Await (Plain (Sig 0)) (Written (s 196 228 (Every (Plain (Square
-    (Sig 2))) (s 209 224 (Par (stmts (s 209 213 Halt ∷ s 217 224 Nothing ∷ [])))))))) ∷ [])))
+    [])))))) Missing) ∷ s 104 183 (Present (Or (exprs (Or (exprs (And (exprs (Sig 5 ∷ Sig 0 ∷ [])) ∷ Sig 5 ∷ [])) ∷ Not (Sig 1) ∷ Not (Sig 0) ∷ []))) (Written
+    (s 154 160 (Emit 5))) (Written (s 166 171 Pause))) ∷ s 185 232 (Await (Plain (Sig 0)) (Written (s 196 228 (Every (Plain (Sig 2)) (s 209 224 (Par (stmts (s
+    209 213 Halt ∷ s 217 224 Nothing ∷ [])))))))) ∷ [])))
 
 flat_36_expansion : expansion 7 flat_36 ≡ expands 0 [] (t.Seq (t.Trap (t.Local 6 (t.Seq t.Pause (t.Trap (t.Loop (at 87 94) (t.Seq t.Pause (t.Present (t.Sig 4)
     (t.Exit 2) t.Nothing))))))) (t.Seq (t.Present (t.Or (t.Or (t.And (t.Sig 5) (t.Sig 0)) (t.Sig 5)) (t.Or (t.Not (t.Sig 1)) (t.Not (t.Sig 0)))) (t.Emit 5)
@@ -392,8 +392,8 @@ flat_38_expansion : expansion 9 flat_38 ≡ expands 0 [] (t.Par (t.Local 5 (t.Tr
 flat_38_expansion = refl
 
 abbrev flat_39 : Stmt
-flat_39 = s 53 107 (Par (stmts (s 53 84 (Abort (s 59 66 (Await (Plain (Sig 2)) Missing)) (Plain (Square (Not (Round (Tick (at 78 82)))))) Missing) ∷ s 88 107
-    (Trap (s 98 103 Pause) Missing) ∷ [])))
+flat_39 = s 53 107 (Par (stmts (s 53 84 (Abort (s 59 66 (Await (Plain (Sig 2)) Missing)) (Plain (Not (Tick (at 78 82)))) Missing) ∷ s 88 107 (Trap (s 98 103
+    Pause) Missing) ∷ [])))
 
 flat_39_expansion : expansion 6 flat_39 ≡ expands 0 [] (t.Par (t.Trap (t.Par (t.Seq (t.Suspend (t.Not t.Tick) (t.Trap (t.Loop (at 59 66) (t.Seq t.Pause
     (t.Present (t.Sig 2) (t.Exit 2) t.Nothing))))) (t.Exit 2)) (t.Loop (at 53 84) (t.Seq t.Pause (t.Present (t.Not t.Tick) (t.Exit 2) t.Nothing))))) (t.Trap
@@ -402,8 +402,8 @@ flat_39_expansion = refl
 
 abbrev flat_40 : Stmt
 flat_40 = s 69 200 (Seq (stmts (s 69 104 (Repeat 2 (at 85 86) (s 93 100 Nothing)) ∷ s 106 150 (Loop (s 111 146 (Seq (stmts (s 112 138 (Signal (5 ∷ 6 ∷ []) (s
-    128 134 (Emit 5))) ∷ s 141 146 Pause ∷ []))))) ∷ s 153 199 (PresentCase (MoreCases (Or (exprs (And (exprs (Sig 1 ∷ Sig 2 ∷ [])) ∷ Round (Sig 3) ∷ [])))
-    Missing (MoreCases (Sig 2) Missing NoCases)) Missing) ∷ [])))
+    128 134 (Emit 5))) ∷ s 141 146 Pause ∷ []))))) ∷ s 153 199 (PresentCase (MoreCases (Or (exprs (And (exprs (Sig 1 ∷ Sig 2 ∷ [])) ∷ Sig 3 ∷ []))) Missing
+    (MoreCases (Sig 2) Missing NoCases)) Missing) ∷ [])))
 
 flat_40_expansion : expansion 7 flat_40 ≡ expands 0 [] (t.Seq (t.Seq t.Nothing t.Nothing) (t.Seq (t.Loop (at 106 150) (t.Seq (t.Local 5 (t.Local 6 (t.Emit
     5))) t.Pause)) (t.Present (t.Or (t.And (t.Sig 1) (t.Sig 2)) (t.Sig 3)) t.Nothing (t.Present (t.Sig 2) t.Nothing t.Nothing))))
@@ -416,8 +416,8 @@ flat_41_expansion : expansion 3 flat_41 ≡ expands 0 [] (t.Par (t.Loop (at 32 5
 flat_41_expansion = refl
 
 abbrev flat_42 : Stmt
-flat_42 = s 22 107 (Seq (stmts (s 22 71 (Abort (s 28 46 (Par (stmts (s 28 35 Nothing ∷ s 39 46 Nothing ∷ [])))) (Immediate (Square (And (exprs (Sig 1 ∷ Sig 1
-    ∷ []))))) Missing) ∷ s 73 107 (Signal (2 ∷ []) (s 85 103 (Par (stmts (s 85 92 Nothing ∷ s 96 103 Nothing ∷ []))))) ∷ [])))
+flat_42 = s 22 107 (Seq (stmts (s 22 71 (Abort (s 28 46 (Par (stmts (s 28 35 Nothing ∷ s 39 46 Nothing ∷ [])))) (Immediate (And (exprs (Sig 1 ∷ Sig 1 ∷ []))))
+    Missing) ∷ s 73 107 (Signal (2 ∷ []) (s 85 103 (Par (stmts (s 85 92 Nothing ∷ s 96 103 Nothing ∷ []))))) ∷ [])))
 
 flat_42_expansion : expansion 3 flat_42 ≡ expands 0 [] (t.Seq (t.Present (t.And (t.Sig 1) (t.Sig 1)) t.Nothing (t.Trap (t.Par (t.Seq (t.Suspend (t.And (t.Sig
     1) (t.Sig 1)) (t.Par t.Nothing t.Nothing)) (t.Exit 2)) (t.Loop (at 22 71) (t.Seq t.Pause (t.Present (t.And (t.Sig 1) (t.Sig 1)) (t.Exit 2) t.Nothing))))))
@@ -436,9 +436,9 @@ flat_43_expansion : expansion 3 flat_43 ≡ expands 0 [] (t.Seq (t.Trap (t.Seq (
 flat_43_expansion = refl
 
 abbrev flat_44 : Stmt
-flat_44 = s 72 211 (Every (Plain (Square (And (exprs (Sig 1 ∷ Sig 2 ∷ Sig 2 ∷ []))))) (s 97 200 (PresentCase (MoreCases (Not (Sig 1)) Missing NoCases)
-    (Written (s 129 183 (Seq (stmts (s 129 154 (Loop (s 135 150 (Seq (stmts (s 135 140 Pause ∷ s 143 149 (Emit 4) ∷ []))))) ∷ s 156 183 (LoopEach (s 161 168
-    Nothing) (Plain (Sig 1))) ∷ []))))))))
+flat_44 = s 72 211 (Every (Plain (And (exprs (Sig 1 ∷ Sig 2 ∷ Sig 2 ∷ [])))) (s 97 200 (PresentCase (MoreCases (Not (Sig 1)) Missing NoCases) (Written (s 129
+    183 (Seq (stmts (s 129 154 (Loop (s 135 150 (Seq (stmts (s 135 140 Pause ∷ s 143 149 (Emit 4) ∷ []))))) ∷ s 156 183 (LoopEach (s 161 168 Nothing) (Plain
+    (Sig 1))) ∷ []))))))))
 
 flat_44_expansion : expansion 5 flat_44 ≡ expands 0 [] (t.Seq (t.Trap (t.Loop (at 72 211) (t.Seq t.Pause (t.Present (t.And (t.Sig 1) (t.And (t.Sig 2) (t.Sig
     2))) (t.Exit 2) t.Nothing)))) (t.Loop (at 72 211) (t.Trap (t.Par (t.Seq (t.Suspend (t.And (t.Sig 1) (t.And (t.Sig 2) (t.Sig 2))) (t.Seq (t.Present (t.Not
@@ -458,8 +458,8 @@ flat_45_expansion : expansion 7 flat_45 ≡ expands 0 [] (t.Seq (t.Present (t.Si
 flat_45_expansion = refl
 
 abbrev flat_46 : Stmt
-flat_46 = s 68 142 (Par (stmts (s 68 87 (Abort (s 74 78 Halt) (Plain (Square (Sig 5))) Missing) ∷ s 91 109 (LoopEach (s 96 102 (Emit 6)) (Plain (Sig 3))) ∷ s
-    113 142 (AwaitCase (MoreCases (Sig 2) Missing (MoreCases (Sig 5) Missing NoCases))) ∷ [])))
+flat_46 = s 68 142 (Par (stmts (s 68 87 (Abort (s 74 78 Halt) (Plain (Sig 5)) Missing) ∷ s 91 109 (LoopEach (s 96 102 (Emit 6)) (Plain (Sig 3))) ∷ s 113 142
+    (AwaitCase (MoreCases (Sig 2) Missing (MoreCases (Sig 5) Missing NoCases))) ∷ [])))
 
 flat_46_expansion : expansion 7 flat_46 ≡ expands 0 [] (t.Par (t.Trap (t.Par (t.Seq (t.Suspend (t.Sig 5) (t.Loop (at 74 78) t.Pause)) (t.Exit 2)) (t.Loop (at
     68 87) (t.Seq t.Pause (t.Present (t.Sig 5) (t.Exit 2) t.Nothing))))) (t.Par (t.Loop (at 91 109) (t.Trap (t.Par (t.Seq (t.Suspend (t.Sig 3) (t.Seq (t.Emit
@@ -504,10 +504,10 @@ flat_49_expansion : expansion 4 flat_49 ≡ expands 1 [] (t.Trap (t.Par (t.Seq (
 flat_49_expansion = refl
 
 abbrev flat_50 : Stmt
-flat_50 = s 44 215 (Loop (s 49 211 (Seq (stmts (s 50 203 (Every (Plain (Square (Or (exprs (And (exprs (Sig 4 ∷ Square (Sig 3) ∷ [])) ∷ Not (Not (Sig 2)) ∷
-    []))))) (s 84 199 (Loop (s 89 190 (Seq (stmts (s 90 182 (AbortCase (s 96 129 (Present (Not (Not (Sig 1))) Missing (Written (s 119 125 (Emit 2)))))
-    (MoreCases (Or (exprs (Round (Sig 3) ∷ Sig 4 ∷ []))) Missing (MoreCases (Sig 1) (Written (s 159 165 (Emit 1))) (MoreCases (Sig 3) Missing NoCases)))) ∷ s
-    185 190 Pause ∷ []))))))) ∷ s 206 211 Pause ∷ [])))))
+flat_50 = s 44 215 (Loop (s 49 211 (Seq (stmts (s 50 203 (Every (Plain (Or (exprs (And (exprs (Sig 4 ∷ Sig 3 ∷ [])) ∷ Not (Not (Sig 2)) ∷ [])))) (s 84 199
+    (Loop (s 89 190 (Seq (stmts (s 90 182 (AbortCase (s 96 129 (Present (Not (Not (Sig 1))) Missing (Written (s 119 125 (Emit 2))))) (MoreCases (Or (exprs
+    (Sig 3 ∷ Sig 4 ∷ []))) Missing (MoreCases (Sig 1) (Written (s 159 165 (Emit 1))) (MoreCases (Sig 3) Missing NoCases)))) ∷ s 185 190 Pause ∷ []))))))) ∷ s
+    206 211 Pause ∷ [])))))
 
 flat_50_expansion : expansion 5 flat_50 ≡ expands 0 [] (t.Loop (at 44 215) (t.Seq (t.Seq (t.Trap (t.Loop (at 50 203) (t.Seq t.Pause (t.Present (t.Or (t.And
     (t.Sig 4) (t.Sig 3)) (t.Not (t.Not (t.Sig 2)))) (t.Exit 2) t.Nothing)))) (t.Loop (at 50 203) (t.Trap (t.Par (t.Seq (t.Suspend (t.Or (t.And (t.Sig 4)
@@ -531,7 +531,7 @@ flat_51_expansion = refl
 
 abbrev flat_52 : Stmt
 flat_52 = s 38 133 (Suspend (s 46 126 (Abort (s 52 117 (Abort (s 58 87 (Seq (stmts (s 59 65 (Emit 4) ∷ s 68 87 (LoopEach (s 73 80 Nothing) (Plain (Sig 3))) ∷
-    [])))) (Plain (Sig 2)) (Written (s 98 107 (Await (Plain (Square (Sig 1))) Missing))))) (Count 4 (at 123 124) (Sig 4)) Missing)) (Plain (Sig 1)))
+    [])))) (Plain (Sig 2)) (Written (s 98 107 (Await (Plain (Sig 1)) Missing))))) (Count 4 (at 123 124) (Sig 4)) Missing)) (Plain (Sig 1)))
 
 flat_52_expansion : expansion 5 flat_52 ≡ expands 1 [] (t.Suspend (t.Sig 1) (t.Trap (t.Local 5 (t.Par (t.Seq (t.Suspend (t.Sig 5) (t.Trap (t.Seq (t.Trap
     (t.Par (t.Seq (t.Suspend (t.Sig 2) (t.Seq (t.Emit 4) (t.Loop (at 68 87) (t.Trap (t.Par (t.Seq (t.Suspend (t.Sig 3) (t.Seq t.Nothing (t.Loop (at 68 87)
@@ -562,8 +562,8 @@ flat_54_expansion = refl
 
 abbrev flat_55 : Stmt
 flat_55 = s 118 330 (WeakAbort (s 129 320 (Par (stmts (s 129 212 (Abort (s 136 205 (Trap (s 148 172 (Seq (stmts (s 148 154 (Emit 4) ∷ s 156 163 (Exit 0) ∷ s
-    165 172 (Exit 0) ∷ [])))) (Written (s 194 200 (Emit 3))))) (Plain (Sig 5)) Missing) ∷ s 217 320 (Present (Not (Square (And (exprs (Round (Sig 4) ∷ Sig 6 ∷
-    Sig 4 ∷ []))))) (Written (s 261 307 (Trap (s 274 279 Pause) (Written (s 297 303 (Emit 7)))))) Missing) ∷ [])))) (Plain (Square (Sig 5))))
+    165 172 (Exit 0) ∷ [])))) (Written (s 194 200 (Emit 3))))) (Plain (Sig 5)) Missing) ∷ s 217 320 (Present (Not (And (exprs (Sig 4 ∷ Sig 6 ∷ Sig 4 ∷ []))))
+    (Written (s 261 307 (Trap (s 274 279 Pause) (Written (s 297 303 (Emit 7)))))) Missing) ∷ [])))) (Plain (Sig 5)))
 
 flat_55_expansion : expansion 8 flat_55 ≡ expands 0 [] (t.Trap (t.Par (t.Seq (t.Par (t.Trap (t.Par (t.Seq (t.Suspend (t.Sig 5) (t.Trap (t.Seq (t.Trap (t.Seq
     (t.Seq (t.Emit 4) (t.Seq (t.Exit 2) (t.Exit 2))) (t.Exit 3))) (t.Emit 3)))) (t.Exit 2)) (t.Loop (at 129 212) (t.Seq t.Pause (t.Present (t.Sig 5) (t.Exit
@@ -573,7 +573,7 @@ flat_55_expansion = refl
 
 abbrev flat_56 : Stmt
 flat_56 = s 47 114 (Suspend (s 55 95 (Seq (stmts (s 214 227 (Seq (stmts (s 214 219 Pause ∷ s 221 227 (Emit 4) ∷ []))) ∷ s 63 95 (Suspend (s 72 77 Pause)
-    (Immediate (Sig 3))) ∷ [])))) (Immediate (Square (Sig 5))))
+    (Immediate (Sig 3))) ∷ [])))) (Immediate (Sig 5)))
 
 flat_56_expansion : expansion 8 flat_56 ≡ expands 0 [] (t.Seq (t.Trap (t.Loop (at 47 114) (t.Present (t.Sig 5) t.Pause (t.Exit 2)))) (t.Suspend (t.Sig 5)
     (t.Seq (t.Seq t.Pause (t.Emit 4)) (t.Seq (t.Trap (t.Loop (at 63 95) (t.Present (t.Sig 3) t.Pause (t.Exit 2)))) (t.Suspend (t.Sig 3) t.Pause)))))
@@ -654,8 +654,7 @@ bad_5_count = refl
 abbrev bad_6 : Stmt
 bad_6 = s 35 205 (Every (Plain (Sig 0)) (s 46 201 (WeakAbort (s 57 182 (Signal (4 ∷ 5 ∷ []) (s 73 178 (Seq (stmts (s 73 106 (PresentCase (MoreCases (Sig 4)
     Missing (MoreCases (Sig 0) Missing NoCases)) Missing) ∷ s 108 134 (Loop (s 113 130 (Seq (stmts (s 114 122 (Await (Plain (Sig 5)) Missing) ∷ s 125 130
-    Pause ∷ []))))) ∷ s 136 178 (Abort (s 142 147 Pause) (Count 256 (at 153 156) (Sig 5)) (Written (s 163 168 Pause))) ∷ [])))))) (Immediate (Square (Sig
-    3))))))
+    Pause ∷ []))))) ∷ s 136 178 (Abort (s 142 147 Pause) (Count 256 (at 153 156) (Sig 5)) (Written (s 163 168 Pause))) ∷ [])))))) (Immediate (Sig 3)))))
 
 bad_6_count : first (bad_in bad_6) ≡ at 153 156 ∷ []
 bad_6_count = refl
@@ -677,17 +676,16 @@ bad_8_count : first (bad_in bad_8) ≡ at 116 155 ∷ []
 bad_8_count = refl
 
 abbrev bad_9 : Stmt
-bad_9 = s 57 137 (Suspend (s 65 120 (LoopEach (s 70 111 (Every (Count 256 (at 76 79) (Square (And (exprs (Sig 2 ∷ Square (Sig 1) ∷ []))))) (s 95 107 (Seq
-    (stmts (s 95 100 Pause ∷ s 102 107 Pause ∷ [])))))) (Count 4 (at 117 118) (Sig 1)))) (Immediate (Sig 1)))
+bad_9 = s 57 137 (Suspend (s 65 120 (LoopEach (s 70 111 (Every (Count 256 (at 76 79) (And (exprs (Sig 2 ∷ Sig 1 ∷ [])))) (s 95 107 (Seq (stmts (s 95 100 Pause
+    ∷ s 102 107 Pause ∷ [])))))) (Count 4 (at 117 118) (Sig 1)))) (Immediate (Sig 1)))
 
 bad_9_count : first (bad_in bad_9) ≡ at 76 79 ∷ []
 bad_9_count = refl
 
 abbrev bad_10 : Stmt
-bad_10 = s 52 209 (Seq (stmts (s 52 137 (PresentCase (MoreCases (Or (exprs (And (exprs (Square (Or (exprs (Sig 1 ∷ Square (Sig 1) ∷ []))) ∷ Sig 1 ∷ [])) ∷ Not
-    (Round (Sig 0)) ∷ []))) (Written (s 96 103 Nothing)) (MoreCases (Or (exprs (And (exprs (Sig 0 ∷ Sig 1 ∷ [])) ∷ Not (Sig 2) ∷ []))) Missing NoCases))
-    Missing) ∷ s 139 209 (Await (Count 340282366920938463463374607431768211455 (at 145 184) (Sig 0)) (Written (s 190 199 (Await (Count 4 (at 196 197) (Sig 0))
-    Missing)))) ∷ [])))
+bad_10 = s 52 209 (Seq (stmts (s 52 137 (PresentCase (MoreCases (Or (exprs (And (exprs (Or (exprs (Sig 1 ∷ Sig 1 ∷ [])) ∷ Sig 1 ∷ [])) ∷ Not (Sig 0) ∷ [])))
+    (Written (s 96 103 Nothing)) (MoreCases (Or (exprs (And (exprs (Sig 0 ∷ Sig 1 ∷ [])) ∷ Not (Sig 2) ∷ []))) Missing NoCases)) Missing) ∷ s 139 209 (Await
+    (Count 340282366920938463463374607431768211455 (at 145 184) (Sig 0)) (Written (s 190 199 (Await (Count 4 (at 196 197) (Sig 0)) Missing)))) ∷ [])))
 
 bad_10_count : first (bad_in bad_10) ≡ at 145 184 ∷ []
 bad_10_count = refl

@@ -66,7 +66,7 @@ drawn_4 : flattened_at 0 (modul (v (codes "M") 7) (Input (v (codes "A") 16 ∷ v
     166 Halt))) ∷ modul (v (codes "N1") 186) (Input (v (codes "A") 196 ∷ []) ∷ Output (v (codes "O") 206 ∷ v (codes "P") 209 ∷ []) ∷ []) (s 212 238 (Par
     (stmts (s 212 218 (Emit (v (codes "O") 217)) ∷ s 222 228 (Emit (v (codes "O") 227)) ∷ s 232 238 (Emit (v (codes "P") 237)) ∷ [])))) ∷ []) ≡ Ok (made
     (codes "M") (codes "A" ∷ codes "B" ∷ codes "C" ∷ codes "V" ∷ codes "O" ∷ []) 3 1 1 [] (fs 50 113 (f.Every (f.Immediate (f.Sig 0)) (fs 71 109 (f.Await
-    (f.Plain (f.Square (f.Sig 1))) (f.Written (fs 84 105 (f.Seq (f.stmts (fs 84 90 (f.Emit 4) ∷ fs 92 97 f.Pause ∷ fs 99 105 (f.Emit 4) ∷ []))))))))))
+    (f.Plain (f.Sig 1)) (f.Written (fs 84 105 (f.Seq (f.stmts (fs 84 90 (f.Emit 4) ∷ fs 92 97 f.Pause ∷ fs 99 105 (f.Emit 4) ∷ []))))))))))
 unfolding flattening
 drawn_4 = refl
 
@@ -114,11 +114,11 @@ drawn_8 : flattened_at 0 (modul (v (codes "M") 7) (Input (v (codes "A") 16 ∷ v
     (MoreCases (And (exprs (Square (Or (exprs (And (exprs (Sig (v (codes "P") 150) ∷ Not (Sig (v (codes "A") 160)) ∷ [])) ∷ Sig (v (codes "P") 165) ∷ []))) ∷
     Sig (v (codes "B") 172) ∷ Not (Sig (v (codes "P") 182)) ∷ []))) (Written (s 187 193 (Emit (v (codes "P") 192)))) NoCases))))))))) (Written (s 207 230 (Seq
     (stmts (s 207 213 (Emit (v (codes "Q") 212)) ∷ s 215 221 (Emit (v (codes "P") 220)) ∷ s 223 230 Nothing ∷ []))))))) ∷ []) ≡ Ok (made (codes "M")
-    (codes "A" ∷ codes "B" ∷ codes "O" ∷ codes "P" ∷ codes "Q" ∷ []) 2 0 3 (r.Implies 1 0 ∷ r.Implies 1 1 ∷ []) (fs 63 234 (f.Present (f.Not (f.Round (f.Sig
-    0))) (f.Written (fs 84 201 (f.Await (f.Plain (f.Sig 4)) (f.Written (fs 95 197 (f.AwaitCase (f.MoreCases (f.Sig 4) (f.Written (fs 111 117 (f.Emit 3)))
-    (f.MoreCases (f.Not (f.Not (f.Sig 4))) (f.Written (fs 136 143 f.Nothing)) (f.MoreCases (f.And (f.exprs (f.Square (f.Or (f.exprs (f.And (f.exprs (f.Sig 3 ∷
-    f.Not (f.Sig 0) ∷ [])) ∷ f.Sig 3 ∷ []))) ∷ f.Sig 1 ∷ f.Not (f.Sig 3) ∷ []))) (f.Written (fs 187 193 (f.Emit 3))) f.NoCases))))))))) (f.Written (fs 207 230
-    (f.Seq (f.stmts (fs 207 213 (f.Emit 4) ∷ fs 215 221 (f.Emit 3) ∷ fs 223 230 f.Nothing ∷ []))))))))
+    (codes "A" ∷ codes "B" ∷ codes "O" ∷ codes "P" ∷ codes "Q" ∷ []) 2 0 3 (r.Implies 1 0 ∷ r.Implies 1 1 ∷ []) (fs 63 234 (f.Present (f.Not (f.Sig 0))
+    (f.Written (fs 84 201 (f.Await (f.Plain (f.Sig 4)) (f.Written (fs 95 197 (f.AwaitCase (f.MoreCases (f.Sig 4) (f.Written (fs 111 117 (f.Emit 3)))
+    (f.MoreCases (f.Not (f.Not (f.Sig 4))) (f.Written (fs 136 143 f.Nothing)) (f.MoreCases (f.And (f.exprs (f.Or (f.exprs (f.And (f.exprs (f.Sig 3 ∷ f.Not
+    (f.Sig 0) ∷ [])) ∷ f.Sig 3 ∷ [])) ∷ f.Sig 1 ∷ f.Not (f.Sig 3) ∷ []))) (f.Written (fs 187 193 (f.Emit 3))) f.NoCases))))))))) (f.Written (fs 207 230 (f.Seq
+    (f.stmts (fs 207 213 (f.Emit 4) ∷ fs 215 221 (f.Emit 3) ∷ fs 223 230 f.Nothing ∷ []))))))))
 unfolding flattening
 drawn_8 = refl
 
@@ -250,9 +250,8 @@ drawn_19 : flattened_at 0 (modul (v (codes "M") 7) (Output (v (codes "O") 17 ∷
     Missing (MoreCases (Or (exprs (Sig (v (codes "O") 94) ∷ Square (Sig (v (codes "P") 100)) ∷ []))) (Written (s 106 121 (Group (s 107 120 (Seq (stmts (s 107
     112 Pause ∷ s 114 120 (Emit (v (codes "P") 119)) ∷ []))))))) NoCases))))) ∷ []) ≡ Ok (made (codes "M") (codes "O" ∷ codes "P" ∷ codes "A" ∷ []) 0 0 3 []
     (fs 26 125 (f.AwaitCase (f.MoreCases (f.Sig 1) (f.Written (fs 42 62 (f.Seq (f.stmts (fs 42 48 (f.Emit 1) ∷ fs 50 55 f.Pause ∷ fs 57 62 f.Pause ∷ [])))))
-    (f.MoreCases (f.And (f.exprs (f.Round (f.Or (f.exprs (f.And (f.exprs (f.Sig 1 ∷ f.Sig 1 ∷ [])) ∷ f.Sig 0 ∷ []))) ∷ f.Sig 1 ∷ []))) f.Missing (f.MoreCases
-    (f.Or (f.exprs (f.Sig 0 ∷ f.Square (f.Sig 1) ∷ []))) (f.Written (fs 107 120 (f.Seq (f.stmts (fs 107 112 f.Pause ∷ fs 114 120 (f.Emit 1) ∷ [])))))
-    f.NoCases))))))
+    (f.MoreCases (f.And (f.exprs (f.Or (f.exprs (f.And (f.exprs (f.Sig 1 ∷ f.Sig 1 ∷ [])) ∷ f.Sig 0 ∷ [])) ∷ f.Sig 1 ∷ []))) f.Missing (f.MoreCases (f.Or
+    (f.exprs (f.Sig 0 ∷ f.Sig 1 ∷ []))) (f.Written (fs 107 120 (f.Seq (f.stmts (fs 107 112 f.Pause ∷ fs 114 120 (f.Emit 1) ∷ []))))) f.NoCases))))))
 unfolding flattening
 drawn_19 = refl
 
@@ -276,7 +275,7 @@ drawn_21 : flattened_at 0 (modul (v (codes "M") 7) (Input (v (codes "A") 16 ∷ 
     (Square (Sig (v (codes "V") 131)))))) ∷ modul (v (codes "N0") 152) (Input (v (codes "A") 162 ∷ []) ∷ Output (v (codes "O") 172 ∷ v (codes "P") 175 ∷ []) ∷
     []) (s 178 186 (Group (s 179 185 (Emit (v (codes "O") 184))))) ∷ []) ≡ Ok (made (codes "M") (codes "A" ∷ codes "B" ∷ codes "V" ∷ codes "W" ∷ codes "O" ∷
     codes "P" ∷ codes "Q" ∷ codes "R" ∷ []) 2 2 4 [] (fs 59 133 (f.WeakAbort (fs 70 124 (f.Await (f.Plain (f.Sig 0)) (f.Written (fs 81 120 (f.Present (f.Tick
-    (at 89 93)) (f.Written (fs 99 104 f.Pause)) (f.Written (fs 110 116 (f.Emit 4)))))))) (f.Plain (f.Square (f.Sig 2))))))
+    (at 89 93)) (f.Written (fs 99 104 f.Pause)) (f.Written (fs 110 116 (f.Emit 4)))))))) (f.Plain (f.Sig 2)))))
 unfolding flattening
 drawn_21 = refl
 
@@ -299,8 +298,8 @@ drawn_23 : flattened_at 0 (modul (v (codes "M") 7) (Output (v (codes "O") 17 ∷
     (codes "V") 164) ∷ Square (Or (exprs (And (exprs (Square (Sig (v (codes "V") 172)) ∷ Square (Sig (v (codes "P") 180)) ∷ [])) ∷ Round (Sig (v (codes "W")
     187)) ∷ []))) ∷ [])))))) ∷ [])))) ∷ []) ≡ Ok (made (codes "M") (codes "V" ∷ codes "W" ∷ codes "O" ∷ codes "P" ∷ codes "S" ∷ []) 0 2 2 (r.Implies 1 0 ∷ [])
     (fs 58 191 (f.Par (f.stmts (fs 58 93 (f.Abort (fs 64 70 (f.Emit 2)) (f.Count 2 (at 76 77) (f.Sig 1)) (f.Written (fs 83 89 (f.Emit 3)))) ∷ fs 97 119
-    (f.Signal (4 ∷ []) (fs 109 115 (f.Emit 0))) ∷ fs 123 191 (f.Suspend (fs 131 137 (f.Emit 2)) (f.Immediate (f.Square (f.And (f.exprs (f.Not (f.Sig 3) ∷
-    f.Sig 0 ∷ f.Square (f.Or (f.exprs (f.And (f.exprs (f.Square (f.Sig 0) ∷ f.Square (f.Sig 3) ∷ [])) ∷ f.Round (f.Sig 1) ∷ []))) ∷ [])))))) ∷ [])))))
+    (f.Signal (4 ∷ []) (fs 109 115 (f.Emit 0))) ∷ fs 123 191 (f.Suspend (fs 131 137 (f.Emit 2)) (f.Immediate (f.And (f.exprs (f.Not (f.Sig 3) ∷ f.Sig 0 ∷ f.Or
+    (f.exprs (f.And (f.exprs (f.Sig 0 ∷ f.Sig 3 ∷ [])) ∷ f.Sig 1 ∷ [])) ∷ []))))) ∷ [])))))
 unfolding flattening
 drawn_23 = refl
 
@@ -313,9 +312,9 @@ drawn_24 : flattened_at 0 (modul (v (codes "M") 7) (Output (v (codes "O") 17 ∷
     ∷ s 101 158 (Present (Sig (v (codes "B") 109)) Missing (Written (s 116 146 (Await (Count 1 (at 122 123) (Sig (v (codes "P") 124))) (Written (s 129 136
     Nothing)))))) ∷ [])))) ∷ modul (v (codes "N0") 177) [] (s 182 207 (Trap (v (codes "Tb") 187) (s 193 203 (Await (Plain (Tick (at 199 203))) Missing))
     NoHandler)) ∷ []) ≡ Ok (made (codes "M") (codes "A" ∷ codes "B" ∷ codes "C" ∷ codes "O" ∷ codes "P" ∷ codes "Q" ∷ []) 3 0 3 [] (fs 41 158 (f.Seq (f.stmts
-    (fs 41 99 (f.Every (f.Plain (f.Sig 1)) (fs 52 95 (f.PresentCase (f.MoreCases (f.Or (f.exprs (f.And (f.exprs (f.Sig 0 ∷ f.Sig 0 ∷ [])) ∷ f.Round (f.Tick
-    (at 77 81)) ∷ []))) (f.Written (fs 86 91 f.Pause)) f.NoCases) f.Missing))) ∷ fs 101 158 (f.Present (f.Sig 1) f.Missing (f.Written (fs 116 146 (f.Await
-    (f.Count 1 (at 122 123) (f.Sig 4)) (f.Written (fs 129 136 f.Nothing)))))) ∷ [])))))
+    (fs 41 99 (f.Every (f.Plain (f.Sig 1)) (fs 52 95 (f.PresentCase (f.MoreCases (f.Or (f.exprs (f.And (f.exprs (f.Sig 0 ∷ f.Sig 0 ∷ [])) ∷ f.Tick (at 77 81)
+    ∷ []))) (f.Written (fs 86 91 f.Pause)) f.NoCases) f.Missing))) ∷ fs 101 158 (f.Present (f.Sig 1) f.Missing (f.Written (fs 116 146 (f.Await (f.Count 1 (at
+    122 123) (f.Sig 4)) (f.Written (fs 129 136 f.Nothing)))))) ∷ [])))))
 unfolding flattening
 drawn_24 = refl
 
@@ -366,9 +365,9 @@ drawn_29 : flattened_at 0 (modul (v (codes "M") 7) (Input (v (codes "A") 16 ∷ 
     (v (codes "A") 62)))) ∷ []))) (Written (s 71 88 (Await (Immediate (Sig (v (codes "O") 87))) Missing))) Missing) ∷ s 96 124 (Loop (s 101 115 (Seq (stmts (s
     101 106 Pause ∷ s 108 115 (Group (s 109 114 Pause)) ∷ []))))) ∷ [])))) ∷ modul (v (codes "N0") 143) (Input (v (codes "A") 153 ∷ v (codes "B") 156 ∷ []) ∷
     Output (v (codes "O") 166 ∷ []) ∷ []) (s 169 181 (Seq (stmts (s 169 174 Pause ∷ s 176 181 Pause ∷ [])))) ∷ []) ≡ Ok (made (codes "M") (codes "A" ∷
-    codes "O" ∷ codes "P" ∷ codes "Q" ∷ []) 1 0 3 [] (fs 35 124 (f.Par (f.stmts (fs 35 92 (f.Present (f.Or (f.exprs (f.And (f.exprs (f.Square (f.Sig 1) ∷
-    f.Sig 3 ∷ [])) ∷ f.Square (f.Not (f.Square (f.Sig 0))) ∷ []))) (f.Written (fs 71 88 (f.Await (f.Immediate (f.Sig 1)) f.Missing))) f.Missing) ∷ fs 96 124
-    (f.Loop (fs 101 115 (f.Seq (f.stmts (fs 101 106 f.Pause ∷ fs 109 114 f.Pause ∷ []))))) ∷ [])))))
+    codes "O" ∷ codes "P" ∷ codes "Q" ∷ []) 1 0 3 [] (fs 35 124 (f.Par (f.stmts (fs 35 92 (f.Present (f.Or (f.exprs (f.And (f.exprs (f.Sig 1 ∷ f.Sig 3 ∷ []))
+    ∷ f.Not (f.Sig 0) ∷ []))) (f.Written (fs 71 88 (f.Await (f.Immediate (f.Sig 1)) f.Missing))) f.Missing) ∷ fs 96 124 (f.Loop (fs 101 115 (f.Seq (f.stmts
+    (fs 101 106 f.Pause ∷ fs 109 114 f.Pause ∷ []))))) ∷ [])))))
 unfolding flattening
 drawn_29 = refl
 
@@ -393,7 +392,7 @@ drawn_31 : flattened_at 0 (modul (v (codes "M") 7) (Input (v (codes "A") 16 ∷ 
     (s 73 133 (Trap (v (codes "Tb") 78) (s 84 110 (WeakAbort (s 95 101 (Emit (v (codes "P") 100))) (Plain (Square (Sig (v (codes "O") 108)))))) (Handled (v
     (codes "Tb") 118) (s 124 129 Pause)))) ∷ modul (v (codes "N0") 152) (Input (v (codes "A") 162 ∷ []) ∷ []) (s 165 172 Nothing) ∷ []) ≡ Ok (made (codes "M")
     (codes "A" ∷ codes "B" ∷ codes "V" ∷ codes "O" ∷ codes "P" ∷ codes "Q" ∷ []) 2 1 3 (r.Excludes (1 ∷ 2 ∷ 0 ∷ []) ∷ []) (fs 73 133 (f.Trap (fs 84 110
-    (f.WeakAbort (fs 95 101 (f.Emit 4)) (f.Plain (f.Square (f.Sig 3))))) (f.Written (fs 124 129 f.Pause)))))
+    (f.WeakAbort (fs 95 101 (f.Emit 4)) (f.Plain (f.Sig 3)))) (f.Written (fs 124 129 f.Pause)))))
 unfolding flattening
 drawn_31 = refl
 
@@ -431,7 +430,7 @@ drawn_34 : flattened_at 0 (modul (v (codes "M") 7) (Output (v (codes "O") 17 ∷
     [])))) NoHandler) ∷ s 81 120 (Present (Sig (v (codes "P") 89)) Missing (Written (s 96 108 (Await (Plain (Square (Tick (at 103 107)))) Missing)))) ∷ []))))
     ∷ []) ≡ Ok (made (codes "M") (codes "O" ∷ codes "P" ∷ []) 0 0 2 [] (fs 23 120 (f.Seq (f.stmts (fs 23 47 (f.Repeat 3 (at 30 31) (fs 38 43 f.Pause)) ∷ fs 49
     79 (f.Trap (fs 59 75 (f.Par (f.stmts (fs 59 64 f.Pause ∷ fs 68 75 (f.Await (f.Plain (f.Sig 0)) f.Missing) ∷ [])))) f.Missing) ∷ fs 81 120 (f.Present
-    (f.Sig 1) f.Missing (f.Written (fs 96 108 (f.Await (f.Plain (f.Square (f.Tick (at 103 107)))) f.Missing)))) ∷ [])))))
+    (f.Sig 1) f.Missing (f.Written (fs 96 108 (f.Await (f.Plain (f.Tick (at 103 107))) f.Missing)))) ∷ [])))))
 unfolding flattening
 drawn_34 = refl
 
@@ -479,10 +478,10 @@ drawn_38 : flattened_at 0 (modul (v (codes "M") 7) (Input (v (codes "A") 16 ∷ 
     185 190 Pause)) ∷ [])))))) (Plain (Sig (v (codes "V") 218))))) (MoreCases (Not (Sig (v (codes "C") 234))) (Written (s 239 246 Nothing)) NoCases)))) ∷ s
     253 258 Pause ∷ [])))))) ∷ []) ≡ Ok (made (codes "M") (codes "A" ∷ codes "B" ∷ codes "C" ∷ codes "V" ∷ codes "O" ∷ codes "P" ∷ codes "X" ∷ codes "S2" ∷
     []) 3 1 2 (r.Excludes (0 ∷ 1 ∷ 2 ∷ []) ∷ []) (fs 73 267 (f.Loop (fs 78 258 (f.Seq (f.stmts (fs 79 250 (f.AbortCase (fs 85 219 (f.LoopEach (fs 90 212
-    (f.Signal (6 ∷ []) (fs 102 201 (f.Seq (f.stmts (fs 102 170 (f.PresentCase (f.MoreCases (f.Tick (at 115 119)) f.Missing (f.MoreCases (f.Not (f.Square
-    (f.Sig 1))) (f.Written (fs 136 141 f.Pause)) (f.MoreCases (f.Sig 4) (f.Written (fs 152 158 (f.Emit 6))) f.NoCases))) f.Missing) ∷ fs 172 201 (f.Signal (7
-    ∷ []) (fs 185 190 f.Pause)) ∷ [])))))) (f.Plain (f.Sig 3)))) (f.MoreCases (f.Not (f.Sig 2)) (f.Written (fs 239 246 f.Nothing)) f.NoCases)) ∷ fs 253 258
-    f.Pause ∷ [])))))))
+    (f.Signal (6 ∷ []) (fs 102 201 (f.Seq (f.stmts (fs 102 170 (f.PresentCase (f.MoreCases (f.Tick (at 115 119)) f.Missing (f.MoreCases (f.Not (f.Sig 1))
+    (f.Written (fs 136 141 f.Pause)) (f.MoreCases (f.Sig 4) (f.Written (fs 152 158 (f.Emit 6))) f.NoCases))) f.Missing) ∷ fs 172 201 (f.Signal (7 ∷ []) (fs
+    185 190 f.Pause)) ∷ [])))))) (f.Plain (f.Sig 3)))) (f.MoreCases (f.Not (f.Sig 2)) (f.Written (fs 239 246 f.Nothing)) f.NoCases)) ∷ fs 253 258 f.Pause ∷
+    [])))))))
 unfolding flattening
 drawn_38 = refl
 
@@ -567,9 +566,8 @@ drawn_46 : flattened_at 0 (modul (v (codes "M") 7) (Output (v (codes "O") 17 ∷
     (codes "V") 109)) ∷ s 114 143 (Await (Plain (Square (And (exprs (Sig (v (codes "O") 121) ∷ Square (And (exprs (Sig (v (codes "V") 128) ∷ Sig (v
     (codes "V") 134) ∷ []))) ∷ Sig (v (codes "O") 141) ∷ []))))) Missing) ∷ [])))) (Plain (Sig (v (codes "O") 149)))) ∷ [])))) ∷ []) ≡ Ok (made (codes "M")
     (codes "V" ∷ codes "W" ∷ codes "O" ∷ []) 0 2 1 (r.Excludes (0 ∷ 1 ∷ []) ∷ r.Excludes (1 ∷ 0 ∷ []) ∷ []) (fs 61 151 (f.Seq (f.stmts (fs 61 88 (f.Present
-    (f.Not (f.Square (f.Sig 0))) f.Missing f.Missing) ∷ fs 90 150 (f.LoopEach (fs 95 143 (f.Par (f.stmts (fs 95 100 f.Pause ∷ fs 104 110 (f.Emit 0) ∷ fs 114
-    143 (f.Await (f.Plain (f.Square (f.And (f.exprs (f.Sig 2 ∷ f.Square (f.And (f.exprs (f.Sig 0 ∷ f.Sig 0 ∷ []))) ∷ f.Sig 2 ∷ []))))) f.Missing) ∷ []))))
-    (f.Plain (f.Sig 2))) ∷ [])))))
+    (f.Not (f.Sig 0)) f.Missing f.Missing) ∷ fs 90 150 (f.LoopEach (fs 95 143 (f.Par (f.stmts (fs 95 100 f.Pause ∷ fs 104 110 (f.Emit 0) ∷ fs 114 143 (f.Await
+    (f.Plain (f.And (f.exprs (f.Sig 2 ∷ f.And (f.exprs (f.Sig 0 ∷ f.Sig 0 ∷ [])) ∷ f.Sig 2 ∷ [])))) f.Missing) ∷ [])))) (f.Plain (f.Sig 2))) ∷ [])))))
 unfolding flattening
 drawn_46 = refl
 
@@ -597,11 +595,11 @@ drawn_48 : flattened_at 0 (modul (v (codes "M") 7) (Input (v (codes "A") 16 ∷ 
     113 118 Pause ∷ []))))))) ∷ s 130 199 (PresentCase (MoreCases (Sig (v (codes "A") 143)) (Written (s 148 154 (Emit (v (codes "O") 153)))) (MoreCases (Not
     (Square (Or (exprs (And (exprs (Square (Sig (v (codes "B") 166)) ∷ Sig (v (codes "P") 173) ∷ [])) ∷ Not (Sig (v (codes "O") 182)) ∷ []))))) (Written (s
     188 195 (Await (Plain (Sig (v (codes "A") 194))) Missing))) NoCases)) Missing) ∷ [])))) ∷ []) ≡ Ok (made (codes "M") (codes "A" ∷ codes "B" ∷ codes "O" ∷
-    codes "P" ∷ codes "Q" ∷ []) 2 0 3 [] (fs 38 199 (f.Par (f.stmts (fs 38 126 (f.Every (f.Plain (f.Square (f.Not (f.Round (f.Sig 4))))) (fs 57 122 (f.Every
-    (f.Plain (f.Square (f.Or (f.exprs (f.And (f.exprs (f.Round (f.And (f.exprs (f.Sig 4 ∷ f.Sig 1 ∷ f.Round (f.Sig 2) ∷ []))) ∷ f.Round (f.Sig 3) ∷ [])) ∷
-    f.Round (f.Or (f.exprs (f.Sig 0 ∷ f.Sig 0 ∷ []))) ∷ []))))) (fs 106 118 (f.Seq (f.stmts (fs 106 111 f.Pause ∷ fs 113 118 f.Pause ∷ []))))))) ∷ fs 130 199
-    (f.PresentCase (f.MoreCases (f.Sig 0) (f.Written (fs 148 154 (f.Emit 2))) (f.MoreCases (f.Not (f.Square (f.Or (f.exprs (f.And (f.exprs (f.Square (f.Sig 1)
-    ∷ f.Sig 3 ∷ [])) ∷ f.Not (f.Sig 2) ∷ []))))) (f.Written (fs 188 195 (f.Await (f.Plain (f.Sig 0)) f.Missing))) f.NoCases)) f.Missing) ∷ [])))))
+    codes "P" ∷ codes "Q" ∷ []) 2 0 3 [] (fs 38 199 (f.Par (f.stmts (fs 38 126 (f.Every (f.Plain (f.Not (f.Sig 4))) (fs 57 122 (f.Every (f.Plain (f.Or
+    (f.exprs (f.And (f.exprs (f.And (f.exprs (f.Sig 4 ∷ f.Sig 1 ∷ f.Sig 2 ∷ [])) ∷ f.Sig 3 ∷ [])) ∷ f.Or (f.exprs (f.Sig 0 ∷ f.Sig 0 ∷ [])) ∷ [])))) (fs 106
+    118 (f.Seq (f.stmts (fs 106 111 f.Pause ∷ fs 113 118 f.Pause ∷ []))))))) ∷ fs 130 199 (f.PresentCase (f.MoreCases (f.Sig 0) (f.Written (fs 148 154 (f.Emit
+    2))) (f.MoreCases (f.Not (f.Or (f.exprs (f.And (f.exprs (f.Sig 1 ∷ f.Sig 3 ∷ [])) ∷ f.Not (f.Sig 2) ∷ [])))) (f.Written (fs 188 195 (f.Await (f.Plain
+    (f.Sig 0)) f.Missing))) f.NoCases)) f.Missing) ∷ [])))))
 unfolding flattening
 drawn_48 = refl
 
@@ -611,7 +609,7 @@ drawn_49 : flattened_at 0 (modul (v (codes "M") 7) (Input (v (codes "A") 16 ∷ 
     (codes "O") 35 ∷ v (codes "P") 38 ∷ v (codes "Q") 41 ∷ []) ∷ InputOutput (v (codes "V") 56 ∷ v (codes "W") 59 ∷ []) ∷ []) (s 62 98 (Par (stmts (s 62 81
     (Loop (s 67 72 Pause)) ∷ s 85 98 (Await (Plain (Square (Not (Sig (v (codes "A") 96))))) Missing) ∷ [])))) ∷ []) ≡ Ok (made (codes "M") (codes "A" ∷
     codes "B" ∷ codes "C" ∷ codes "D" ∷ codes "V" ∷ codes "W" ∷ codes "O" ∷ codes "P" ∷ codes "Q" ∷ []) 4 2 3 [] (fs 62 98 (f.Par (f.stmts (fs 62 81 (f.Loop
-    (fs 67 72 f.Pause)) ∷ fs 85 98 (f.Await (f.Plain (f.Square (f.Not (f.Sig 0)))) f.Missing) ∷ [])))))
+    (fs 67 72 f.Pause)) ∷ fs 85 98 (f.Await (f.Plain (f.Not (f.Sig 0))) f.Missing) ∷ [])))))
 unfolding flattening
 drawn_49 = refl
 
@@ -728,7 +726,7 @@ drawn_59 = refl
 drawn_60 : flattened_at 0 (modul (v (codes "M") 7) (Output (v (codes "O") 17 ∷ v (codes "P") 20 ∷ []) ∷ Input (v (codes "A") 29 ∷ v (codes "B") 32 ∷ v
     (codes "C") 35 ∷ []) ∷ []) (s 38 83 (Present (And (exprs (Sig (v (codes "C") 46) ∷ Round (Not (Sig (v (codes "P") 57))) ∷ []))) (Written (s 65 71 (Emit (v
     (codes "P") 70)))) Missing)) ∷ []) ≡ Ok (made (codes "M") (codes "A" ∷ codes "B" ∷ codes "C" ∷ codes "O" ∷ codes "P" ∷ []) 3 0 2 [] (fs 38 83 (f.Present
-    (f.And (f.exprs (f.Sig 2 ∷ f.Round (f.Not (f.Sig 4)) ∷ []))) (f.Written (fs 65 71 (f.Emit 4))) f.Missing)))
+    (f.And (f.exprs (f.Sig 2 ∷ f.Not (f.Sig 4) ∷ []))) (f.Written (fs 65 71 (f.Emit 4))) f.Missing)))
 unfolding flattening
 drawn_60 = refl
 
@@ -766,10 +764,9 @@ drawn_63 : flattened_at 0 (modul (v (codes "M") 7) (Input (v (codes "A") 16 ∷ 
     (And (exprs (Sig (v (codes "P") 146) ∷ Round (Sig (v (codes "V") 153)) ∷ Sig (v (codes "P") 160) ∷ []))) (Written (s 165 171 (Emit (v (codes "O") 170))))
     NoCases))) ∷ s 185 210 (Present (Sig (v (codes "B") 193)) (Written (s 200 206 (Emit (v (codes "O") 205)))) Missing) ∷ [])))) ∷ []) ≡ Ok (made (codes "M")
     (codes "A" ∷ codes "B" ∷ codes "V" ∷ codes "O" ∷ codes "P" ∷ []) 2 1 2 [] (fs 50 210 (f.Par (f.stmts (fs 50 72 (f.Every (f.Plain (f.Sig 3)) (fs 61 68
-    f.Nothing)) ∷ fs 76 181 (f.AbortCase (fs 82 92 (f.Await (f.Plain (f.Tick (at 88 92))) f.Missing)) (f.MoreCases (f.And (f.exprs (f.Square (f.Sig 4) ∷
-    f.Round (f.And (f.exprs (f.Square (f.Sig 2) ∷ f.Round (f.Sig 1) ∷ f.Sig 4 ∷ []))) ∷ []))) (f.Written (fs 134 140 (f.Emit 3))) (f.MoreCases (f.And (f.exprs
-    (f.Sig 4 ∷ f.Round (f.Sig 2) ∷ f.Sig 4 ∷ []))) (f.Written (fs 165 171 (f.Emit 3))) f.NoCases))) ∷ fs 185 210 (f.Present (f.Sig 1) (f.Written (fs 200 206
-    (f.Emit 3))) f.Missing) ∷ [])))))
+    f.Nothing)) ∷ fs 76 181 (f.AbortCase (fs 82 92 (f.Await (f.Plain (f.Tick (at 88 92))) f.Missing)) (f.MoreCases (f.And (f.exprs (f.Sig 4 ∷ f.And (f.exprs
+    (f.Sig 2 ∷ f.Sig 1 ∷ f.Sig 4 ∷ [])) ∷ []))) (f.Written (fs 134 140 (f.Emit 3))) (f.MoreCases (f.And (f.exprs (f.Sig 4 ∷ f.Sig 2 ∷ f.Sig 4 ∷ [])))
+    (f.Written (fs 165 171 (f.Emit 3))) f.NoCases))) ∷ fs 185 210 (f.Present (f.Sig 1) (f.Written (fs 200 206 (f.Emit 3))) f.Missing) ∷ [])))))
 unfolding flattening
 drawn_63 = refl
 
@@ -795,10 +792,10 @@ drawn_65 : flattened_at 0 (modul (v (codes "M") 7) (Input (v (codes "A") 16 ∷ 
     (codes "O") 114)))) (Written (s 121 127 (Exit (v (codes "T") 126)))))) (Plain (Sig (v (codes "A") 145))))) NoHandler) ∷ s 154 188 (Loop (s 159 184 (Seq
     (stmts (s 159 164 Pause ∷ s 166 184 (Group (s 167 183 (Seq (stmts (s 167 174 (Await (Plain (Sig (v (codes "O") 173))) Missing) ∷ s 176 182 (Emit (v
     (codes "O") 181)) ∷ []))))) ∷ []))))) ∷ [])))) ∷ []) ≡ Ok (made (codes "M") (codes "A" ∷ codes "B" ∷ codes "C" ∷ codes "V" ∷ codes "W" ∷ codes "O" ∷ []) 3
-    2 1 [] (fs 53 188 (f.Par (f.stmts (fs 53 150 (f.Trap (fs 63 146 (f.WeakAbort (fs 74 139 (f.Present (f.Or (f.exprs (f.Not (f.Round (f.Not (f.Sig 1))) ∷
-    f.Sig 0 ∷ f.Sig 1 ∷ []))) (f.Written (fs 109 115 (f.Emit 5))) (f.Written (fs 121 127 (f.Exit 0))))) (f.Plain (f.Sig 0)))) f.Missing) ∷ fs 154 188 (f.Loop
-    (fs 159 184 (f.Seq (f.stmts (fs 159 164 f.Pause ∷ fs 167 183 (f.Seq (f.stmts (fs 167 174 (f.Await (f.Plain (f.Sig 5)) f.Missing) ∷ fs 176 182 (f.Emit 5) ∷
-    []))) ∷ []))))) ∷ [])))))
+    2 1 [] (fs 53 188 (f.Par (f.stmts (fs 53 150 (f.Trap (fs 63 146 (f.WeakAbort (fs 74 139 (f.Present (f.Or (f.exprs (f.Not (f.Not (f.Sig 1)) ∷ f.Sig 0 ∷
+    f.Sig 1 ∷ []))) (f.Written (fs 109 115 (f.Emit 5))) (f.Written (fs 121 127 (f.Exit 0))))) (f.Plain (f.Sig 0)))) f.Missing) ∷ fs 154 188 (f.Loop (fs 159
+    184 (f.Seq (f.stmts (fs 159 164 f.Pause ∷ fs 167 183 (f.Seq (f.stmts (fs 167 174 (f.Await (f.Plain (f.Sig 5)) f.Missing) ∷ fs 176 182 (f.Emit 5) ∷ []))) ∷
+    []))))) ∷ [])))))
 unfolding flattening
 drawn_65 = refl
 
@@ -924,9 +921,9 @@ drawn_75 : flattened_at 0 (modul (v (codes "M") 7) (Input (v (codes "A") 16 ∷ 
     (codes "A") 126))))) (Plain (Square (Sig (v (codes "B") 134)))))) (Plain (Sig (v (codes "A") 142)))) ∷ s 145 197 (Trap (v (codes "Tb") 150) (s 156 188
     (Suspend (s 164 171 (Exit (v (codes "Tb") 169))) (Immediate (Sig (v (codes "A") 187))))) NoHandler) ∷ [])))) ∷ []) ≡ Ok (made (codes "M") (codes "A" ∷
     codes "B" ∷ []) 2 0 0 (r.Excludes (0 ∷ 1 ∷ []) ∷ []) (fs 38 197 (f.Seq (f.stmts (fs 38 143 (f.WeakAbort (fs 49 136 (f.WeakAbort (fs 60 127 (f.WeakAbort
-    (fs 71 120 (f.WeakAbort (fs 82 89 f.Nothing) (f.Plain (f.Square (f.Or (f.exprs (f.Round (f.Sig 1) ∷ f.Not (f.Round (f.Not (f.Sig 1))) ∷ f.Sig 1 ∷
-    []))))))) (f.Plain (f.Sig 0)))) (f.Plain (f.Square (f.Sig 1))))) (f.Plain (f.Sig 0))) ∷ fs 145 197 (f.Trap (fs 156 188 (f.Suspend (fs 164 171 (f.Exit 0))
-    (f.Immediate (f.Sig 0)))) f.Missing) ∷ [])))))
+    (fs 71 120 (f.WeakAbort (fs 82 89 f.Nothing) (f.Plain (f.Or (f.exprs (f.Sig 1 ∷ f.Not (f.Not (f.Sig 1)) ∷ f.Sig 1 ∷ [])))))) (f.Plain (f.Sig 0))))
+    (f.Plain (f.Sig 1)))) (f.Plain (f.Sig 0))) ∷ fs 145 197 (f.Trap (fs 156 188 (f.Suspend (fs 164 171 (f.Exit 0)) (f.Immediate (f.Sig 0)))) f.Missing) ∷
+    [])))))
 unfolding flattening
 drawn_75 = refl
 
@@ -973,9 +970,9 @@ drawn_78 = refl
 drawn_79 : flattened_at 0 (modul (v (codes "M") 7) (Input (v (codes "A") 16 ∷ []) ∷ []) (s 19 97 (Signal (v (codes "S") 26 ∷ []) (s 31 86 (Present (Or (exprs
     (And (exprs (Round (And (exprs (Round (Sig (v (codes "A") 41)) ∷ Sig (v (codes "S") 48) ∷ []))) ∷ Not (Sig (v (codes "A") 59)) ∷ [])) ∷ Round (Or (exprs
     (And (exprs (Round (Sig (v (codes "A") 66)) ∷ Round (Sig (v (codes "S") 74)) ∷ [])) ∷ Sig (v (codes "A") 80) ∷ []))) ∷ []))) Missing Missing)))) ∷ []) ≡
-    Ok (made (codes "M") (codes "A" ∷ codes "S" ∷ []) 1 0 0 [] (fs 19 97 (f.Signal (1 ∷ []) (fs 31 86 (f.Present (f.Or (f.exprs (f.And (f.exprs (f.Round
-    (f.And (f.exprs (f.Round (f.Sig 0) ∷ f.Sig 1 ∷ []))) ∷ f.Not (f.Sig 0) ∷ [])) ∷ f.Round (f.Or (f.exprs (f.And (f.exprs (f.Round (f.Sig 0) ∷ f.Round (f.Sig
-    1) ∷ [])) ∷ f.Sig 0 ∷ []))) ∷ []))) f.Missing f.Missing)))))
+    Ok (made (codes "M") (codes "A" ∷ codes "S" ∷ []) 1 0 0 [] (fs 19 97 (f.Signal (1 ∷ []) (fs 31 86 (f.Present (f.Or (f.exprs (f.And (f.exprs (f.And
+    (f.exprs (f.Sig 0 ∷ f.Sig 1 ∷ [])) ∷ f.Not (f.Sig 0) ∷ [])) ∷ f.Or (f.exprs (f.And (f.exprs (f.Sig 0 ∷ f.Sig 1 ∷ [])) ∷ f.Sig 0 ∷ [])) ∷ []))) f.Missing
+    f.Missing)))))
 unfolding flattening
 drawn_79 = refl
 
@@ -1041,8 +1038,8 @@ drawn_84 : flattened_at 0 (modul (v (codes "M") 7) (Input (v (codes "A") 16 ∷ 
     ∷ Sig (v (codes "B") 133) ∷ []))) (Written (s 138 143 Pause)) NoCases)))))) (Plain (Tick (at 163 167))))))) NoHandler)) ∷ []) ≡ Ok (made (codes "M")
     (codes "A" ∷ codes "B" ∷ codes "C" ∷ codes "O" ∷ codes "P" ∷ codes "Q" ∷ codes "R" ∷ codes "S" ∷ []) 3 0 4 [] (fs 44 175 (f.Trap (fs 54 171 (f.Every
     (f.Plain (f.Sig 5)) (fs 65 167 (f.WeakAbort (fs 76 157 (f.Signal (7 ∷ []) (fs 88 153 (f.AwaitCase (f.MoreCases (f.Tick (at 99 103)) f.Missing (f.MoreCases
-    (f.Or (f.exprs (f.And (f.exprs (f.Sig 7 ∷ f.Round (f.Or (f.exprs (f.And (f.exprs (f.Sig 7 ∷ f.Sig 2 ∷ [])) ∷ f.Sig 1 ∷ []))) ∷ [])) ∷ f.Sig 1 ∷ [])))
-    (f.Written (fs 138 143 f.Pause)) f.NoCases)))))) (f.Plain (f.Tick (at 163 167))))))) f.Missing)))
+    (f.Or (f.exprs (f.And (f.exprs (f.Sig 7 ∷ f.Or (f.exprs (f.And (f.exprs (f.Sig 7 ∷ f.Sig 2 ∷ [])) ∷ f.Sig 1 ∷ [])) ∷ [])) ∷ f.Sig 1 ∷ []))) (f.Written (fs
+    138 143 f.Pause)) f.NoCases)))))) (f.Plain (f.Tick (at 163 167))))))) f.Missing)))
 unfolding flattening
 drawn_84 = refl
 
@@ -1069,8 +1066,8 @@ drawn_86 : flattened_at 0 (modul (v (codes "M") 7) (Output (v (codes "O") 17 ∷
     ∷ []) ≡ Ok (made (codes "M") (codes "EE" ∷ codes "V" ∷ codes "O" ∷ codes "P" ∷ codes "Q" ∷ codes "X" ∷ codes "S3" ∷ codes "Y3" ∷ []) 1 1 3 [] (fs 51 278
     (f.Trap (fs 61 224 (f.WeakAbort (fs 72 214 (f.Par (f.stmts (fs 72 148 (f.Signal (5 ∷ []) (fs 84 144 (f.Signal (6 ∷ 7 ∷ []) (fs 101 140 (f.Trap (fs 111 116
     f.Pause) (f.Written (fs 129 136 (f.Emit 6)))))))) ∷ fs 152 214 (f.Trap (fs 163 210 (f.Abort (fs 169 182 (f.Seq (f.stmts (fs 169 175 (f.Emit 4) ∷ fs 177
-    182 f.Pause ∷ [])))) (f.Plain (f.Square (f.Not (f.Round (f.Sig 1))))) (f.Written (fs 201 206 f.Pause)))) f.Missing) ∷ [])))) (f.Plain (f.Tick (at 220
-    224))))) (f.Written (fs 237 274 (f.Present (f.Sig 2) (f.Written (fs 252 259 f.Nothing)) (f.Written (fs 265 270 f.Pause))))))))
+    182 f.Pause ∷ [])))) (f.Plain (f.Not (f.Sig 1))) (f.Written (fs 201 206 f.Pause)))) f.Missing) ∷ [])))) (f.Plain (f.Tick (at 220 224))))) (f.Written (fs
+    237 274 (f.Present (f.Sig 2) (f.Written (fs 252 259 f.Nothing)) (f.Written (fs 265 270 f.Pause))))))))
 unfolding flattening
 drawn_86 = refl
 
@@ -1080,8 +1077,8 @@ drawn_87 : flattened_at 0 (modul (v (codes "M") 7) (InputOutput (v (codes "V") 2
     ∷ []) (s 41 123 (WeakAbort (s 52 116 (Present (Or (exprs (Round (Not (Not (Sig (v (codes "P") 69)))) ∷ Round (And (exprs (Sig (v (codes "V") 76) ∷ Sig (v
     (codes "V") 82) ∷ []))) ∷ []))) (Written (s 90 112 (Seq (stmts (s 90 97 Nothing ∷ s 99 105 (Emit (v (codes "O") 104)) ∷ s 107 112 Pause ∷ [])))))
     Missing)) (Plain (Sig (v (codes "P") 122))))) ∷ []) ≡ Ok (made (codes "M") (codes "V" ∷ codes "O" ∷ codes "P" ∷ codes "Q" ∷ []) 0 1 3 [] (fs 41 123
-    (f.WeakAbort (fs 52 116 (f.Present (f.Or (f.exprs (f.Round (f.Not (f.Not (f.Sig 2))) ∷ f.Round (f.And (f.exprs (f.Sig 0 ∷ f.Sig 0 ∷ []))) ∷ [])))
-    (f.Written (fs 90 112 (f.Seq (f.stmts (fs 90 97 f.Nothing ∷ fs 99 105 (f.Emit 1) ∷ fs 107 112 f.Pause ∷ []))))) f.Missing)) (f.Plain (f.Sig 2)))))
+    (f.WeakAbort (fs 52 116 (f.Present (f.Or (f.exprs (f.Not (f.Not (f.Sig 2)) ∷ f.And (f.exprs (f.Sig 0 ∷ f.Sig 0 ∷ [])) ∷ []))) (f.Written (fs 90 112 (f.Seq
+    (f.stmts (fs 90 97 f.Nothing ∷ fs 99 105 (f.Emit 1) ∷ fs 107 112 f.Pause ∷ []))))) f.Missing)) (f.Plain (f.Sig 2)))))
 unfolding flattening
 drawn_87 = refl
 
@@ -1103,9 +1100,9 @@ drawn_89 : flattened_at 0 (modul (v (codes "M") 7) (Input (v (codes "A") 16 ∷ 
     (codes "V") 93) ∷ []))) Missing NoCases)) (Written (s 100 105 Pause))) ∷ s 111 164 (Trap (v (codes "U") 116) (s 121 142 (Seq (stmts (s 121 127 (Emit (v
     (codes "O") 126)) ∷ s 129 134 Pause ∷ s 136 142 (Exit (v (codes "U") 141)) ∷ [])))) (Handled (v (codes "U") 150) (s 155 160 Pause))) ∷ [])))))) ∷ []) ≡ Ok
     (made (codes "M") (codes "A" ∷ codes "B" ∷ codes "C" ∷ codes "V" ∷ codes "O" ∷ codes "P" ∷ []) 3 1 2 [] (fs 54 164 (f.Seq (f.stmts (fs 54 109
-    (f.PresentCase (f.MoreCases (f.Sig 0) f.Missing (f.MoreCases (f.Or (f.exprs (f.And (f.exprs (f.Square (f.Not (f.Square (f.Sig 5))) ∷ f.Sig 4 ∷ [])) ∷
-    f.Sig 3 ∷ []))) f.Missing f.NoCases)) (f.Written (fs 100 105 f.Pause))) ∷ fs 111 164 (f.Trap (fs 121 142 (f.Seq (f.stmts (fs 121 127 (f.Emit 4) ∷ fs 129
-    134 f.Pause ∷ fs 136 142 (f.Exit 0) ∷ [])))) (f.Written (fs 155 160 f.Pause))) ∷ [])))))
+    (f.PresentCase (f.MoreCases (f.Sig 0) f.Missing (f.MoreCases (f.Or (f.exprs (f.And (f.exprs (f.Not (f.Sig 5) ∷ f.Sig 4 ∷ [])) ∷ f.Sig 3 ∷ []))) f.Missing
+    f.NoCases)) (f.Written (fs 100 105 f.Pause))) ∷ fs 111 164 (f.Trap (fs 121 142 (f.Seq (f.stmts (fs 121 127 (f.Emit 4) ∷ fs 129 134 f.Pause ∷ fs 136 142
+    (f.Exit 0) ∷ [])))) (f.Written (fs 155 160 f.Pause))) ∷ [])))))
 unfolding flattening
 drawn_89 = refl
 
@@ -1152,10 +1149,10 @@ drawn_93 : flattened_at 0 (modul (v (codes "M") 7) (Input (v (codes "A") 16 ∷ 
     (MoreCases (Not (Round (And (exprs (Sig (v (codes "O") 157) ∷ Sig (v (codes "X") 163) ∷ Not (Sig (v (codes "C") 173)) ∷ []))))) (Written (s 179 184
     Pause)) (MoreCases (Sig (v (codes "B") 190)) Missing NoCases)))) (Count 4 (at 201 202) (Sig (v (codes "X") 203)))) ∷ [])))))))) ∷ []) ≡ Ok (made
     (codes "M") (codes "A" ∷ codes "B" ∷ codes "C" ∷ codes "D" ∷ codes "V" ∷ codes "O" ∷ codes "P" ∷ codes "X" ∷ []) 4 1 2 [] (fs 56 216 (f.Signal (7 ∷ [])
-    (fs 69 204 (f.Seq (f.stmts (fs 69 113 (f.Present (f.Or (f.exprs (f.Sig 0 ∷ f.Square (f.Sig 1) ∷ []))) (f.Written (fs 91 98 (f.Await (f.Plain (f.Sig 7))
-    f.Missing))) (f.Written (fs 104 109 f.Pause))) ∷ fs 115 204 (f.WeakAbort (fs 126 195 (f.AbortCase (fs 132 141 (f.Sustain 5)) (f.MoreCases (f.Not (f.Round
-    (f.And (f.exprs (f.Sig 5 ∷ f.Sig 7 ∷ f.Not (f.Sig 2) ∷ []))))) (f.Written (fs 179 184 f.Pause)) (f.MoreCases (f.Sig 1) f.Missing f.NoCases)))) (f.Count 4
-    (at 201 202) (f.Sig 7))) ∷ [])))))))
+    (fs 69 204 (f.Seq (f.stmts (fs 69 113 (f.Present (f.Or (f.exprs (f.Sig 0 ∷ f.Sig 1 ∷ []))) (f.Written (fs 91 98 (f.Await (f.Plain (f.Sig 7)) f.Missing)))
+    (f.Written (fs 104 109 f.Pause))) ∷ fs 115 204 (f.WeakAbort (fs 126 195 (f.AbortCase (fs 132 141 (f.Sustain 5)) (f.MoreCases (f.Not (f.And (f.exprs (f.Sig
+    5 ∷ f.Sig 7 ∷ f.Not (f.Sig 2) ∷ [])))) (f.Written (fs 179 184 f.Pause)) (f.MoreCases (f.Sig 1) f.Missing f.NoCases)))) (f.Count 4 (at 201 202) (f.Sig 7)))
+    ∷ [])))))))
 unfolding flattening
 drawn_93 = refl
 
@@ -1166,7 +1163,7 @@ drawn_94 : flattened_at 0 (modul (v (codes "M") 7) (Relations (Excludes (v (code
     68 82 (Seq (stmts (s 68 74 (Emit (v (codes "O") 73)) ∷ s 76 82 (Emit (v (codes "O") 81)) ∷ [])))) (Handled (v (codes "T") 90) (s 95 104 (Await (Plain
     (Square (Sig (v (codes "B") 102)))) Missing))))) ∷ []) ≡ Ok (made (codes "M") (codes "A" ∷ codes "B" ∷ codes "C" ∷ codes "D" ∷ codes "O" ∷ []) 4 0 1
     (r.Excludes (3 ∷ 2 ∷ 0 ∷ []) ∷ []) (fs 58 108 (f.Trap (fs 68 82 (f.Seq (f.stmts (fs 68 74 (f.Emit 4) ∷ fs 76 82 (f.Emit 4) ∷ [])))) (f.Written (fs 95 104
-    (f.Await (f.Plain (f.Square (f.Sig 1))) f.Missing))))))
+    (f.Await (f.Plain (f.Sig 1)) f.Missing))))))
 unfolding flattening
 drawn_94 = refl
 
@@ -1195,7 +1192,7 @@ drawn_96 : flattened_at 0 (modul (v (codes "M") 7) (Input (v (codes "A") 16 ∷ 
     ∷ []) ∷ InputOutput (v (codes "V") 278 ∷ []) ∷ []) (s 281 294 (Seq (stmts (s 281 286 Pause ∷ s 288 294 (Emit (v (codes "O") 293)) ∷ [])))) ∷ []) ≡ Ok
     (made (codes "M") (codes "A" ∷ codes "B" ∷ codes "C" ∷ codes "D" ∷ codes "V" ∷ codes "O" ∷ codes "P" ∷ []) 4 1 2 [] (fs 56 140 (f.Suspend (fs 64 121
     (f.Par (f.stmts (fs 64 97 (f.Repeat 2 (at 80 81) (fs 88 93 f.Pause)) ∷ fs 101 121 (f.Seq (f.stmts (fs 101 107 (f.Emit 5) ∷ fs 109 114 f.Pause ∷ fs 116 121
-    f.Pause ∷ []))) ∷ [])))) (f.Immediate (f.Square (f.Sig 0))))))
+    f.Pause ∷ []))) ∷ [])))) (f.Immediate (f.Sig 0)))))
 unfolding flattening
 drawn_96 = refl
 
@@ -1207,9 +1204,9 @@ drawn_97 : flattened_at 0 (modul (v (codes "M") 7) (Input (v (codes "A") 16 ∷ 
     (Plain (Square (Sig (v (codes "A") 63)))) Missing) ∷ s 67 106 (Abort (s 73 80 Nothing) (Plain (Sig (v (codes "P") 86))) (Written (s 91 96 Pause))) ∷ s 108
     145 (Signal (v (codes "S") 115 ∷ []) (s 120 141 (Seq (stmts (s 120 125 Pause ∷ s 127 133 (Emit (v (codes "S") 132)) ∷ s 135 141 (Emit (v (codes "S") 140))
     ∷ []))))) ∷ [])))) ∷ []) ≡ Ok (made (codes "M") (codes "A" ∷ codes "B" ∷ codes "C" ∷ codes "D" ∷ codes "O" ∷ codes "P" ∷ codes "S" ∷ []) 4 0 2 [] (fs 41
-    145 (f.Seq (f.stmts (fs 41 65 (f.Abort (fs 47 56 (f.Await (f.Plain (f.Square (f.Sig 3))) f.Missing)) (f.Plain (f.Square (f.Sig 0))) f.Missing) ∷ fs 67 106
-    (f.Abort (fs 73 80 f.Nothing) (f.Plain (f.Sig 5)) (f.Written (fs 91 96 f.Pause))) ∷ fs 108 145 (f.Signal (6 ∷ []) (fs 120 141 (f.Seq (f.stmts (fs 120 125
-    f.Pause ∷ fs 127 133 (f.Emit 6) ∷ fs 135 141 (f.Emit 6) ∷ []))))) ∷ [])))))
+    145 (f.Seq (f.stmts (fs 41 65 (f.Abort (fs 47 56 (f.Await (f.Plain (f.Sig 3)) f.Missing)) (f.Plain (f.Sig 0)) f.Missing) ∷ fs 67 106 (f.Abort (fs 73 80
+    f.Nothing) (f.Plain (f.Sig 5)) (f.Written (fs 91 96 f.Pause))) ∷ fs 108 145 (f.Signal (6 ∷ []) (fs 120 141 (f.Seq (f.stmts (fs 120 125 f.Pause ∷ fs 127
+    133 (f.Emit 6) ∷ fs 135 141 (f.Emit 6) ∷ []))))) ∷ [])))))
 unfolding flattening
 drawn_97 = refl
 
@@ -1266,10 +1263,10 @@ drawn_101 : flattened_at 0 (modul (v (codes "M") 7) (Input (v (codes "A") 16 ∷
     322 329 (Group (s 323 328 Pause)) ∷ [])))))) ∷ modul (v (codes "N1") 357) [] (s 362 404 (LoopEach (s 367 392 (Await (Plain (Tick (at 373 377))) (Written
     (s 381 388 (Emit (v (codes "ZZ") 386)))))) (Count 2 (at 398 399) (Tick (at 400 404))))) ∷ []) ≡ Ok (made (codes "M") (codes "A" ∷ codes "B" ∷ codes "C" ∷
     codes "V" ∷ codes "W" ∷ codes "O" ∷ codes "P" ∷ []) 3 2 2 (r.Implies 4 3 ∷ r.Excludes (0 ∷ 4 ∷ []) ∷ []) (fs 80 244 (f.Abort (fs 86 235 (f.Abort (fs 92
-    225 (f.Trap (fs 103 216 (f.Seq (f.stmts (fs 103 132 (f.Suspend (fs 111 117 (f.Emit 5)) (f.Plain (f.Square (f.And (f.exprs (f.Sig 1 ∷ f.Sig 0 ∷ [])))))) ∷
-    fs 310 338 (f.Loop (fs 315 329 (f.Seq (f.stmts (fs 315 320 f.Pause ∷ fs 323 328 f.Pause ∷ []))))) ∷ fs 160 216 (f.Abort (fs 166 173 (f.Exit 0)) (f.Plain
-    (f.Square (f.And (f.exprs (f.Not (f.Round (f.And (f.exprs (f.Sig 1 ∷ f.Sig 4 ∷ [])))) ∷ f.Sig 5 ∷ f.Not (f.Not (f.Square (f.Sig 3))) ∷ []))))) f.Missing)
-    ∷ [])))) f.Missing)) (f.Plain (f.Tick (at 231 235))) f.Missing)) (f.Plain (f.Square (f.Sig 5))) f.Missing)))
+    225 (f.Trap (fs 103 216 (f.Seq (f.stmts (fs 103 132 (f.Suspend (fs 111 117 (f.Emit 5)) (f.Plain (f.And (f.exprs (f.Sig 1 ∷ f.Sig 0 ∷ []))))) ∷ fs 310 338
+    (f.Loop (fs 315 329 (f.Seq (f.stmts (fs 315 320 f.Pause ∷ fs 323 328 f.Pause ∷ []))))) ∷ fs 160 216 (f.Abort (fs 166 173 (f.Exit 0)) (f.Plain (f.And
+    (f.exprs (f.Not (f.And (f.exprs (f.Sig 1 ∷ f.Sig 4 ∷ []))) ∷ f.Sig 5 ∷ f.Not (f.Not (f.Sig 3)) ∷ [])))) f.Missing) ∷ [])))) f.Missing)) (f.Plain (f.Tick
+    (at 231 235))) f.Missing)) (f.Plain (f.Sig 5)) f.Missing)))
 unfolding flattening
 drawn_101 = refl
 
@@ -1308,9 +1305,9 @@ drawn_104 : flattened_at 0 (modul (v (codes "M") 7) (Input (v (codes "A") 16 ∷
     (codes "O") 194 ∷ v (codes "P") 197 ∷ []) ∷ []) (s 200 225 (Repeat 2 (at 207 208) (s 215 221 (Emit (v (codes "O") 220))))) ∷ modul (v (codes "N1") 235)
     (Input (v (codes "A") 245 ∷ []) ∷ Output (v (codes "O") 255 ∷ v (codes "P") 258 ∷ v (codes "Q") 261 ∷ v (codes "R") 264 ∷ []) ∷ []) (s 267 282 (Par (stmts
     (s 267 272 Pause ∷ s 276 282 (Emit (v (codes "R") 281)) ∷ [])))) ∷ []) ≡ Ok (made (codes "M") (codes "A" ∷ codes "V" ∷ codes "O" ∷ codes "P" ∷ []) 1 1 2
-    (r.Implies 1 1 ∷ []) (fs 64 155 (f.Seq (f.stmts (fs 64 130 (f.AbortCase (fs 70 76 (f.Emit 1)) (f.MoreCases (f.Not (f.Round (f.Sig 2))) (f.Written (fs 98
-    109 (f.Await (f.Count 2 (at 104 105) (f.Square (f.Sig 3))) f.Missing))) (f.MoreCases (f.Sig 0) (f.Written (fs 120 126 (f.Emit 3))) f.NoCases))) ∷ fs 132
-    155 (f.Loop (fs 137 151 (f.Seq (f.stmts (fs 137 142 f.Pause ∷ fs 145 150 f.Pause ∷ []))))) ∷ [])))))
+    (r.Implies 1 1 ∷ []) (fs 64 155 (f.Seq (f.stmts (fs 64 130 (f.AbortCase (fs 70 76 (f.Emit 1)) (f.MoreCases (f.Not (f.Sig 2)) (f.Written (fs 98 109
+    (f.Await (f.Count 2 (at 104 105) (f.Sig 3)) f.Missing))) (f.MoreCases (f.Sig 0) (f.Written (fs 120 126 (f.Emit 3))) f.NoCases))) ∷ fs 132 155 (f.Loop (fs
+    137 151 (f.Seq (f.stmts (fs 137 142 f.Pause ∷ fs 145 150 f.Pause ∷ []))))) ∷ [])))))
 unfolding flattening
 drawn_104 = refl
 
@@ -1376,8 +1373,8 @@ drawn_109 : flattened_at 0 (modul (v (codes "M") 7) (Input (v (codes "A") 16 ∷
     177 ∷ []) ∷ InputOutput (v (codes "V") 192 ∷ v (codes "W") 195 ∷ []) ∷ []) (s 198 230 (AwaitCase (MoreCases (Sig (v (codes "B") 209)) (Written (s 214 220
     (Emit (v (codes "V") 219)))) NoCases))) ∷ []) ≡ Ok (made (codes "M") (codes "A" ∷ codes "B" ∷ codes "C" ∷ codes "D" ∷ codes "V" ∷ codes "W" ∷ codes "O" ∷
     codes "P" ∷ codes "Q" ∷ codes "R" ∷ []) 4 2 4 [] (fs 65 126 (f.Seq (f.stmts (fs 65 90 (f.Loop (fs 70 86 (f.Seq (f.stmts (fs 70 75 f.Pause ∷ fs 78 85
-    f.Nothing ∷ []))))) ∷ fs 92 119 (f.Loop (fs 97 115 (f.Seq (f.stmts (fs 98 107 (f.Await (f.Plain (f.Square (f.Sig 0))) f.Missing) ∷ fs 110 115 f.Pause ∷
-    []))))) ∷ fs 121 126 f.Pause ∷ [])))))
+    f.Nothing ∷ []))))) ∷ fs 92 119 (f.Loop (fs 97 115 (f.Seq (f.stmts (fs 98 107 (f.Await (f.Plain (f.Sig 0)) f.Missing) ∷ fs 110 115 f.Pause ∷ []))))) ∷ fs
+    121 126 f.Pause ∷ [])))))
 unfolding flattening
 drawn_109 = refl
 
@@ -1403,7 +1400,7 @@ drawn_111 : flattened_at 0 (modul (v (codes "M") 7) (Input (v (codes "A") 16 ∷
     (v (codes "O") 98) ∷ Round (Sig (v (codes "P") 104)) ∷ []))) (Written (s 110 116 (Emit (v (codes "P") 115)))) NoCases)) ∷ [])))) ∷ []) ≡ Ok (made
     (codes "M") (codes "A" ∷ codes "O" ∷ codes "P" ∷ []) 1 0 2 [] (fs 32 120 (f.Seq (f.stmts (fs 32 61 (f.AwaitCase (f.MoreCases (f.Sig 0) (f.Written (fs 48
     57 (f.Await (f.Count 3 (at 54 55) (f.Sig 1)) f.Missing))) f.NoCases)) ∷ fs 63 120 (f.AbortCase (fs 69 82 (f.Seq (f.stmts (fs 69 74 f.Pause ∷ fs 76 82
-    (f.Emit 2) ∷ [])))) (f.MoreCases (f.Or (f.exprs (f.Sig 1 ∷ f.Sig 1 ∷ f.Round (f.Sig 2) ∷ []))) (f.Written (fs 110 116 (f.Emit 2))) f.NoCases)) ∷ [])))))
+    (f.Emit 2) ∷ [])))) (f.MoreCases (f.Or (f.exprs (f.Sig 1 ∷ f.Sig 1 ∷ f.Sig 2 ∷ []))) (f.Written (fs 110 116 (f.Emit 2))) f.NoCases)) ∷ [])))))
 unfolding flattening
 drawn_111 = refl
 
@@ -1435,9 +1432,9 @@ drawn_114 : flattened_at 0 (modul (v (codes "M") 7) (Input (v (codes "A") 16 ∷
     (codes "S") 115 ∷ []) (s 120 127 Nothing)) ∷ s 133 197 (AbortCase (s 139 145 (Emit (v (codes "O") 144))) (MoreCases (Sig (v (codes "C") 156)) (Written (s
     161 170 (Sustain (v (codes "O") 169)))) (MoreCases (Sig (v (codes "B") 176)) (Written (s 181 187 (Emit (v (codes "O") 186)))) NoCases))) ∷ [])))) ∷ []) ≡
     Ok (made (codes "M") (codes "A" ∷ codes "B" ∷ codes "C" ∷ codes "D" ∷ codes "V" ∷ codes "O" ∷ codes "P" ∷ codes "S" ∷ []) 4 1 2 [] (fs 56 197 (f.Seq
-    (f.stmts (fs 56 106 (f.Present (f.Not (f.Round (f.Or (f.exprs (f.Sig 4 ∷ f.Sig 6 ∷ f.Sig 6 ∷ []))))) (f.Written (fs 87 91 f.Halt)) (f.Written (fs 97 102
-    f.Pause))) ∷ fs 108 131 (f.Signal (7 ∷ []) (fs 120 127 f.Nothing)) ∷ fs 133 197 (f.AbortCase (fs 139 145 (f.Emit 5)) (f.MoreCases (f.Sig 2) (f.Written (fs
-    161 170 (f.Sustain 5))) (f.MoreCases (f.Sig 1) (f.Written (fs 181 187 (f.Emit 5))) f.NoCases))) ∷ [])))))
+    (f.stmts (fs 56 106 (f.Present (f.Not (f.Or (f.exprs (f.Sig 4 ∷ f.Sig 6 ∷ f.Sig 6 ∷ [])))) (f.Written (fs 87 91 f.Halt)) (f.Written (fs 97 102 f.Pause)))
+    ∷ fs 108 131 (f.Signal (7 ∷ []) (fs 120 127 f.Nothing)) ∷ fs 133 197 (f.AbortCase (fs 139 145 (f.Emit 5)) (f.MoreCases (f.Sig 2) (f.Written (fs 161 170
+    (f.Sustain 5))) (f.MoreCases (f.Sig 1) (f.Written (fs 181 187 (f.Emit 5))) f.NoCases))) ∷ [])))))
 unfolding flattening
 drawn_114 = refl
 
@@ -1483,8 +1480,8 @@ drawn_117 = refl
 drawn_118 : flattened_at 0 (modul (v (codes "M") 7) (Input (v (codes "A") 16 ∷ v (codes "B") 19 ∷ []) ∷ Output (v (codes "O") 29 ∷ v (codes "P") 32 ∷ v
     (codes "Q") 35 ∷ []) ∷ []) (s 38 86 (Await (Plain (Square (Sig (v (codes "Q") 45)))) (Written (s 51 82 (AwaitCase (MoreCases (Not (Round (Sig (v
     (codes "Q") 67)))) (Written (s 73 78 Pause)) NoCases)))))) ∷ []) ≡ Ok (made (codes "M") (codes "A" ∷ codes "B" ∷ codes "O" ∷ codes "P" ∷ codes "Q" ∷ []) 2
-    0 3 [] (fs 38 86 (f.Await (f.Plain (f.Square (f.Sig 4))) (f.Written (fs 51 82 (f.AwaitCase (f.MoreCases (f.Not (f.Round (f.Sig 4))) (f.Written (fs 73 78
-    f.Pause)) f.NoCases)))))))
+    0 3 [] (fs 38 86 (f.Await (f.Plain (f.Sig 4)) (f.Written (fs 51 82 (f.AwaitCase (f.MoreCases (f.Not (f.Sig 4)) (f.Written (fs 73 78 f.Pause))
+    f.NoCases)))))))
 unfolding flattening
 drawn_118 = refl
 
@@ -1528,11 +1525,11 @@ drawn_122 : flattened_at 0 (modul (v (codes "M") 7) [] (s 11 229 (Seq (stmts (s 
     135 Pause))) ∷ s 143 168 (Suspend (s 151 158 Nothing) (Plain (Tick (at 164 168)))) ∷ [])))) (MoreCases (Tick (at 179 183)) Missing (MoreCases (Or (exprs
     (And (exprs (Tick (at 189 193) ∷ Tick (at 198 202) ∷ [])) ∷ Tick (at 206 210) ∷ []))) (Written (s 214 219 Pause)) NoCases))) ∷ [])))) ∷ []) ≡ Ok (made
     (codes "M") ([]) 0 0 0 [] (fs 11 229 (f.Seq (f.stmts (fs 11 88 (f.Suspend (fs 19 78 (f.WeakAbort (fs 30 47 (f.Seq (f.stmts (fs 30 37 f.Nothing ∷ fs 39 46
-    f.Nothing ∷ [])))) (f.Plain (f.Square (f.And (f.exprs (f.Tick (at 54 58) ∷ f.Not (f.Round (f.Not (f.Tick (at 72 76)))) ∷ []))))))) (f.Plain (f.Tick (at 84
-    88)))) ∷ fs 90 229 (f.AbortCase (fs 96 168 (f.Par (f.stmts (fs 96 139 (f.Present (f.Tick (at 104 108)) (f.Written (fs 114 124 (f.Await (f.Plain (f.Tick
-    (at 120 124))) f.Missing))) (f.Written (fs 130 135 f.Pause))) ∷ fs 143 168 (f.Suspend (fs 151 158 f.Nothing) (f.Plain (f.Tick (at 164 168)))) ∷ []))))
-    (f.MoreCases (f.Tick (at 179 183)) f.Missing (f.MoreCases (f.Or (f.exprs (f.And (f.exprs (f.Tick (at 189 193) ∷ f.Tick (at 198 202) ∷ [])) ∷ f.Tick (at
-    206 210) ∷ []))) (f.Written (fs 214 219 f.Pause)) f.NoCases))) ∷ [])))))
+    f.Nothing ∷ [])))) (f.Plain (f.And (f.exprs (f.Tick (at 54 58) ∷ f.Not (f.Not (f.Tick (at 72 76))) ∷ [])))))) (f.Plain (f.Tick (at 84 88)))) ∷ fs 90 229
+    (f.AbortCase (fs 96 168 (f.Par (f.stmts (fs 96 139 (f.Present (f.Tick (at 104 108)) (f.Written (fs 114 124 (f.Await (f.Plain (f.Tick (at 120 124)))
+    f.Missing))) (f.Written (fs 130 135 f.Pause))) ∷ fs 143 168 (f.Suspend (fs 151 158 f.Nothing) (f.Plain (f.Tick (at 164 168)))) ∷ [])))) (f.MoreCases
+    (f.Tick (at 179 183)) f.Missing (f.MoreCases (f.Or (f.exprs (f.And (f.exprs (f.Tick (at 189 193) ∷ f.Tick (at 198 202) ∷ [])) ∷ f.Tick (at 206 210) ∷
+    []))) (f.Written (fs 214 219 f.Pause)) f.NoCases))) ∷ [])))))
 unfolding flattening
 drawn_122 = refl
 
@@ -1551,7 +1548,7 @@ drawn_123 = refl
 drawn_124 : flattened_at 0 (modul (v (codes "M") 7) (Output (v (codes "O") 17 ∷ v (codes "P") 20 ∷ v (codes "Q") 23 ∷ []) ∷ InputOutput (v (codes "V") 38 ∷ v
     (codes "W") 41 ∷ []) ∷ []) (s 44 108 (Suspend (s 52 89 (Suspend (s 60 66 (Emit (v (codes "P") 65))) (Immediate (Square (Not (Sig (v (codes "P") 87)))))))
     (Immediate (Square (Sig (v (codes "Q") 106)))))) ∷ []) ≡ Ok (made (codes "M") (codes "V" ∷ codes "W" ∷ codes "O" ∷ codes "P" ∷ codes "Q" ∷ []) 0 2 3 []
-    (fs 44 108 (f.Suspend (fs 52 89 (f.Suspend (fs 60 66 (f.Emit 3)) (f.Immediate (f.Square (f.Not (f.Sig 3)))))) (f.Immediate (f.Square (f.Sig 4))))))
+    (fs 44 108 (f.Suspend (fs 52 89 (f.Suspend (fs 60 66 (f.Emit 3)) (f.Immediate (f.Not (f.Sig 3))))) (f.Immediate (f.Sig 4)))))
 unfolding flattening
 drawn_124 = refl
 
@@ -1567,10 +1564,10 @@ drawn_125 : flattened_at 0 (modul (v (codes "M") 7) (Input (v (codes "A") 16 ∷
     (codes "N0") 222) (Input (v (codes "A") 232 ∷ v (codes "B") 235 ∷ []) ∷ Output (v (codes "O") 245 ∷ v (codes "P") 248 ∷ v (codes "Q") 251 ∷ v (codes "R")
     254 ∷ []) ∷ []) (s 257 286 (Loop (s 262 277 (Seq (stmts (s 262 270 (Group (s 263 269 (Emit (v (codes "O") 268)))) ∷ s 272 277 Pause ∷ [])))))) ∷ []) ≡ Ok
     (made (codes "M") (codes "A" ∷ codes "V" ∷ codes "W" ∷ codes "O" ∷ []) 1 2 1 (r.Implies 2 0 ∷ r.Excludes (0 ∷ 2 ∷ []) ∷ []) (fs 71 203 (f.Abort (fs 77 194
-    (f.Present (f.Tick (at 85 89)) (f.Written (fs 95 182 (f.PresentCase (f.MoreCases (f.Or (f.exprs (f.And (f.exprs (f.Sig 1 ∷ f.Not (f.Sig 0) ∷ [])) ∷
-    f.Square (f.Sig 3) ∷ []))) (f.Written (fs 130 135 f.Pause)) (f.MoreCases (f.Or (f.exprs (f.And (f.exprs (f.Round (f.Or (f.exprs (f.And (f.exprs (f.Sig 1 ∷
-    f.Not (f.Sig 2) ∷ [])) ∷ f.Sig 0 ∷ []))) ∷ f.Sig 1 ∷ [])) ∷ f.Sig 0 ∷ []))) (f.Written (fs 174 178 f.Halt)) f.NoCases)) f.Missing))) f.Missing)) (f.Count
-    2 (at 200 201) (f.Sig 2)) f.Missing)))
+    (f.Present (f.Tick (at 85 89)) (f.Written (fs 95 182 (f.PresentCase (f.MoreCases (f.Or (f.exprs (f.And (f.exprs (f.Sig 1 ∷ f.Not (f.Sig 0) ∷ [])) ∷ f.Sig
+    3 ∷ []))) (f.Written (fs 130 135 f.Pause)) (f.MoreCases (f.Or (f.exprs (f.And (f.exprs (f.Or (f.exprs (f.And (f.exprs (f.Sig 1 ∷ f.Not (f.Sig 2) ∷ [])) ∷
+    f.Sig 0 ∷ [])) ∷ f.Sig 1 ∷ [])) ∷ f.Sig 0 ∷ []))) (f.Written (fs 174 178 f.Halt)) f.NoCases)) f.Missing))) f.Missing)) (f.Count 2 (at 200 201) (f.Sig 2))
+    f.Missing)))
 unfolding flattening
 drawn_125 = refl
 
@@ -1620,9 +1617,9 @@ drawn_131 : flattened_at 0 (modul (v (codes "M") 7) (Input (v (codes "A") 16 ∷
     (codes "Q") 35 ∷ []) ∷ []) (s 38 126 (Loop (s 43 122 (Seq (stmts (s 43 115 (Group (s 44 114 (Every (Count 3 (at 50 51) (Square (Sig (v (codes "Q") 53))))
     (s 59 110 (Seq (stmts (s 59 95 (Present (Sig (v (codes "O") 67)) (Written (s 74 79 Pause)) (Written (s 85 91 (Emit (v (codes "P") 90))))) ∷ s 97 110
     (Present (Sig (v (codes "O") 105)) Missing Missing) ∷ []))))))) ∷ s 117 122 Pause ∷ [])))))) ∷ []) ≡ Ok (made (codes "M") (codes "A" ∷ codes "B" ∷
-    codes "O" ∷ codes "P" ∷ codes "Q" ∷ []) 2 0 3 [] (fs 38 126 (f.Loop (fs 43 122 (f.Seq (f.stmts (fs 44 114 (f.Every (f.Count 3 (at 50 51) (f.Square (f.Sig
-    4))) (fs 59 110 (f.Seq (f.stmts (fs 59 95 (f.Present (f.Sig 2) (f.Written (fs 74 79 f.Pause)) (f.Written (fs 85 91 (f.Emit 3)))) ∷ fs 97 110 (f.Present
-    (f.Sig 2) f.Missing f.Missing) ∷ []))))) ∷ fs 117 122 f.Pause ∷ [])))))))
+    codes "O" ∷ codes "P" ∷ codes "Q" ∷ []) 2 0 3 [] (fs 38 126 (f.Loop (fs 43 122 (f.Seq (f.stmts (fs 44 114 (f.Every (f.Count 3 (at 50 51) (f.Sig 4)) (fs 59
+    110 (f.Seq (f.stmts (fs 59 95 (f.Present (f.Sig 2) (f.Written (fs 74 79 f.Pause)) (f.Written (fs 85 91 (f.Emit 3)))) ∷ fs 97 110 (f.Present (f.Sig 2)
+    f.Missing f.Missing) ∷ []))))) ∷ fs 117 122 f.Pause ∷ [])))))))
 unfolding flattening
 drawn_131 = refl
 
@@ -1700,8 +1697,8 @@ drawn_137 : flattened_at 0 (modul (v (codes "M") 7) (Input (v (codes "A") 16 ∷
     []))))) ∷ s 113 149 (Present (Not (Square (And (exprs (Sig (v (codes "O") 126) ∷ Sig (v (codes "P") 132) ∷ []))))) Missing (Written (s 140 145 Pause))) ∷
     [])))))) ∷ []) ≡ Ok (made (codes "M") (codes "A" ∷ codes "V" ∷ codes "O" ∷ codes "P" ∷ codes "Q" ∷ codes "R" ∷ codes "S" ∷ codes "S" ∷ codes "Y2" ∷ []) 1
     1 4 [] (fs 53 160 (f.Signal (6 ∷ []) (fs 65 149 (f.Par (f.stmts (fs 65 109 (f.Loop (fs 70 105 (f.Seq (f.stmts (fs 70 75 f.Pause ∷ fs 78 104 (f.Signal (7 ∷
-    8 ∷ []) (fs 94 100 (f.Emit 7))) ∷ []))))) ∷ fs 113 149 (f.Present (f.Not (f.Square (f.And (f.exprs (f.Sig 2 ∷ f.Sig 3 ∷ []))))) f.Missing (f.Written (fs
-    140 145 f.Pause))) ∷ [])))))))
+    8 ∷ []) (fs 94 100 (f.Emit 7))) ∷ []))))) ∷ fs 113 149 (f.Present (f.Not (f.And (f.exprs (f.Sig 2 ∷ f.Sig 3 ∷ [])))) f.Missing (f.Written (fs 140 145
+    f.Pause))) ∷ [])))))))
 unfolding flattening
 drawn_137 = refl
 
@@ -1712,9 +1709,9 @@ drawn_138 : flattened_at 0 (modul (v (codes "M") 7) (InputOutput (v (codes "V") 
     68 (Emit (v (codes "V") 67)))) (MoreCases (Not (Round (Not (Sig (v (codes "V") 83))))) (Written (s 89 95 (Emit (v (codes "V") 94)))) (MoreCases (Sig (v
     (codes "V") 101)) (Written (s 106 111 Pause)) NoCases)))) ∷ s 119 140 (Abort (s 125 131 (Emit (v (codes "V") 130))) (Plain (Square (Sig (v (codes "V")
     138)))) Missing) ∷ [])))) ∷ []) ≡ Ok (made (codes "M") (codes "V" ∷ []) 0 1 0 [] (fs 25 140 (f.Par (f.stmts (fs 25 31 (f.Emit 0) ∷ fs 35 115 (f.AwaitCase
-    (f.MoreCases (f.Or (f.exprs (f.And (f.exprs (f.Sig 0 ∷ f.Sig 0 ∷ [])) ∷ f.Sig 0 ∷ []))) (f.Written (fs 62 68 (f.Emit 0))) (f.MoreCases (f.Not (f.Round
-    (f.Not (f.Sig 0)))) (f.Written (fs 89 95 (f.Emit 0))) (f.MoreCases (f.Sig 0) (f.Written (fs 106 111 f.Pause)) f.NoCases)))) ∷ fs 119 140 (f.Abort (fs 125
-    131 (f.Emit 0)) (f.Plain (f.Square (f.Sig 0))) f.Missing) ∷ [])))))
+    (f.MoreCases (f.Or (f.exprs (f.And (f.exprs (f.Sig 0 ∷ f.Sig 0 ∷ [])) ∷ f.Sig 0 ∷ []))) (f.Written (fs 62 68 (f.Emit 0))) (f.MoreCases (f.Not (f.Not
+    (f.Sig 0))) (f.Written (fs 89 95 (f.Emit 0))) (f.MoreCases (f.Sig 0) (f.Written (fs 106 111 f.Pause)) f.NoCases)))) ∷ fs 119 140 (f.Abort (fs 125 131
+    (f.Emit 0)) (f.Plain (f.Sig 0)) f.Missing) ∷ [])))))
 unfolding flattening
 drawn_138 = refl
 
@@ -1762,8 +1759,7 @@ drawn_142 : flattened_at 0 (modul (v (codes "M") 7) (Relations (Implies (v (code
     (Sig (v (codes "S2") 110) ∷ Not (Sig (v (codes "S2") 121)) ∷ []))) ∷ Sig (v (codes "V") 129) ∷ [])) ∷ Sig (v (codes "A") 134) ∷ []))) (Written (s 139 144
     Pause)) NoCases))))) NoHandler)) ∷ []) ≡ Ok (made (codes "M") (codes "A" ∷ codes "B" ∷ codes "V" ∷ codes "O" ∷ codes "P" ∷ codes "S2" ∷ []) 2 1 2
     (r.Implies 1 1 ∷ r.Implies 1 0 ∷ []) (fs 75 174 (f.Trap (fs 85 165 (f.Signal (5 ∷ []) (fs 98 154 (f.AwaitCase (f.MoreCases (f.Or (f.exprs (f.And (f.exprs
-    (f.Round (f.And (f.exprs (f.Sig 5 ∷ f.Not (f.Sig 5) ∷ []))) ∷ f.Sig 2 ∷ [])) ∷ f.Sig 0 ∷ []))) (f.Written (fs 139 144 f.Pause)) f.NoCases)))))
-    f.Missing)))
+    (f.And (f.exprs (f.Sig 5 ∷ f.Not (f.Sig 5) ∷ [])) ∷ f.Sig 2 ∷ [])) ∷ f.Sig 0 ∷ []))) (f.Written (fs 139 144 f.Pause)) f.NoCases))))) f.Missing)))
 unfolding flattening
 drawn_142 = refl
 

@@ -347,13 +347,13 @@ worked_39 : flattened_at 0 (modul (v (codes "M") 7) (Input (v (codes "A") 16 ∷
     427 433 (Emit (v (codes "O") 432)))) (Written (s 439 446 Nothing))) ∷ [])))) ∷ []) ≡ Ok (made (codes "M") (codes "A" ∷ codes "B" ∷ codes "O" ∷ []) 2 0 1
     [] (fs 32 450 (f.Seq (f.stmts (fs 32 36 f.Halt ∷ fs 38 47 (f.Sustain 2) ∷ fs 49 73 (f.Await (f.Count 2 (at 55 56) (f.Sig 0)) (f.Written (fs 62 69
     f.Nothing))) ∷ fs 75 92 (f.Await (f.Immediate (f.Sig 0)) f.Missing) ∷ fs 94 129 (f.AwaitCase (f.MoreCases (f.Sig 0) (f.Written (fs 110 116 (f.Emit 2)))
-    (f.MoreCases (f.Square (f.Sig 1)) f.Missing f.NoCases))) ∷ fs 131 177 (f.PresentCase (f.MoreCases (f.Sig 0) (f.Written (fs 149 154 f.Pause)) (f.MoreCases
-    (f.Sig 1) f.Missing f.NoCases)) (f.Written (fs 167 173 (f.Emit 2)))) ∷ fs 179 198 (f.LoopEach (fs 184 189 f.Pause) (f.Count 3 (at 195 196) (f.Sig 0))) ∷
-    fs 200 230 (f.Every (f.Immediate (f.Sig 1)) (fs 221 226 f.Pause)) ∷ fs 232 256 (f.Repeat 4 (at 239 240) (fs 247 252 f.Pause)) ∷ fs 258 292 (f.Abort (fs
-    264 269 f.Pause) (f.Count 2 (at 275 276) (f.Sig 0)) (f.Written (fs 282 288 (f.Emit 2)))) ∷ fs 294 336 (f.AbortCase (fs 300 305 f.Pause) (f.MoreCases
-    (f.Sig 0) f.Missing (f.MoreCases (f.Sig 1) (f.Written (fs 328 332 f.Halt)) f.NoCases))) ∷ fs 338 360 (f.WeakAbort (fs 349 353 f.Halt) (f.Plain (f.Sig 0)))
-    ∷ fs 362 392 (f.Suspend (fs 370 375 f.Pause) (f.Immediate (f.Sig 1))) ∷ fs 395 409 (f.Loop (fs 400 405 f.Pause)) ∷ fs 412 450 (f.Present (f.Sig 0)
-    (f.Written (fs 427 433 (f.Emit 2))) (f.Written (fs 439 446 f.Nothing))) ∷ [])))))
+    (f.MoreCases (f.Sig 1) f.Missing f.NoCases))) ∷ fs 131 177 (f.PresentCase (f.MoreCases (f.Sig 0) (f.Written (fs 149 154 f.Pause)) (f.MoreCases (f.Sig 1)
+    f.Missing f.NoCases)) (f.Written (fs 167 173 (f.Emit 2)))) ∷ fs 179 198 (f.LoopEach (fs 184 189 f.Pause) (f.Count 3 (at 195 196) (f.Sig 0))) ∷ fs 200 230
+    (f.Every (f.Immediate (f.Sig 1)) (fs 221 226 f.Pause)) ∷ fs 232 256 (f.Repeat 4 (at 239 240) (fs 247 252 f.Pause)) ∷ fs 258 292 (f.Abort (fs 264 269
+    f.Pause) (f.Count 2 (at 275 276) (f.Sig 0)) (f.Written (fs 282 288 (f.Emit 2)))) ∷ fs 294 336 (f.AbortCase (fs 300 305 f.Pause) (f.MoreCases (f.Sig 0)
+    f.Missing (f.MoreCases (f.Sig 1) (f.Written (fs 328 332 f.Halt)) f.NoCases))) ∷ fs 338 360 (f.WeakAbort (fs 349 353 f.Halt) (f.Plain (f.Sig 0))) ∷ fs 362
+    392 (f.Suspend (fs 370 375 f.Pause) (f.Immediate (f.Sig 1))) ∷ fs 395 409 (f.Loop (fs 400 405 f.Pause)) ∷ fs 412 450 (f.Present (f.Sig 0) (f.Written (fs
+    427 433 (f.Emit 2))) (f.Written (fs 439 446 f.Nothing))) ∷ [])))))
 unfolding flattening
 worked_39 = refl
 
