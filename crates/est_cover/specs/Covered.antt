@@ -6,7 +6,7 @@
 use Rattle.std.specs.Prelude.{ℕ, ◌+◌, ◌-◌, ◌^◌, Bool, ◌&&◌, nat_le, nat_lt, min, if◌then◌else◌, List, [], ◌++◌, map, length, take}
 use Rattle.std.specs.Prelude.{drop}
 use Rattle.base_types.specs.declared.place.Span.{Span}
-use Rattle.est_ast.specs.FlatTrees.{Expr, Tick, Sig, Not, And, Or, Round, Square, Exprs, NoExprs, MoreExprs, Delay}
+use Rattle.est_ast.specs.FlatTrees.{Expr, Tick, Sig, Not, And, Or, Exprs, NoExprs, MoreExprs, Delay}
 use Rattle.est_ast.specs.FlatTrees.{Plain, Immediate, Count, Stmt, At, Form, Nothing, Pause, Halt, Emit, Sustain, Await}
 use Rattle.est_ast.specs.FlatTrees.{AwaitCase, Present, PresentCase, Loop, LoopEach, Every, Repeat, Abort, AbortCase}
 use Rattle.est_ast.specs.FlatTrees.{WeakAbort, Suspend, Trap, Exit, Signal, Seq, Par, Part, Missing, Written, Stmts}
@@ -34,8 +34,6 @@ abbrev mutual
   moved_test w (Not e) = Not (moved_test w e)
   moved_test w (And parts) = And (moved_tests w parts)
   moved_test w (Or parts) = Or (moved_tests w parts)
-  moved_test w (Round e) = Round (moved_test w e)
-  moved_test w (Square e) = Square (moved_test w e)
 
   pub moved_tests : Portion → Exprs → Exprs
   moved_tests w NoExprs = NoExprs

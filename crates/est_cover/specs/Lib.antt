@@ -2,4 +2,5 @@ pub mod Points
 pub mod Covered
 pub mod Portions
 pub mod Nodes
+pub mod Heads
 pub mod NewNames

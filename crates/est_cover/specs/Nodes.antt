@@ -1,6 +1,6 @@
 -- Inner: points and covered statements at the nodes of the code. The definitions are closed, so that a proof sees one row
 -- at a time.
-use Rattle.std.specs.Prelude.{ℕ, Bool, List, [], ◌∷◌, map, Option}
+use Rattle.std.specs.Prelude.{ℕ, Bool, if◌then◌else◌, List, [], ◌∷◌, map, Option}
 use Rattle.std.specs.declared.alloc.Global.{Global}
 use Rattle.std.specs.declared.boxed.Box.{Box}
 use Rattle.base_types.specs.declared.indices.SigId.{SigId}
@@ -10,7 +10,7 @@ use Rattle.est_ast.specs.declared.flat.FlatDelay.{FlatDelay}
 use Rattle.est_ast.specs.declared.flat.FlatExpr.{FlatExpr}
 use Rattle.est_ast.specs.declared.flat.FlatForm.{FlatForm}
 use Rattle.est_ast.specs.declared.flat.FlatStmt.{FlatStmt}
-use Rattle.est_ast.specs.FlatTrees.{Expr, Delay, Stmt, Part}
+use Rattle.est_ast.specs.FlatTrees.{Expr, Delay, Stmt, Part, Missing, Written}
 use Rattle.est_ast.specs.FlatViews.{flat_expr_of, flat_delay_of, flat_form_of, flat_stmt_of, flat_part_of, flat_event_of}
 use Rattle.est_ast.specs.FlatViews.{flat_body_of}
 use Rattle.est_cover.specs.declared.points.Point.{Point}
@@ -60,14 +60,19 @@ test_moved w e = defined.moved_test (portion_of w) (flat_expr_of e)
 unfoldable pub delay_moved : Portion → FlatDelay → Delay
 delay_moved w delay = defined.moved_delay (portion_of w) (flat_delay_of delay)
 
-unfoldable pub signals_moved : Portion → List SigId → List ℕ
-signals_moved w signals = map (defined.moved (portion_of w)) (map (λ s. s.0) signals)
+abbrev pub signals_moved : Portion → List SigId → List ℕ
+signals_moved w signals = map (λ s. signal_moved w s.0) signals
 
 unfoldable pub in_portion : Portion → ℕ → Bool
 in_portion w number = defined.is_in (portion_of w) number
 
 unfoldable pub with_mark : Portion → ℕ → Span → Stmt → Stmt
 with_mark w number at p = defined.marked (portion_of w) number at p
+
+-- a branch that is not written
+unfoldable pub empty_covered : Portion → ℕ → Span → Part
+empty_covered w number at =
+    if defined.is_in (portion_of w) number then Written (defined.mark (portion_of w) number at) else Missing
 
 unfoldable pub stmt_covered : Portion → List Point → FlatStmt → Stmt
 stmt_covered w before p = defined.covered_stmt (portion_of w) before (flat_stmt_of p)
@@ -86,9 +91,6 @@ case_covered w at before c = (
   defined.moved_test (portion_of w) (flat_event_of c),
   defined.covered_branch (portion_of w) kinds.Case at before (flat_body_of c),
 )
-
-pub list_moved : Portion → List FlatExpr → List Expr
-list_moved w l = map (test_moved w) l
 
 pub list_covered : Portion → List Point → List FlatStmt → List Stmt
 list_covered w before [] = []

@@ -1,18 +1,21 @@
 // Covered statements: the walk that adds the points of a statement to a list, and emits the signal of each point that is
 // in a portion.
 
-ghost use Rattle.std.specs.Prelude.{◌≡◌, IfOk, OnOk, map};
-ghost use Rattle.est_ast.specs.FlatViews.{flat_case_of, flat_part_of, flat_stmt_of};
-ghost use Rattle.est_cover.specs.Nodes.{case_covered, case_points, choice_points, choices_covered, list_covered};
+ghost use Rattle.std.specs.Prelude.{◌≡◌, IfOk, OnOk, length, map};
+ghost use Rattle.est_ast.specs.FlatTrees.{At as flat_at};
+ghost use Rattle.est_ast.specs.FlatViews.{flat_case_of, flat_expr_of, flat_form_of, flat_part_of, flat_stmt_of};
+ghost use Rattle.est_cover.specs.Nodes.{case_covered, case_points, choice_points, choices_covered, empty_covered};
+ghost use Rattle.est_cover.specs.Nodes.{list_covered};
 ghost use Rattle.est_cover.specs.Nodes.{list_points, more_points, node_covered, node_points, part_covered, part_points};
 ghost use Rattle.est_cover.specs.Nodes.{rest_covered, rest_points, stmt_covered, stmt_points, with_mark};
 
 use crate::forms as rows;
+use crate::marks::{is_in, mark, marked, moved};
 use crate::moving::moved_test;
 use crate::points::{Point, PointKind};
-use crate::portions::{Portion, is_in, mark, marked, moved};
+use crate::portions::Portion;
 use base_types::{NoMemory, Span};
-use est_ast::{FlatCase, FlatForm, FlatStmt};
+use est_ast::{FlatCase, FlatExpr, FlatForm, FlatStmt};
 use std::alloc::Global;
 
 /// One more point.
@@ -55,7 +58,14 @@ fn cover_form(
     match form {
         FlatForm::Nothing => Ok(plain(at, FlatForm::Nothing)),
         FlatForm::Exit(between) => Ok(plain(at, FlatForm::Exit(*between))),
-        FlatForm::Pause => leaf(alloc, portion, points, PointKind::Pause, at, FlatForm::Pause),
+        FlatForm::Pause => leaf(
+            alloc,
+            portion,
+            points,
+            PointKind::Pause,
+            at,
+            FlatForm::Pause,
+        ),
         FlatForm::Halt => leaf(alloc, portion, points, PointKind::Halt, at, FlatForm::Halt),
         FlatForm::Emit(signal) => {
             let form = FlatForm::Emit(moved(portion, *signal));
@@ -198,8 +208,8 @@ fn empty_branch(
     kind: PointKind,
     at: Span,
 ) -> Result<Option<Box<FlatStmt>>, NoMemory>
-    ensures covers { IfOk result (λ q. flat_part_of q ≡ part_covered portion kind at points.old.items None) }
-    ensures points { OnOk result (points.new.items ≡ part_points kind at points.old.items None) }
+    ensures covers { IfOk result (λ q. flat_part_of q ≡ empty_covered portion (length points.old.items) at) }
+    ensures points { OnOk result (points.new.items ≡ more_points kind at points.old.items) }
 {
     let number = points.len();
     start(points, kind, at)?;
@@ -274,6 +284,7 @@ pub(crate) fn cases_of(
 
 // A case.
 #[cycle(covering)]
+#[tactic(auto, using(crate::proofs::Rows::case_rows))]
 fn case_of(
     alloc: Global,
     portion: Portion,
@@ -285,25 +296,32 @@ fn case_of(
     ensures points { OnOk result (points.new.items ≡ case_points at points.old.items case.now) }
 {
     let event = moved_test(alloc, portion, &case.event)?;
-    let body = match &case.body {
-        None => empty_case(portion, points, at)?,
-        Some(body) => Some(begun(alloc, portion, points, PointKind::Case, body)?),
+    let Some(body) = &case.body else {
+        return empty_case(portion, points, at, event);
     };
+    let body = Some(begun(alloc, portion, points, PointKind::Case, body)?);
     Ok(FlatCase { event, body })
 }
 
-// What a case does where nothing is written.
+// A case that does nothing.
+#[tactic(auto, using(crate::proofs::Rows::part_rows))]
 fn empty_case(
     portion: Portion,
     points: &mut Vec<Point>,
     at: Span,
-) -> Result<Option<FlatStmt>, NoMemory>
+    event: FlatExpr,
+) -> Result<FlatCase, NoMemory>
+    ensures covers { IfOk result (λ c. flat_case_of c
+        ≡ (flat_expr_of event, empty_covered portion (length points.old.items) at)) }
+    ensures points { OnOk result (points.new.items ≡ more_points PointKind.Case at points.old.items) }
 {
     let number = points.len();
     start(points, PointKind::Case, at)?;
     if is_in(portion, number) {
-        Ok(Some(mark(portion, number, at)))
+        let body = Some(mark(portion, number, at));
+        Ok(FlatCase { event, body })
     } else {
-        Ok(None)
+        let body = None;
+        Ok(FlatCase { event, body })
     }
 }

@@ -10,9 +10,10 @@ ghost use Rattle.est_ast.specs.declared.flat.FlatForm.TheVariants.{Signal, Suspe
 ghost use Rattle.est_cover.specs.Nodes.{node_covered, node_points};
 
 use crate::covering::{branch, cases_of, handler, inside, parts_of, start};
+use crate::marks::marked;
 use crate::moving::{moved_delay, moved_signals, moved_test};
 use crate::points::{Point, PointKind};
-use crate::portions::{Portion, marked};
+use crate::portions::Portion;
 use base_types::{NoMemory, SigId, Span};
 use est_ast::{FlatCase, FlatDelay, FlatExpr, FlatForm, FlatStmt};
 use std::alloc::Global;

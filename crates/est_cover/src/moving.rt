@@ -2,9 +2,10 @@
 
 ghost use Rattle.std.specs.Prelude.{◌≡◌, IfOk, map};
 ghost use Rattle.est_ast.specs.FlatViews.{flat_delay_of, flat_expr_of};
-ghost use Rattle.est_cover.specs.Nodes.{delay_moved, list_moved, signals_moved, test_moved};
+ghost use Rattle.est_cover.specs.Nodes.{delay_moved, signals_moved, test_moved};
 
-use crate::portions::{Portion, moved};
+use crate::marks::moved;
+use crate::portions::Portion;
 use base_types::{NoMemory, SigId};
 use est_ast::{FlatDelay, FlatExpr};
 use std::alloc::Global;
@@ -26,14 +27,6 @@ pub(crate) fn moved_test(
             let e = moved_test(alloc, portion, e)?;
             Ok(FlatExpr::Not(Box::new(alloc, e)?))
         }
-        FlatExpr::Round(e) => {
-            let e = moved_test(alloc, portion, e)?;
-            Ok(FlatExpr::Round(Box::new(alloc, e)?))
-        }
-        FlatExpr::Square(e) => {
-            let e = moved_test(alloc, portion, e)?;
-            Ok(FlatExpr::Square(Box::new(alloc, e)?))
-        }
         FlatExpr::And(parts) => Ok(FlatExpr::And(moved_tests(alloc, portion, parts)?)),
         FlatExpr::Or(parts) => Ok(FlatExpr::Or(moved_tests(alloc, portion, parts)?)),
     }
@@ -46,7 +39,7 @@ fn moved_tests(
     portion: Portion,
     parts: &[FlatExpr],
 ) -> Result<Vec<FlatExpr>, NoMemory>
-    ensures { IfOk result (λ made. map flat_expr_of made.items ≡ list_moved portion parts.now) }
+    ensures { IfOk result (λ made. map flat_expr_of made.items ≡ map (test_moved portion) parts.now) }
 {
     let mut made = Vec::new(alloc);
     for e in parts {
