@@ -3,5 +3,5 @@ mod Rows
 mod Fitting
 mod NewSignals
 mod CoveredFlats
-mod Names
+mod FreshNames
 pub mod Exports

@@ -471,7 +471,7 @@ pub ruleset in_rows = (in-low, in-high)
 -- what a portion has, and what it has not
 pub ruleset part_rows = (empty-in, empty-out)
 
-pub ruleset mark_rows = (mark-in, mark-out)
+pub ruleset mark_rows = (mark-in, mark-out, flat_form-Seq)
 
 -- all of them
 pub ruleset rows = (

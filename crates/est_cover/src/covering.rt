@@ -2,7 +2,7 @@
 // in a portion.
 
 ghost use Rattle.std.specs.Prelude.{◌≡◌, IfOk, OnOk, length, map};
-ghost use Rattle.est_ast.specs.FlatTrees.{At as flat_at};
+ghost use Rattle.est_ast.specs.FlatTrees.{At as flat_at, Missing, Written};
 ghost use Rattle.est_ast.specs.FlatViews.{flat_case_of, flat_expr_of, flat_form_of, flat_part_of, flat_stmt_of};
 ghost use Rattle.est_cover.specs.Nodes.{case_covered, case_points, choice_points, choices_covered, empty_covered};
 ghost use Rattle.est_cover.specs.Nodes.{list_covered};
@@ -299,11 +299,11 @@ fn case_of(
     let Some(body) = &case.body else {
         return empty_case(portion, points, at, event);
     };
-    let body = Some(begun(alloc, portion, points, PointKind::Case, body)?);
-    Ok(FlatCase { event, body })
+    let body = begun(alloc, portion, points, PointKind::Case, body)?;
+    Ok(written_case(event, body))
 }
 
-// A case that does nothing.
+// A case in which nothing is written.
 #[tactic(auto, using(crate::proofs::Rows::part_rows))]
 fn empty_case(
     portion: Portion,
@@ -318,10 +318,24 @@ fn empty_case(
     let number = points.len();
     start(points, PointKind::Case, at)?;
     if is_in(portion, number) {
-        let body = Some(mark(portion, number, at));
-        Ok(FlatCase { event, body })
+        Ok(written_case(event, mark(portion, number, at)))
     } else {
-        let body = None;
-        Ok(FlatCase { event, body })
+        Ok(bare_case(event))
     }
+}
+
+// A case that does this.
+fn written_case(event: FlatExpr, body: FlatStmt) -> FlatCase
+    ensures { flat_case_of result ≡ (flat_expr_of event, Written (flat_stmt_of body)) }
+{
+    let body = Some(body);
+    FlatCase { event, body }
+}
+
+// A case that does nothing.
+fn bare_case(event: FlatExpr) -> FlatCase
+    ensures { flat_case_of result ≡ (flat_expr_of event, Missing) }
+{
+    let body = None;
+    FlatCase { event, body }
 }

@@ -15,6 +15,6 @@ mod points;
 mod portions;
 mod programs;
 
-pub use names::new_names;
+pub use names::{is_named, new_names};
 pub use points::{Point, PointKind};
-pub use programs::{CoveredFlat, cover_program};
+pub use programs::{cover_program, program_points};

@@ -64,6 +64,7 @@ pub(crate) fn marked(
 }
 
 // Two statements, one after the other.
+#[tactic(auto, using(crate::proofs::Rows::mark_rows))]
 fn sequence(
     alloc: Global,
     at: Span,

@@ -1,14 +1,15 @@
 // Names of new signals.
 
-ghost use Rattle.std.specs.Prelude.{◌≡◌, ◌+◌, ◌≤◌, ◌<◌, ◌++◌, ◌∷◌, [], IfOk, IsTrue, OnOk, decimal, length, map, take};
+ghost use Rattle.std.specs.Prelude.{◌≡◌, ◌+◌, ◌≤◌, ◌∷◌, All, IfOk, IsTrue, OnOk, decimal, length, map, take};
 ghost use Rattle.std.specs.List.{list_any};
 ghost use Rattle.base_types.specs.Distinct.{all_differ};
-ghost use Rattle.base_types.specs.Names.{is_same_name};
+ghost use Rattle.base_types.specs.Names.{is_name, is_same_name};
+ghost use Rattle.est_ast.specs.FlatPrograms.{IsNamed};
 ghost use Rattle.est_ast.specs.FlatViews.{flat_of};
 ghost use Rattle.est_cover.specs.Covered.{seen_of};
 ghost use Rattle.est_cover.specs.NewNames.{AreNew};
 
-use base_types::{NoMemory, SignalInfo, Text, put_number};
+use base_types::{NoMemory, SignalInfo, Text, is_letter, is_name_byte, put_number};
 use est_ast::Flat;
 use std::alloc::Global;
 
@@ -27,7 +28,7 @@ pub fn new_names(alloc: Global, flat: &Flat, count: usize) -> Result<Vec<SignalI
 }
 
 // The same for a program of which the environment sees these signals.
-#[tactic(auto, using(crate::proofs::Names::name_rows))]
+#[tactic(auto, using(crate::proofs::FreshNames::name_rows))]
 fn names_beside(
     alloc: Global,
     given: &[SignalInfo],
@@ -49,7 +50,7 @@ fn names_beside(
 }
 
 // One more name, made of this number, unless there is such a name.
-#[tactic(auto, using(crate::proofs::Names::name_rows))]
+#[tactic(auto, using(crate::proofs::FreshNames::name_rows))]
 fn push_new(
     alloc: Global,
     given: &[SignalInfo],
@@ -87,4 +88,41 @@ fn is_among(signals: &[SignalInfo], name: &[u8]) -> bool
         }
     }
     false
+}
+
+/// Reports whether the names of a program and of its interface can be written: a letter, followed by letters, digits and
+/// `_`.
+pub fn is_named(flat: &Flat) -> bool
+    requires { seen_of (flat_of flat.now) ≤ length flat.now.signals.items }
+    ensures { IsTrue result → IsNamed (flat_of flat.now) }
+{
+    let seen = (flat.inputs + (flat.both + flat.outputs)) as usize;
+    is_written(flat.name.bytes()) && are_written(&flat.signals[..seen])
+}
+
+// Whether each of these names can be written.
+fn are_written(signals: &[SignalInfo]) -> bool
+    ensures { IsTrue result → All (λ n. IsTrue (is_name n)) (map (λ s. s.name) signals.now) }
+{
+    for signal in signals {
+        if !is_written(signal.name.bytes()) {
+            return false;
+        }
+    }
+    true
+}
+
+// Whether a name can be written.
+fn is_written(name: &[u8]) -> bool
+    ensures { IsTrue result → IsTrue (is_name name.now) }
+{
+    if name.is_empty() || !is_letter(name[0]) {
+        return false;
+    }
+    for byte in &name[1..] {
+        if !is_name_byte(*byte) {
+            return false;
+        }
+    }
+    true
 }

@@ -16,15 +16,8 @@ use base_types::{InputRelation, NoMemory, SignalInfo, Text};
 use est_ast::{Flat, FlatStmt};
 use std::alloc::Global;
 
-/// A covered program, and all points of the program that it is made of.
-#[derive(Drop)]
-pub struct CoveredFlat {
-    pub flat: Flat,
-    pub points: Vec<Point>,
-}
-
 /// The program with new outgoing signals of these names, one for each of as many points from the one with the number
-/// `first` on, and the list of all points. Where fewer points are left, the last of the new signals are never emitted.
+/// `first` on. Where fewer points are left, the last of the new signals are never emitted.
 /// It takes time and memory in proportion to the program. Out of memory is the only error.
 ///
 /// Example: `emit O` has one point, and its covered program is `emit p0; emit O` with the outgoing signals `O` and `p0`.
@@ -33,12 +26,10 @@ pub fn cover_program(
     flat: &Flat,
     first: usize,
     names: &[SignalInfo],
-) -> Result<CoveredFlat, NoMemory>
+) -> Result<Flat, NoMemory>
     requires interface { seen_of (flat_of flat.now) ≤ length flat.now.signals.items }
     requires room { length flat.now.signals.items + length names.now ≤ 4096 }
-    ensures covers { IfOk result (λ c. flat_of c.flat
-        ≡ covered (flat_of flat.now) first (map (λ s. s.name) names.now)) }
-    ensures points { IfOk result (λ c. c.points.items ≡ points_of (flat_of flat.now)) }
+    ensures { IfOk result (λ c. flat_of c ≡ covered (flat_of flat.now) first (map (λ s. s.name) names.now)) }
 {
     let count = names.len() as u32;
     let seen = flat.inputs + (flat.both + flat.outputs);
@@ -46,7 +37,19 @@ pub fn cover_program(
     let mut points = Vec::new(alloc);
     let body = cover(alloc, portion, &mut points, &flat.body)?;
     let head = head_of(alloc, flat, names)?;
-    Ok(whole(head, body, points))
+    Ok(whole(head, body))
+}
+
+/// The points of a program, in order. Out of memory is the only error.
+pub fn program_points(alloc: Global, flat: &Flat) -> Result<Vec<Point>, NoMemory>
+    ensures { IfOk result (λ points. points.items ≡ points_of (flat_of flat.now)) }
+{
+    let (seen, first, count) = (0, 0, 0);
+    let portion = Portion { seen, first, count };
+    let mut points = Vec::new(alloc);
+    let body = cover(alloc, portion, &mut points, &flat.body)?;
+    drop(body);
+    Ok(points)
 }
 
 // What a program with new outgoing signals of these names has besides its body.
@@ -132,21 +135,17 @@ fn copied_relation(alloc: Global, relation: &InputRelation) -> Result<InputRelat
 }
 
 // The covered program of its parts.
-fn whole(head: Head, body: FlatStmt, points: Vec<Point>) -> CoveredFlat
-    ensures covers { (flat : PlainFlat) (first : ℕ) (names : List (List ℕ)) → IsHeadOf flat names head
-        → flat_stmt_of body ≡ (covered flat first names).body → flat_of result.flat ≡ covered flat first names }
-    ensures points { result.points ≡ points }
+fn whole(head: Head, body: FlatStmt) -> Flat
+    ensures { (flat : PlainFlat) (first : ℕ) (names : List (List ℕ)) → IsHeadOf flat names head
+        → flat_stmt_of body ≡ (covered flat first names).body → flat_of result ≡ covered flat first names }
 {
-    CoveredFlat {
-        flat: Flat {
-            name: head.name,
-            signals: head.signals,
-            inputs: head.inputs,
-            both: head.both,
-            outputs: head.outputs,
-            relations: head.relations,
-            body,
-        },
-        points,
+    Flat {
+        name: head.name,
+        signals: head.signals,
+        inputs: head.inputs,
+        both: head.both,
+        outputs: head.outputs,
+        relations: head.relations,
+        body,
     }
 }

@@ -1,7 +1,7 @@
 use Rattle.est_cover.proofs.programs.whole.Goals as goal
 
-pub returns-clause-covers : goal.returns-clause-covers
-returns-clause-covers c = λ flat first names head body i. record {
+pub returns : goal.returns
+returns c = λ flat first names head body i. record {
   name = head.name i;
   signals = head.signals i;
   inputs = head.inputs i;

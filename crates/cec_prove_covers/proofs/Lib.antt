@@ -1,0 +1,3 @@
+mod FlatSources
+mod CoveringLines
+mod Joint
