@@ -91,11 +91,11 @@ pub(crate) fn awaiting_delay(
     match delay {
         FlatDelay::Plain(event) => {
             let event = test_of(alloc, event)?;
-            awaiting(alloc, at, event)
+            Ok(awaiting(alloc, at, event)?)
         }
         FlatDelay::Immediate(event) => {
             let event = test_of(alloc, event)?;
-            awaiting_immediately(alloc, at, event)
+            Ok(awaiting_immediately(alloc, at, event)?)
         }
         FlatDelay::Count(count, _, event) => {
             let event = test_of(alloc, event)?;
@@ -265,7 +265,7 @@ pub(crate) fn abortion(
     let part = aborting_by(alloc, at, delay, signal, 2, body)?;
     let part = terms::trap(alloc, part)?;
     let nothing = terms::node(alloc, Kernel::Nothing)?;
-    tested_first(alloc, delay, nothing, part)
+    Ok(tested_first(alloc, delay, nothing, part)?)
 }
 
 /// What `abort p when d do q end` runs inside its two traps.
@@ -282,7 +282,7 @@ pub(crate) fn aborting_handled(
 {
     let part = aborting_by(alloc, at, delay, signal, 3, body)?;
     let exit = terms::node(alloc, Kernel::Exit(2))?;
-    tested_first(alloc, delay, exit, part)
+    Ok(tested_first(alloc, delay, exit, part)?)
 }
 
 /// `trap N in trap T in p end; q end`.

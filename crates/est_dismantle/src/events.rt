@@ -23,11 +23,11 @@ pub(crate) fn test_of(alloc: Global, event: &FlatExpr) -> Result<Test, NoMemory>
         FlatExpr::Not(part) => Ok(Test::Not(Box::new(alloc, test_of(alloc, part)?)?)),
         FlatExpr::And(parts) => {
             let parts = tests_of(alloc, parts.as_slice())?;
-            conjunction(alloc, parts)
+            Ok(conjunction(alloc, parts)?)
         }
         FlatExpr::Or(parts) => {
             let parts = tests_of(alloc, parts.as_slice())?;
-            disjunction(alloc, parts)
+            Ok(disjunction(alloc, parts)?)
         }
     }
 }

@@ -38,7 +38,7 @@ pub(crate) fn expand(
     ensures term { IfOk result (λ k. boxed_term k ≡ stmt_kernel (traps_of traps.now) next.old statement.now) }
     ensures next { OnOk result (next.new ≡ next.old + stmt_new statement.now) }
 {
-    expand_form(alloc, &statement.form, statement.span, traps, next)
+    Ok(expand_form(alloc, &statement.form, statement.span, traps, next)?)
 }
 
 #[cycle(expansion)]
@@ -103,7 +103,7 @@ pub(crate) fn expand_part(
 {
     match part {
         None => terms::node(alloc, Kernel::Nothing),
-        Some(statement) => expand(alloc, statement, traps, next),
+        Some(statement) => Ok(expand(alloc, statement, traps, next)?),
     }
 }
 

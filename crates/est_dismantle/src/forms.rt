@@ -66,7 +66,7 @@ pub(crate) fn expand_await_case(
     ensures next { OnOk result (next.new ≡ next.old + node_new (AwaitCase cases.now)) }
 {
     let choices = expand_cases(alloc, cases.as_slice(), traps, next)?;
-    awaiting_cases(alloc, at, cases.as_slice(), choices)
+    Ok(awaiting_cases(alloc, at, cases.as_slice(), choices)?)
 }
 
 /// `present e`, and its two parts.
@@ -89,7 +89,7 @@ pub(crate) fn expand_present(
 {
     let yes = expand_part(alloc, yes, traps, next)?;
     let no = expand_part(alloc, no, traps, next)?;
-    choice_by(alloc, test, yes, no)
+    Ok(choice_by(alloc, test, yes, no)?)
 }
 
 /// `present` of cases, and the part after `else`.
@@ -111,7 +111,7 @@ pub(crate) fn expand_present_case(
 {
     let choices = expand_cases(alloc, cases.as_slice(), traps, next)?;
     let no = expand_part(alloc, no, traps, next)?;
-    chosen(alloc, choices, no)
+    Ok(chosen(alloc, choices, no)?)
 }
 
 /// `loop p end`.
@@ -258,7 +258,7 @@ pub(crate) fn expand_abort_case(
     let outer = Traps::New(traps);
     let body = expand(alloc, body, &Traps::New(&outer), next)?;
     let choices = expand_cases(alloc, cases.as_slice(), &outer, next)?;
-    aborting_cases(alloc, at, cases.as_slice(), body, choices)
+    Ok(aborting_cases(alloc, at, cases.as_slice(), body, choices)?)
 }
 
 /// `weak abort p when d`.

@@ -65,13 +65,13 @@ fn select_part(
             push_leaf(draft, whole)?;
             Ok(whole.path + 1)
         }
-        Kernel::Present(_, yes, no) => select_test(yes, no, whole, codes, draft),
-        Kernel::Suspend(_, part) => select_passing(part, whole, codes, draft),
-        Kernel::Seq(first, second) => select_sequence(first, second, whole, codes, draft),
-        Kernel::Loop(_, part) => select_passing(part, whole, codes, draft),
-        Kernel::Par(left, right) => select_parallel(left, right, whole, codes, draft),
-        Kernel::Trap(part) => select_passing(part, whole, codes, draft),
-        Kernel::Local(_, part) => select_passing(part, whole, codes, draft),
+        Kernel::Present(_, yes, no) => Ok(select_test(yes, no, whole, codes, draft)?),
+        Kernel::Suspend(_, part) => Ok(select_passing(part, whole, codes, draft)?),
+        Kernel::Seq(first, second) => Ok(select_sequence(first, second, whole, codes, draft)?),
+        Kernel::Loop(_, part) => Ok(select_passing(part, whole, codes, draft)?),
+        Kernel::Par(left, right) => Ok(select_parallel(left, right, whole, codes, draft)?),
+        Kernel::Trap(part) => Ok(select_passing(part, whole, codes, draft)?),
+        Kernel::Local(_, part) => Ok(select_passing(part, whole, codes, draft)?),
     }
 }
 

@@ -60,7 +60,10 @@ impl Draft {
     {
         match op {
             Op::Copy(net) => Ok(net),
-            Op::Const(_) | Op::Not(_) | Op::And(_, _) | Op::Or(_, _) => self.push(op),
+            Op::Const(_) | Op::Not(_) | Op::And(_, _) | Op::Or(_, _) => {
+                let net = self.push(op)?;
+                Ok(net)
+            }
         }
     }
 

@@ -35,7 +35,10 @@ pub(crate) fn lower(
         Formula::Input(signal) => Ok(Op::Copy(circuit.input(*signal))),
         Formula::Wire(wire) => Ok(Op::Copy(entry(&circuit.wires, wire.0 as usize))),
         Formula::Selected(path) => Ok(Op::Copy(circuit.source(selected_source(words, *path)))),
-        Formula::Upto(instance, code) => ends_op(circuit, graph, words, *instance, *code),
+        Formula::Upto(instance, code) => {
+            let op = ends_op(circuit, graph, words, *instance, *code)?;
+            Ok(op)
+        }
         Formula::Kept(instance) => Ok(Op::Copy(circuit.source(words.kept[instance.0 as usize]))),
         Formula::Held(instance) => Ok(Op::Copy(circuit.source(words.held[instance.0 as usize]))),
         Formula::Not(part) => {
@@ -57,7 +60,10 @@ pub(crate) fn lower(
             let second = circuit.net(op)?;
             Ok(Op::Or(first, second))
         }
-        Formula::AnyOf(wires) => any_of(circuit, graph, words, wires),
+        Formula::AnyOf(wires) => {
+            let op = any_of(circuit, graph, words, wires)?;
+            Ok(op)
+        }
     }
 }
 
