@@ -18,7 +18,7 @@ reaches-more flat assumed number [] r are is =
 reaches-more flat assumed number (q ∷ reaches) r are is = (
   are.0,
   reaches-more flat assumed (number + 1) reaches r are.1
-  (subst (λ k. IsReach flat assumed k r) (let e : number + length (q ∷ reaches) ≡ number + 1 + length reaches = omega arith in e) is),
+      (subst (λ k. IsReach flat assumed k r) (let e : number + length (q ∷ reaches) ≡ number + 1 + length reaches = omega arith in e) is),
 )
 
 text-more : (source : List ℕ) (points : List Point) (reaches : List Reach) (point : Point) (r : Reach) → length points ≡ length reaches

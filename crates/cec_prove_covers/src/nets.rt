@@ -115,10 +115,7 @@ fn program_net<P: Picker>(
 }
 
 // A program with its static codes, where it has no instantaneous loop.
-fn analysed_program(
-    alloc: Global,
-    program: KernelProgram,
-) -> Result<Option<Analysed>, NoMemory>
+fn analysed_program(alloc: Global, program: KernelProgram) -> Result<Option<Analysed>, NoMemory>
     requires { IsWellFormed (program_of program) }
     ensures program { IfOk result (λ o. IfSome o (λ a. program_of a.program ≡ program_of program)) }
     ensures no_loop { IfOk result (λ o. IfSome o (λ a. NoInstantLoop (term_of a.program.body))) }

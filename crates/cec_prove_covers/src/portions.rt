@@ -67,11 +67,7 @@ pub(crate) fn covering_lines<P: Picker>(
 }
 
 // The same with these names.
-fn all_lines<P: Picker>(
-    alloc: Global,
-    asked: &Asked<'_>,
-    picker: &mut P,
-) -> Result<Lines, NoMemory>
+fn all_lines<P: Picker>(alloc: Global, asked: &Asked<'_>, picker: &mut P) -> Result<Lines, NoMemory>
     requires { IsAsked asked.now }
     ensures { IfOk result (HasLines asked.now (length asked.now.points.now)) }
 {
@@ -172,12 +168,7 @@ fn push_finding(
         (reach_of finding.now) }
     ensures { HasLines asked.now number lines.old → OnOk result (HasLines asked.now (number + 1) lines.new) }
 {
-    push_point(
-        &mut lines.text,
-        asked.source,
-        asked.points[number],
-        finding,
-    )?;
+    push_point(&mut lines.text, asked.source, asked.points[number], finding)?;
     lines.whole = both(lines.whole, is_known(finding));
     Ok(())
 }
@@ -209,5 +200,12 @@ fn point_reach(
     }
     let signal = asked.names[place].name.bytes();
     let program = &net.compiled.graph.program;
-    signal_reach(alloc, program, &net.small, signal, asked.assumed, asked.effort)
+    signal_reach(
+        alloc,
+        program,
+        &net.small,
+        signal,
+        asked.assumed,
+        asked.effort,
+    )
 }

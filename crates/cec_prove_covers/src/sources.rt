@@ -58,11 +58,7 @@ fn room_beside(program: &KernelProgram, net: &Net, assumed: Option<&[u8]>) -> Op
 }
 
 /// The flat program of a source. It refuses what `cec_compile::compile` refuses at this stage.
-pub(crate) fn source_flat(
-    alloc: Global,
-    text: &[u8],
-    main: Option<&[u8]>,
-) -> Result<Flat, Refusal>
+pub(crate) fn source_flat(alloc: Global, text: &[u8], main: Option<&[u8]>) -> Result<Flat, Refusal>
     requires { length text.now ≤ Limits.SOURCE_BYTES }
     ensures flattens { IfOk result (λ f. Flattens text.now (option_map (λ m. m.now) main.entry) (flat_of f)) }
     ensures flat { IfOk result (λ f. IsFlat (flat_of f)) }
