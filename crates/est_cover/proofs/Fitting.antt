@@ -43,10 +43,10 @@ moved-least w least s h few = go (nat_lt s w.seen) refl
 -- ---- what is visible
 
 -- what is visible here is visible there, by its new number, and so are the new signals
-record Moves (w : Portion) (all : ℕ) (v u : ℕ → Bool) : Type 0 where
-  moves : (s : ℕ) → IsTrue (v s) → IsTrue (u (moved w s))
-  low : (s : ℕ) → IsTrue (v s) → s < all
-  new : (s : ℕ) → w.seen ≤ s → s < w.seen + w.count → IsTrue (u s)
+pub record Moves (w : Portion) (all : ℕ) (v u : ℕ → Bool) : Type 0 where
+  pub moves : (s : ℕ) → IsTrue (v s) → IsTrue (u (moved w s))
+  pub low : (s : ℕ) → IsTrue (v s) → s < all
+  pub new : (s : ℕ) → w.seen ≤ s → s < w.seen + w.count → IsTrue (u s)
 
 bind-moves : (w : Portion) (all s t : ℕ) (v u : ℕ → Bool) → Moves w all v u → IsTrue (t == s || v t) → IsTrue (moved w t == moved w s || u (moved w t))
 bind-moves w all s t v u m h = go (t == s) refl h
@@ -90,14 +90,14 @@ delay-fits w all v u (Count count span event) m h = test-fits w all v u event m 
 
 -- in a program that has this many inputs, interface signals and signals in all
 module _ (inputs seen all first n : ℕ) (given : inputs ≤ seen) (few : all + n < 2 ^ 32) where
-  abbrev w : Portion
+  abbrev pub w : Portion
   w = record { seen = seen; first = first; count = n }
 
-  record Opens (scope outer : Scope) : Type 0 where
-    visible : Moves w all scope.visible outer.visible
-    traps : outer.traps ≡ scope.traps
+  pub record Opens (scope outer : Scope) : Type 0 where
+    pub visible : Moves w all scope.visible outer.visible
+    pub traps : outer.traps ≡ scope.traps
 
-  abbrev Fitting : Scope → Stmt → Type 0
+  abbrev pub Fitting : Scope → Stmt → Type 0
   Fitting = Fits inputs (seen + n) (all + n)
 
   in-trap : (scope outer : Scope) → Opens scope outer → Opens (in_trap scope) (in_trap outer)

@@ -1,14 +1,16 @@
 -- Inner: names of new signals.
 use Rattle.std.proofs.Common.{◌≡◌, ℕ, ◌<◌, ◌≤◌, ◌^◌, ◌==◌, ◌&&◌, ◌||◌, Bool, true, false, not, List, [], ◌∷◌, ◌++◌, length, map, refl, sym, ap, ◌∙◌, arith, All}
-use Rattle.std.proofs.Common.{IsTrue, append_assoc, append-nil, decimal, nat_le, get_or}
+use Rattle.std.proofs.Common.{IsTrue, append_assoc, append-nil, decimal, nat_le, get_or, drop, ◌+◌}
 use Rattle.std.specs.List.{list_any, list_all}
 use Rattle.std.specs.Str.Parse.{AllDigits}
 use Rattle.std.proofs.lemmas.Bool.{and_parts, or_parts, and_from, or_from, not-true, false_from_ne_true, not_from_false, le-leb}
 use Rattle.std.proofs.lemmas.Fmt.{decimal_is_IsNumeral}
 use Rattle.std.proofs.lemmas.List.{map-append}
-use Rattle.std.proofs.lemmas.List.Elements.{All-append}
+use Rattle.std.proofs.lemmas.List.Elements.{All-append, All-cons, All-nil}
 use Rattle.std.proofs.lemmas.List.Folds.{list_any-append}
 use Rattle.std.proofs.lemmas.Str.Parse.{digit_at}
+use Rattle.base_facts.proofs.Lists.{drop-at}
+use Rattle.base_types.specs.declared.interface.SignalInfo.{SignalInfo}
 use Rattle.base_types.specs.Distinct.{all_differ}
 use Rattle.base_types.specs.Names.{is_digit, is_letter, is_name, is_name_byte, is_same_name}
 use Rattle.base_types.proofs.Exports.{same_name-is, same_name-self}
@@ -16,7 +18,7 @@ use Rattle.est_cover.specs.NewNames.{AreNew}
 
 -- ---- digits
 
-or_middle : (a b c : Bool) → b ≡ true → (a || (b || c)) ≡ true
+or_middle : (a b c : Bool) → b ≡ true → ((a || b) || c) ≡ true
 or_middle true b c h = refl
 or_middle false b c h = ap (λ d. d || c) h
 
@@ -60,13 +62,21 @@ new-more f given old new x is written apart fresh before =
     list_any-append (is_same_name (f x)) given (map f old)
     ∙ or_from (list_any (is_same_name (f x)) given) (list_any (is_same_name (f x)) (map f old)) apart fresh in
     rw grown (record {
-      written = All-append (λ n. IsTrue (is_name n)) (map f old) (f x ∷ []) before.written (written, tt);
+      written = All-append (λ n. IsTrue (is_name n)) (map f old) (f x ∷ []) before.written (All-cons (λ n. IsTrue (is_name n)) (f x) [] written (All-nil (λ n. IsTrue (is_name n))));
       differ = ap (all_differ is_same_name) (sym (append_assoc given (map f old) (f x ∷ [])))
           ∙ differ-more (given ++ map f old) (f x) before.differ out;
     })
 
 -- no name yet
 pub new-none : (given : List (List ℕ)) → IsTrue (all_differ is_same_name given) → AreNew given []
-new-none given h = record { written = tt; differ = ap (all_differ is_same_name) (append-nil given) ∙ h }
+new-none given h = record { written = All-nil (λ n. IsTrue (is_name n)); differ = ap (all_differ is_same_name) (append-nil given) ∙ h }
 
-pub ruleset name_rows = (new-none, new-more, numbered-name)
+-- ---- names among others
+
+pub any-here : (name : List ℕ) (l : List SignalInfo) (i : ℕ) (s : SignalInfo) → i < length l → s ≡ get_or l i s → is_same_name name s.name ≡ true
+    → list_any (is_same_name name) (map (λ t. t.name) (drop i l)) ≡ true
+any-here name l i s h is same =
+    ap (λ m. list_any (is_same_name name) (map (λ (t : SignalInfo). t.name) m)) (drop-at l i s h is)
+    ∙ ap (λ b. b || list_any (is_same_name name) (map (λ (t : SignalInfo). t.name) (drop (i + 1) l))) same
+
+pub ruleset name_rows = (new-none, numbered-name)

@@ -418,6 +418,18 @@ pub choice-points_end : (at : Span) (before whole : List Point) (l : List FlatCa
 choice-points_end at before whole l i h rest =
     sym (ap (choice_points at before) (drop_of_length-le l h) ∙ choice-points_none at before) ∙ rest
 
+-- ---- a whole body
+
+pub covered-of : (w : Portion) (before : List Point) (p : FlatStmt) (seen first count : ℕ) → w.seen ≡ seen → w.first ≡ first → w.count ≡ count → before ≡ []
+    → stmt_covered w before p ≡ defined.covered_stmt (record { seen = seen; first = first; count = count }) [] (flat_stmt_of p)
+unfolding stmt_covered
+covered-of w before p seen first count a b c d = λ i.
+    defined.covered_stmt (record { seen = a i; first = b i; count = c i }) (d i) (flat_stmt_of p)
+
+pub points-from : (before : List Point) (p : FlatStmt) → before ≡ [] → stmt_points before p ≡ points_after [] (flat_stmt_of p)
+unfolding stmt_points
+points-from before p none = ap (λ b. points_after b (flat_stmt_of p)) none
+
 -- ---- cases
 
 none-some : (p : FlatStmt) → None ≡ Some p → ⊥

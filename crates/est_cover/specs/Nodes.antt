@@ -41,11 +41,11 @@ rest_points kind before q = handler_points kind before (flat_part_of q)
 unfoldable pub case_points : Span → List Point → FlatCase → List Point
 case_points at before c = branch_points kinds.Case at before (flat_body_of c)
 
-pub list_points : List Point → List FlatStmt → List Point
+unfoldable pub list_points : List Point → List FlatStmt → List Point
 list_points before [] = before
 list_points before (p ∷ l) = list_points (stmt_points before p) l
 
-pub choice_points : Span → List Point → List FlatCase → List Point
+unfoldable pub choice_points : Span → List Point → List FlatCase → List Point
 choice_points at before [] = before
 choice_points at before (c ∷ l) = choice_points at (case_points at before c) l
 
@@ -92,10 +92,10 @@ case_covered w at before c = (
   defined.covered_branch (portion_of w) kinds.Case at before (flat_body_of c),
 )
 
-pub list_covered : Portion → List Point → List FlatStmt → List Stmt
+unfoldable pub list_covered : Portion → List Point → List FlatStmt → List Stmt
 list_covered w before [] = []
 list_covered w before (p ∷ l) = stmt_covered w before p ∷ list_covered w (stmt_points before p) l
 
-pub choices_covered : Portion → Span → List Point → List FlatCase → List (Expr × Part)
+unfoldable pub choices_covered : Portion → Span → List Point → List FlatCase → List (Expr × Part)
 choices_covered w at before [] = []
 choices_covered w at before (c ∷ l) = case_covered w at before c ∷ choices_covered w at (case_points at before c) l
