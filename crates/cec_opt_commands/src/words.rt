@@ -345,11 +345,7 @@ fn misuse_of_options<'a>(command: &'a [u8], words: &'a [String]) -> Misuse<'a>
 }
 
 // The same after one option.
-fn misuse_of_more<'a>(
-    command: &'a [u8],
-    options: Options<'a>,
-    words: &'a [String],
-) -> Misuse<'a>
+fn misuse_of_more<'a>(command: &'a [u8], options: Options<'a>, words: &'a [String]) -> Misuse<'a>
     ensures { result.fault.now ++ result.word.now
         ≡ misuse_of_more command.now (options_are options.entry) (map string_bytes words.now) }
 {

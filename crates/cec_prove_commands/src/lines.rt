@@ -86,6 +86,8 @@ fn put_line<E: Sink>(
         ProveOutcome::Refuted => put_said(err, b"refuted", b""),
         ProveOutcome::Surveyed => put_said(err, b"all signals are decided", b""),
         ProveOutcome::PartlySurveyed => put_said(err, b"some signals are undecided", b""),
+        ProveOutcome::Covered => put_said(err, b"all points are decided", b""),
+        ProveOutcome::PartlyCovered => put_said(err, b"some points are undecided", b""),
         ProveOutcome::Undecided(depth) => put_depth(err, *depth),
         ProveOutcome::NoSignal => put_said(err, b"no outgoing signal ", subject.signal),
         ProveOutcome::NoAssumed => put_said(err, b"no outgoing signal ", subject.assumed),
@@ -95,8 +97,16 @@ fn put_line<E: Sink>(
         ProveOutcome::Usage => put_said(err, b"no meaning", b""),
         ProveOutcome::FileFault => put_said(err, b"cannot read ", subject.name.as_bytes()),
         ProveOutcome::SecondFault => put_said(err, b"cannot read ", subject.other.as_bytes()),
-        ProveOutcome::Refused(refusal) => put_refusal(err, refused_of(subject, subject.name), refusal),
-        ProveOutcome::SecondRefused(refusal) => put_refusal(err, refused_of(subject, subject.other), refusal),
+        ProveOutcome::Refused(refusal) => put_refusal(
+            err,
+            refused_of(subject, subject.name),
+            refusal,
+        ),
+        ProveOutcome::SecondRefused(refusal) => put_refusal(
+            err,
+            refused_of(subject, subject.other),
+            refusal,
+        ),
         ProveOutcome::WriteFault => put_said(err, b"cannot write", b""),
         ProveOutcome::NoMemory => put_said(err, b"out of memory", b""),
     }

@@ -58,12 +58,7 @@ pub fn put_refusal<E: Sink>(
 }
 
 // A line of two parts, after the name of the program.
-fn put_line<E: Sink>(
-    err: &mut E,
-    program: &[u8],
-    said: &[u8],
-    of: &[u8],
-) -> Result<(), SinkFault>
+fn put_line<E: Sink>(err: &mut E, program: &[u8], said: &[u8], of: &[u8]) -> Result<(), SinkFault>
     ensures { Wrote (E.told err.old) (E.told err.new) (E.faults err.old) (E.faults err.new)
         (program.now ++ ((said.now ++ of.now) ++ codes "\n")) result }
 {

@@ -10,13 +10,13 @@ light_of-requires-clause-stands g c = let s = c.in_ok-compiled.ensures.compiles 
 
 pub returns-clause-light : goal.returns-clause-light
 returns-clause-light g c =
-    let s = c.in_ok-compiled.ensures.compiles in
-    ( c.in_ok-compiled.compiled
-    , record {
+    let s = c.in_ok-compiled.ensures.compiles in (
+      c.in_ok-compiled.compiled,
+      record {
         stands = s;
         shares = subst (λ q. SharesWires q (is_shared c.in_ok-compiled.compiled.graph)) s.compiled.program c.in_ok-compiled.ensures.shares;
         light = c.in_ok-net.ensures s.program s.compiled;
-      }
+      },
     )
 
 pub returns-clause-compiles : goal.returns-clause-compiles
