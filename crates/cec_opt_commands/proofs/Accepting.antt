@@ -3,11 +3,11 @@ use Rattle.std.proofs.Common.{◌≡◌, ℕ, ◌≤◌, ◌<◌, ◌⊎◌, Lis
 use Rattle.base_types.specs.Faults.{Rose}
 use Rattle.base_types.specs.SinkChanges.{SinkChange}
 use Rattle.cec_text_io.proofs.Exports.{never_rose}
-use Rattle.cec_opt_commands.specs.Laws.{IsAccepted, IsFaultless, AcceptedTextsAreDone}
-use Rattle.cec_opt_commands.specs.Outcomes.{IsOptOutcomeOf, CountsFiles, LeavesAnswer, IsTextOf, GainsOut}
-use Rattle.cec_opt_commands.specs.Words.{Request, Tell, Do}
+use Rattle.cec_opt_commands.specs.Laws.{IsAccepted, IsFaultless, IsNotRefused, AcceptedTextsAreDone}
+use Rattle.cec_opt_commands.specs.Outcomes.{IsOptOutcomeOf, CountsFiles, LeavesAnswer, IsTextOf, IsSourceTextOf, GainsOut}
+use Rattle.cec_opt_commands.specs.Words.{Request, Tell, Do, Make}
 use Rattle.cec_opt_commands.specs.declared.outcome.OptOutcome.{OptOutcome}
-use Rattle.cec_opt_commands.specs.declared.outcome.OptOutcome.TheVariants.{Done, Usage, FileFault, BadText, TooLong, WriteFault, NoMemory}
+use Rattle.cec_opt_commands.specs.declared.outcome.OptOutcome.TheVariants.{Done, Usage, FileFault, BadText, TooLong, Refused, WriteFault, NoMemory}
 use Rattle.cec_opt_commands.specs.declared.words.Task.{Task}
 use Rattle.cec_opt_commands.specs.declared.words.Task.TheVariants.{Write, Check}
 
@@ -25,6 +25,7 @@ accepted_done (Tell about) held Usage before now failed_before failed_now s acce
 accepted_done (Tell about) held FileFault before now failed_before failed_now s accepted agrees counts still out steady = absurd agrees
 accepted_done (Tell about) held (BadText fault) before now failed_before failed_now s accepted agrees counts still out steady = absurd agrees
 accepted_done (Tell about) held TooLong before now failed_before failed_now s accepted agrees counts still out steady = absurd agrees
+accepted_done (Tell about) held (Refused refusal) before now failed_before failed_now s accepted agrees counts still out steady = absurd agrees
 accepted_done (Tell about) held WriteFault before now failed_before failed_now s accepted agrees counts still out steady = absurd (steady out.2.faults)
 accepted_done (Tell about) held NoMemory before now failed_before failed_now s accepted agrees counts still out steady = inr refl
 accepted_done (Do task name) held Done before now failed_before failed_now s accepted agrees counts still out steady = inl refl
@@ -35,9 +36,21 @@ accepted_done (Do task name) held (BadText fault) before now failed_before faile
     absurd ((subst IsFaultless (sym agrees.1) accepted).faultless fault agrees.2.1)
 accepted_done (Do task name) held TooLong before now failed_before failed_now s accepted agrees counts still out steady =
     absurd (not_long _ _ (subst IsFaultless (sym agrees.1) accepted).short agrees.2)
+accepted_done (Do task name) held (Refused refusal) before now failed_before failed_now s accepted agrees counts still out steady = absurd agrees.2
 accepted_done (Do task name) held WriteFault before now failed_before failed_now s accepted agrees counts still out steady =
     absurd (steady (answer_rose task (IsTextOf task name (Some held)) s out))
 accepted_done (Do task name) held NoMemory before now failed_before failed_now s accepted agrees counts still out steady = inr refl
+accepted_done (Make task name main) held Done before now failed_before failed_now s accepted agrees counts still out steady = inl refl
+accepted_done (Make task name main) held Usage before now failed_before failed_now s accepted agrees counts still out steady = absurd agrees.2
+accepted_done (Make task name main) held FileFault before now failed_before failed_now s accepted agrees counts still out steady =
+    absurd (still counts.faults)
+accepted_done (Make task name main) held (BadText fault) before now failed_before failed_now s accepted agrees counts still out steady = absurd agrees.2
+accepted_done (Make task name main) held TooLong before now failed_before failed_now s accepted agrees counts still out steady = absurd agrees.2
+accepted_done (Make task name main) held (Refused refusal) before now failed_before failed_now s accepted agrees counts still out steady =
+    absurd (subst (IsNotRefused main) (sym agrees.1) accepted refusal agrees.2)
+accepted_done (Make task name main) held WriteFault before now failed_before failed_now s accepted agrees counts still out steady =
+    absurd (steady (answer_rose task (IsSourceTextOf task name main (Some held)) s out))
+accepted_done (Make task name main) held NoMemory before now failed_before failed_now s accepted agrees counts still out steady = inr refl
 
 -- over files and sinks that count no fault
 pub steady_end : (asked : Option Request) (request : Request) (held : List ℕ → List ℕ) (outcome : OptOutcome) (old new : Option (List ℕ))

@@ -1,6 +1,6 @@
 -- What the answers of the steps say of the whole call.
-use Rattle.std.proofs.Common.{◌≡◌, ℕ, ◌≤◌, List, [], length, Some, Err, inl, refl, subst}
-use Rattle.base_types.specs.declared.bounds.TheConstants.Limits.{TEXT_BYTES}
+use Rattle.std.proofs.Common.{◌≡◌, ℕ, ◌≤◌, List, [], length, Option, Some, Err, inl, refl, subst}
+use Rattle.base_types.specs.declared.bounds.TheConstants.Limits.{SOURCE_BYTES, TEXT_BYTES}
 use Rattle.base_types.specs.declared.files.reading.FileFault as unread
 use Rattle.base_types.specs.declared.files.reading.FileFault.TheVariants as reading
 use Rattle.base_types.specs.declared.stop.Stop.{Stop}
@@ -9,20 +9,26 @@ use Rattle.base_types.specs.Reading.{Reads, Counts, KeepsFaults}
 use Rattle.base_types.specs.SinkChanges.{SinkChange}
 use Rattle.base_types.specs.Stops.{FaultIs}
 use Rattle.base_types.specs.Writing.{Appends}
+use Rattle.cec_compile.specs.Refusals.{IsRefused}
+use Rattle.cec_compile.specs.declared.refusal.Refusal as refusals
+use Rattle.cec_compile.specs.declared.refusal.Refusal.TheVariants as refusing
 use Rattle.cec_opt_texts.specs.Faults.{IsOptFault}
 use Rattle.cec_opt_texts.specs.declared.fault.OptFault.{OptFault}
 use Rattle.cec_text_io.proofs.Pieces as texts
 use Rattle.cec_text_io.proofs.Exports.{long_unread, some_bytes}
 use Rattle.cec_text_io.specs.Contents.{Content, IsHeld}
+use Rattle.cec_text_io.specs.ErrorLines.{GainsLine}
 use Rattle.cec_text_io.specs.Writings.{LeavesText, LeavesPieces}
 use Rattle.cec_text_io.specs.declared.writing.Written.{Written}
 use Rattle.cec_text_io.specs.declared.writing.Written.TheVariants as ends
-use Rattle.cec_opt_commands.specs.Answers.{IsAnswer}
-use Rattle.cec_opt_commands.specs.Outcomes.{HasNet, SaysOf, IsWriting, IsOptOutcomeOf, CountsFiles, LeavesAnswer, IsTextOf, GainsOut}
-use Rattle.cec_opt_commands.specs.Statuses.{written_of, written_outcome, stop_outcome, unread_outcome}
-use Rattle.cec_opt_commands.specs.Words.{Request, Tell, Do}
+use Rattle.cec_opt_commands.specs.Answers.{IsAnswer, IsSourceAnswer}
+use Rattle.cec_opt_commands.specs.Lines.{GainsSourceErr, SpeaksOf, line_of, source_subject}
+use Rattle.cec_opt_commands.specs.Outcomes.{HasNet, SaysOf, IsCompilable, SourceSays, AgreesOnFile, IsWriting, IsOptOutcomeOf}
+use Rattle.cec_opt_commands.specs.Outcomes.{CountsFiles, LeavesAnswer, IsTextOf, IsSourceTextOf, GainsOut}
+use Rattle.cec_opt_commands.specs.Statuses.{written_of, written_outcome, stop_outcome, unread_outcome, refusal_outcome, source_unread_outcome}
+use Rattle.cec_opt_commands.specs.Words.{Request, Tell, Do, Make}
 use Rattle.cec_opt_commands.specs.declared.outcome.OptOutcome.{OptOutcome}
-use Rattle.cec_opt_commands.specs.declared.outcome.OptOutcome.TheVariants.{Done, Usage, FileFault, BadText, TooLong, WriteFault, NoMemory}
+use Rattle.cec_opt_commands.specs.declared.outcome.OptOutcome.TheVariants.{Done, Usage, FileFault, BadText, TooLong, Refused, WriteFault, NoMemory}
 use Rattle.cec_opt_commands.specs.declared.words.Task.{Task}
 use Rattle.cec_opt_commands.specs.declared.words.Task.TheVariants.{Write, Check}
 
@@ -52,6 +58,13 @@ pub written_text : (P Q : List ℕ → Type 0) (s : SinkChange) (ended : Written
     → LeavesText P s (Some ended) → LeavesText Q s (written_of (written_outcome ended))
 written_text P Q s ended f l = subst (LeavesText Q s) (written_as ended) (texts.text_as P Q s (Some ended) f l)
 
+-- a source whose netlist was written
+pub source_written : (ended : Written) (main : Option (List ℕ)) (source : List ℕ) → IsCompilable main source
+    → SourceSays main (written_outcome ended) source
+source_written ends.Done main source is = is
+source_written ends.WriteFault main source is = is
+source_written ends.NoMemory main source is = tt
+
 -- ---- a text without a netlist
 
 pub stop_says : (stop : Stop OptFault) (text : List ℕ) → length text ≤ TEXT_BYTES → FaultIs (IsOptFault text) stop → SaysOf (stop_outcome stop) text
@@ -65,17 +78,48 @@ stop_leaves (Write form) P stops.NoMemory s a = inl a
 stop_leaves Check P (stops.Fault fault) s a = a
 stop_leaves Check P stops.NoMemory s a = a
 
--- ---- a text that was read
+-- ---- a source that does not compile
+
+pub refusal_says : (refusal : refusals.Refusal) (main : Option (List ℕ)) (source : List ℕ) → IsRefused source main refusal
+    → SourceSays main (refusal_outcome refusal) source
+refusal_says (refusing.Static fault) main source is = is
+refusal_says (refusing.Cyclic cycle) main source is = is
+refusal_says (refusing.Limit limit) main source is = is
+refusal_says refusing.NoMemory main source is = tt
+
+pub refusal_leaves : (task : Task) (P : List ℕ → Type 0) (refusal : refusals.Refusal) (s : SinkChange)
+    → Appends s.before s.after s.faults_before s.faults_now [] → LeavesAnswer task P s (refusal_outcome refusal)
+refusal_leaves (Write form) P (refusing.Static fault) s a = a
+refusal_leaves (Write form) P (refusing.Cyclic cycle) s a = a
+refusal_leaves (Write form) P (refusing.Limit limit) s a = a
+refusal_leaves (Write form) P refusing.NoMemory s a = inl a
+refusal_leaves Check P (refusing.Static fault) s a = a
+refusal_leaves Check P (refusing.Cyclic cycle) s a = a
+refusal_leaves Check P (refusing.Limit limit) s a = a
+refusal_leaves Check P refusing.NoMemory s a = a
+
+-- ---- a file that was read
+
+-- what is said of its bytes leaves no file fault
+pub file_agrees : (content : Content) (name : List ℕ) (Says : OptOutcome → List ℕ → Type 0) (outcome : OptOutcome) (bytes : List ℕ)
+    → IsHeld content name bytes → Says outcome bytes → (Says FileFault bytes → ⊥) → AgreesOnFile content name Says outcome
+file_agrees content name Says Done bytes held says apart = (bytes, held, says)
+file_agrees content name Says Usage bytes held says apart = (bytes, held, says)
+file_agrees content name Says FileFault bytes held says apart = absurd (apart says)
+file_agrees content name Says (BadText fault) bytes held says apart = (bytes, held, says)
+file_agrees content name Says TooLong bytes held says apart = (bytes, held, says)
+file_agrees content name Says (Refused refusal) bytes held says apart = (bytes, held, says)
+file_agrees content name Says WriteFault bytes held says apart = (bytes, held, says)
+file_agrees content name Says NoMemory bytes held says apart = (bytes, held, says)
 
 pub read_agrees : (content : Content) (task : Task) (name : List ℕ) (outcome : OptOutcome) (text : List ℕ) → IsHeld content name text → SaysOf outcome text
     → IsOptOutcomeOf (Some (Do task name)) content outcome
-read_agrees content task name Done text held says = (text, held, says)
-read_agrees content task name Usage text held says = absurd says
-read_agrees content task name FileFault text held says = absurd says
-read_agrees content task name (BadText fault) text held says = (text, held, says)
-read_agrees content task name TooLong text held says = (text, held, says)
-read_agrees content task name WriteFault text held says = (text, held, says)
-read_agrees content task name NoMemory text held says = (text, held, says)
+read_agrees content task name outcome text held says = file_agrees content name SaysOf outcome text held says (λ none. none)
+
+pub source_agrees : (content : Content) (task : Task) (name : List ℕ) (main : Option (List ℕ)) (outcome : OptOutcome) (source : List ℕ)
+    → IsHeld content name source → SourceSays main outcome source → IsOptOutcomeOf (Some (Make task name main)) content outcome
+source_agrees content task name main outcome source held says =
+    file_agrees content name (SourceSays main) outcome source held says (λ none. none)
 
 pub read_counts : (task : Task) (name : List ℕ) (outcome : OptOutcome) (text : List ℕ) (before now : ℕ) (failed_before failed_now : List ℕ)
     → SaysOf outcome text → KeepsFaults before now failed_before failed_now
@@ -85,8 +129,21 @@ read_counts task name Usage text before now failed_before failed_now says k = k
 read_counts task name FileFault text before now failed_before failed_now says k = absurd says
 read_counts task name (BadText fault) text before now failed_before failed_now says k = k
 read_counts task name TooLong text before now failed_before failed_now says k = k
+read_counts task name (Refused refusal) text before now failed_before failed_now says k = k
 read_counts task name WriteFault text before now failed_before failed_now says k = k
 read_counts task name NoMemory text before now failed_before failed_now says k = k
+
+pub source_read_counts : (task : Task) (name : List ℕ) (main : Option (List ℕ)) (outcome : OptOutcome) (source : List ℕ) (before now : ℕ)
+    (failed_before failed_now : List ℕ) → SourceSays main outcome source → KeepsFaults before now failed_before failed_now
+    → CountsFiles (Some (Make task name main)) outcome before now failed_before failed_now
+source_read_counts task name main Done source before now failed_before failed_now says k = k
+source_read_counts task name main Usage source before now failed_before failed_now says k = k
+source_read_counts task name main FileFault source before now failed_before failed_now says k = absurd says
+source_read_counts task name main (BadText fault) source before now failed_before failed_now says k = k
+source_read_counts task name main TooLong source before now failed_before failed_now says k = k
+source_read_counts task name main (Refused refusal) source before now failed_before failed_now says k = k
+source_read_counts task name main WriteFault source before now failed_before failed_now says k = k
+source_read_counts task name main NoMemory source before now failed_before failed_now says k = k
 
 answer_as : (task : Task) (P Q : List ℕ → Type 0) (s : SinkChange) (outcome : OptOutcome) → ((written : List ℕ) → P written → Q written)
     → LeavesAnswer task P s outcome → LeavesAnswer task Q s outcome
@@ -98,7 +155,33 @@ pub read_out : (content : Content) (task : Task) (name : List ℕ) (outcome : Op
 read_out content task name outcome text s held l =
     answer_as task (IsAnswer task text) (IsTextOf task name content) s outcome (λ written is. (text, held, is)) l
 
--- ---- a text that was not read
+pub source_out : (content : Content) (task : Task) (name : List ℕ) (main : Option (List ℕ)) (outcome : OptOutcome) (source : List ℕ) (s : SinkChange)
+    → IsHeld content name source → LeavesAnswer task (IsSourceAnswer task source main) s outcome
+    → GainsOut (Some (Make task name main)) content outcome s
+source_out content task name main outcome source s held l =
+    answer_as task (IsSourceAnswer task source main) (IsSourceTextOf task name main content) s outcome (λ written is. (source, held, is)) l
+
+source_speaks : (content : Content) (name : List ℕ) (outcome : OptOutcome) (source : List ℕ) → IsHeld content name source
+    → SpeaksOf content name outcome source
+source_speaks content name Done source held = tt
+source_speaks content name Usage source held = tt
+source_speaks content name FileFault source held = tt
+source_speaks content name (BadText fault) source held = tt
+source_speaks content name TooLong source held = tt
+source_speaks content name (Refused (refusing.Static fault)) source held = held
+source_speaks content name (Refused (refusing.Cyclic cycle)) source held = tt
+source_speaks content name (Refused (refusing.Limit limit)) source held = tt
+source_speaks content name (Refused refusing.NoMemory) source held = tt
+source_speaks content name WriteFault source held = tt
+source_speaks content name NoMemory source held = tt
+
+pub source_err : (content : Content) (name : List ℕ) (main : Option (List ℕ)) (outcome : OptOutcome) (source : List ℕ) (old new : Option (List ℕ))
+    (before now : ℕ) → IsHeld content name source → GainsLine old new before now (line_of (source_subject name main source) outcome)
+    → GainsSourceErr name main content outcome old new before now
+source_err content name main outcome source old new before now held gains =
+    record { source = source; held = source_speaks content name outcome source held; gains = gains }
+
+-- ---- a file that was not read
 
 pub unread_agrees : (content : Content) (task : Task) (name : List ℕ) (fault : unread.FileFault) → Reads content name TEXT_BYTES (Err fault)
     → IsOptOutcomeOf (Some (Do task name)) content (unread_outcome fault)
@@ -106,12 +189,25 @@ unread_agrees content task name reading.Failed read = tt
 unread_agrees content task name reading.TooLong read = long_unread content name TEXT_BYTES read
 unread_agrees content task name reading.NoMemory read = some_bytes content name
 
+pub source_unread_agrees : (content : Content) (task : Task) (name : List ℕ) (main : Option (List ℕ)) (fault : unread.FileFault)
+    → Reads content name SOURCE_BYTES (Err fault) → IsOptOutcomeOf (Some (Make task name main)) content (source_unread_outcome fault)
+source_unread_agrees content task name main reading.Failed read = tt
+source_unread_agrees content task name main reading.TooLong read = long_unread content name SOURCE_BYTES read
+source_unread_agrees content task name main reading.NoMemory read = some_bytes content name
+
 pub unread_counts : (task : Task) (name : List ℕ) (fault : unread.FileFault) (before now : ℕ) (failed_before failed_now : List ℕ)
     → Counts before now failed_before failed_now name (Err fault)
     → CountsFiles (Some (Do task name)) (unread_outcome fault) before now failed_before failed_now
 unread_counts task name reading.Failed before now failed_before failed_now k = k
 unread_counts task name reading.TooLong before now failed_before failed_now k = k
 unread_counts task name reading.NoMemory before now failed_before failed_now k = k
+
+pub source_unread_counts : (task : Task) (name : List ℕ) (main : Option (List ℕ)) (fault : unread.FileFault) (before now : ℕ)
+    (failed_before failed_now : List ℕ) → Counts before now failed_before failed_now name (Err fault)
+    → CountsFiles (Some (Make task name main)) (source_unread_outcome fault) before now failed_before failed_now
+source_unread_counts task name main reading.Failed before now failed_before failed_now k = k
+source_unread_counts task name main reading.TooLong before now failed_before failed_now k = k
+source_unread_counts task name main reading.NoMemory before now failed_before failed_now k = k
 
 pub unread_out : (content : Content) (task : Task) (name : List ℕ) (fault : unread.FileFault) (s : SinkChange)
     → Appends s.before s.after s.faults_before s.faults_now [] → GainsOut (Some (Do task name)) content (unread_outcome fault) s
@@ -122,7 +218,24 @@ unread_out content Check name reading.Failed s a = a
 unread_out content Check name reading.TooLong s a = a
 unread_out content Check name reading.NoMemory s a = a
 
+pub source_unread_out : (content : Content) (task : Task) (name : List ℕ) (main : Option (List ℕ)) (fault : unread.FileFault) (s : SinkChange)
+    → Appends s.before s.after s.faults_before s.faults_now [] → GainsOut (Some (Make task name main)) content (source_unread_outcome fault) s
+source_unread_out content (Write form) name main reading.Failed s a = a
+source_unread_out content (Write form) name main reading.TooLong s a = a
+source_unread_out content (Write form) name main reading.NoMemory s a = inl a
+source_unread_out content Check name main reading.Failed s a = a
+source_unread_out content Check name main reading.TooLong s a = a
+source_unread_out content Check name main reading.NoMemory s a = a
+
+pub source_unread_err : (content : Content) (name : List ℕ) (main : Option (List ℕ)) (fault : unread.FileFault) (old new : Option (List ℕ)) (before now : ℕ)
+    → GainsLine old new before now (line_of (source_subject name main []) (source_unread_outcome fault))
+    → GainsSourceErr name main content (source_unread_outcome fault) old new before now
+source_unread_err content name main reading.Failed old new before now gains = record { source = []; held = tt; gains = gains }
+source_unread_err content name main reading.TooLong old new before now gains = record { source = []; held = tt; gains = gains }
+source_unread_err content name main reading.NoMemory old new before now gains = record { source = []; held = tt; gains = gains }
+
 -- no request ends as words without a meaning do
 pub no_usage : (request : Request) (content : Content) → IsOptOutcomeOf (Some request) content Usage → ⊥
 no_usage (Tell about) content a = a
 no_usage (Do task name) content a = a.2
+no_usage (Make task name main) content a = a.2

@@ -1,13 +1,17 @@
--- To believe: what a task writes of a text.
-use Rattle.std.specs.Prelude.{◌≡◌, ℕ, ◌+◌, List, [], ◌∷◌, ◌++◌, length, codes, decimal}
+-- To believe: what a task writes of a text, or of a source.
+use Rattle.std.specs.Prelude.{◌≡◌, ℕ, ◌+◌, List, [], ◌∷◌, ◌++◌, length, codes, decimal, Option}
 use Rattle.std.specs.List.{concat}
 use Rattle.net_ir.specs.Netlists.{Netlist}
+use Rattle.net_ir.specs.Runs.{netlist_of}
 use Rattle.net_opt.specs.Optimized.{Optimizes}
 use Rattle.net_opt.specs.Shown.{EachIsShown}
 use Rattle.net_simp.specs.SimpleNets.{IsSimple}
 use Rattle.blif_text.specs.Written as blif_texts
 use Rattle.csub_text.specs.Written as c_texts
 use Rattle.vlog_text.specs.Written as verilog_texts
+use Rattle.cec_compile.specs.declared.passes.Compiled.{Compiled}
+use Rattle.cec_opt_sources.specs.LightNets.{IsLightNetOf, IsLightSource}
+use Rattle.cec_opt_sources.specs.SmallTexts.{StandsForSmallBlif, StandsForSmallC, StandsForSmallVerilog}
 use Rattle.cec_opt_texts.specs.Alike.{BlifKeeps, CKeeps, VerilogKeeps}
 use Rattle.cec_opt_texts.specs.Optimized.{IsSmallNetOf, IsTextNet}
 use Rattle.blif_net.specs.Depths.{depth_of}
@@ -50,3 +54,29 @@ IsAnswer (Write forms.Blif) text written = IsOptimized BlifKeeps blif_texts.writ
 IsAnswer (Write forms.C) text written = IsOptimized CKeeps c_texts.written text written
 IsAnswer (Write forms.Verilog) text written = IsOptimized VerilogKeeps verilog_texts.written text written
 IsAnswer Check text written = TellsText text written
+
+-- ---- sources
+
+-- The text that is written keeps what the program of the source means (`Stands`), and it is that of the lighter one of
+-- two netlists of the source.
+pub record IsLightText (Stands : List ℕ → Option (List ℕ) → List ℕ → Type 0) (write : Netlist → List ℕ)
+    (source : List ℕ) (main : Option (List ℕ)) (written : List ℕ) : Type 0 where
+  pub stands : Stands source main written
+  pub net : Netlist
+  pub light : IsLightNetOf source main net
+  pub spelled : written ≡ write net
+
+-- the line of the netlist of a compiled source, and that of the lighter one of it
+pub record TellsSource (source : List ℕ) (main : Option (List ℕ)) (lines : List ℕ) : Type 0 where
+  pub compiled : Compiled
+  pub net : Netlist
+  pub light : IsLightSource source main compiled net
+  pub is : lines ≡ counts_line (netlist_of compiled.net) ++ counts_line net
+
+abbrev pub IsSourceAnswer : Task → (source : List ℕ) → (main : Option (List ℕ)) → (written : List ℕ) → Type 0
+IsSourceAnswer (Write forms.Blif) source main written =
+    IsLightText StandsForSmallBlif blif_texts.written source main written
+IsSourceAnswer (Write forms.C) source main written = IsLightText StandsForSmallC c_texts.written source main written
+IsSourceAnswer (Write forms.Verilog) source main written =
+    IsLightText StandsForSmallVerilog verilog_texts.written source main written
+IsSourceAnswer Check source main written = TellsSource source main written

@@ -10,6 +10,9 @@ help_text =
     ∷ codes "cec-opt c TEXT         the same as C\n"
     ∷ codes "cec-opt verilog TEXT   the same as structural Verilog\n"
     ∷ codes "cec-opt check TEXT     writes the sizes of the circuit and of the optimized one\n"
+    ∷ codes "    --source FILE      in place of TEXT: compiles the source FILE, with its state plain and in a code,\n"
+    ∷ codes "                       and takes the lighter circuit; a latch weighs as much as four gates\n"
+    ∷ codes "    --main M           after --source: of the module M, not of the first one\n"
     ∷ codes "cec-opt --help         writes these lines\n"
     ∷ codes "cec-opt --version      writes the program's name and version\n" ∷ [])
 

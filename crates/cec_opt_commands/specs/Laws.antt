@@ -1,12 +1,13 @@
--- To believe: which texts are accepted, and that a command on such a text is done.
-use Rattle.std.specs.Prelude.{◌≡◌, ℕ, ◌≤◌, ◌⊎◌, ⊤, List, length, Some}
+-- To believe: which texts and sources are accepted, and that a command on such a file is done.
+use Rattle.std.specs.Prelude.{◌≡◌, ℕ, ◌≤◌, ◌⊎◌, ⊤, List, length, Option, Some}
 use Rattle.base_types.specs.declared.bounds.TheConstants.Limits.{TEXT_BYTES}
 use Rattle.base_types.specs.Faults.{Rose}
 use Rattle.base_types.specs.SinkChanges.{SinkChange}
+use Rattle.cec_compile.specs.declared.refusal.Refusal.{Refusal}
 use Rattle.cec_opt_texts.specs.Faults.{IsOptFault}
 use Rattle.cec_opt_texts.specs.declared.fault.OptFault.{OptFault}
-use Rattle.cec_opt_commands.specs.Outcomes.{IsOptOutcomeOf, CountsFiles, GainsOut}
-use Rattle.cec_opt_commands.specs.Words.{Request, Tell, Do}
+use Rattle.cec_opt_commands.specs.Outcomes.{IsOptOutcomeOf, CountsFiles, GainsOut, IsRefusedFor}
+use Rattle.cec_opt_commands.specs.Words.{Request, Tell, Do, Make}
 use Rattle.cec_opt_commands.specs.declared.outcome.OptOutcome.{OptOutcome}
 use Rattle.cec_opt_commands.specs.declared.outcome.OptOutcome.TheVariants.{Done, NoMemory}
 
@@ -15,10 +16,15 @@ pub record IsFaultless (text : List ℕ) : Type 0 where
   pub short : length text ≤ TEXT_BYTES
   pub faultless : (fault : OptFault) → IsOptFault text fault → ⊥
 
+-- the source has no cause for a refusal
+abbrev pub IsNotRefused : (main : Option (List ℕ)) → (source : List ℕ) → Type 0
+IsNotRefused main source = (refusal : Refusal) → IsRefusedFor main refusal source → ⊥
+
 -- a request, and files with these bytes, of which nothing is refused
 abbrev pub IsAccepted : Request → (List ℕ → List ℕ) → Type 0
 IsAccepted (Tell about) held = ⊤
 IsAccepted (Do task name) held = IsFaultless (held name)
+IsAccepted (Make task name main) held = IsNotRefused main (held name)
 
 -- what the top call says of an outcome, where no count of faults rises, leaves these two
 abbrev pub AcceptedTextsAreDone : Type 0

@@ -1,15 +1,18 @@
 -- To believe: the line that is written about an outcome.
-use Rattle.std.specs.Prelude.{ℕ, List, [], ◌++◌, Option, Some, None, codes, decimal}
+use Rattle.std.specs.Prelude.{⊤, ℕ, List, [], ◌++◌, Option, Some, None, codes, decimal, unwrap_or}
 use Rattle.blif_net.specs.declared.fault.CircuitFault.{CircuitFault}
 use Rattle.blif_net.specs.declared.fault.CircuitFault.TheVariants.{NoPause, Model, Input, Output, Again, Loop}
 use Rattle.blif_net.specs.declared.fault.CircuitFault.TheVariants.{TooManyNets}
+use Rattle.cec_compile.specs.declared.refusal.Refusal.TheVariants as refusing
 use Rattle.cec_opt_texts.specs.declared.fault.OptFault.{OptFault}
 use Rattle.cec_opt_texts.specs.declared.fault.OptFault.TheVariants.{Line, TwoDrivers, NoDriver, Circuit}
+use Rattle.cec_refusals.specs.RefusalLines.{RefusalSubject, refusal_line}
+use Rattle.cec_text_io.specs.Contents.{Content, IsHeld}
 use Rattle.cec_text_io.specs.ErrorLines.{GainsLine, joined_names}
-use Rattle.cec_opt_commands.specs.Words.{Request, Do, misuse_of}
+use Rattle.cec_opt_commands.specs.Words.{Request, Tell, Do, Make, misuse_of}
 use Rattle.cec_opt_commands.specs.declared.outcome.OptOutcome.{OptOutcome}
 use Rattle.cec_opt_commands.specs.declared.outcome.OptOutcome.TheVariants.{Done, Usage, FileFault, BadText, TooLong}
-use Rattle.cec_opt_commands.specs.declared.outcome.OptOutcome.TheVariants.{WriteFault}
+use Rattle.cec_opt_commands.specs.declared.outcome.OptOutcome.TheVariants.{Refused, WriteFault}
 use Rattle.cec_opt_commands.specs.declared.outcome.OptOutcome.TheVariants.{NoMemory}
 
 abbrev pub circuit_line_text : CircuitFault → List ℕ
@@ -27,29 +30,60 @@ fault_text (TwoDrivers name) = codes "two drivers: " ++ name
 fault_text (NoDriver name) = codes "no driver: " ++ name
 fault_text (Circuit fault) = circuit_line_text fault
 
--- what is said of an outcome; the subject is the name of the file, or what is wrong with the words
-abbrev pub said_of : List ℕ → OptOutcome → List ℕ
-said_of subject Done = []
-said_of subject Usage = subject ++ codes ", see cec-opt --help"
-said_of subject FileFault = codes "cannot read " ++ subject
-said_of subject (BadText fault) = fault_text fault
-said_of subject TooLong = codes "limit: text"
-said_of subject WriteFault = codes "cannot write"
-said_of subject NoMemory = codes "out of memory"
+-- What a line speaks of: the name of the file that is read, or what is wrong with the words. The name that was asked
+-- for the main module, and the bytes, are those of a source.
+pub record Subject : Type 0 where
+  pub name : List ℕ
+  pub main : List ℕ
+  pub source : List ℕ
+
+-- no source
+abbrev pub named : List ℕ → Subject
+named name = record { name = name; main = []; source = [] }
+
+abbrev pub source_subject : (name : List ℕ) (main : Option (List ℕ)) (source : List ℕ) → Subject
+source_subject name main source = record { name = name; main = unwrap_or main []; source = source }
+
+-- a line of this program
+abbrev pub own_line : List ℕ → List ℕ
+own_line said = codes "cec-opt: " ++ (said ++ codes "\n")
+
+-- what the line of a source that does not compile speaks of
+abbrev pub refused_of : Subject → RefusalSubject
+refused_of s = record { program = codes "cec-opt: "; name = s.name; main = s.main; source = s.source }
 
 -- the line of an outcome; none for Done
-abbrev pub line_of : List ℕ → OptOutcome → List ℕ
-line_of subject Done = []
-line_of subject others = codes "cec-opt: " ++ (said_of subject others ++ codes "\n")
+abbrev pub line_of : Subject → OptOutcome → List ℕ
+line_of s Done = []
+line_of s Usage = own_line (s.name ++ codes ", see cec-opt --help")
+line_of s FileFault = own_line (codes "cannot read " ++ s.name)
+line_of s (BadText fault) = own_line (fault_text fault)
+line_of s TooLong = own_line (codes "limit: text")
+line_of s (Refused refusal) = refusal_line (refused_of s) refusal
+line_of s WriteFault = own_line (codes "cannot write")
+line_of s NoMemory = own_line (codes "out of memory")
 
--- the name of the file that is read, or what is wrong with the words
-abbrev pub subject_of : List (List ℕ) → Option Request → List ℕ
-subject_of words None = misuse_of words
-subject_of words (Some (Do task name)) = name
-subject_of words (Some others) = []
+-- a line about a static fault speaks of the source that the file holds
+abbrev pub SpeaksOf : Content → (name : List ℕ) → OptOutcome → List ℕ → Type 0
+SpeaksOf content name (Refused (refusing.Static fault)) source = IsHeld content name source
+SpeaksOf content name others source = ⊤
 
--- what `err` gained: the whole line, or a prefix of it where its count of faults rose
-abbrev pub GainsErr : List (List ℕ) → Option Request → OptOutcome → (old new : Option (List ℕ)) (before now : ℕ)
-    → Type 0
-GainsErr words asked outcome old new before now =
-    GainsLine old new before now (line_of (subject_of words asked) outcome)
+-- What `err` gained about a source: the whole line, or a prefix of it where its count of faults rose. A source of which
+-- the line speaks is the one that the file holds.
+pub record GainsSourceErr (name : List ℕ) (main : Option (List ℕ)) (content : Content) (outcome : OptOutcome)
+    (old new : Option (List ℕ)) (before now : ℕ) : Type 0 where
+  pub source : List ℕ
+  pub held : SpeaksOf content name outcome source
+  pub gains : GainsLine old new before now (line_of (source_subject name main source) outcome)
+
+-- the same about a request; of words without a meaning the line says what is wrong with them
+abbrev pub GainsErr : List (List ℕ) → Option Request → Content → OptOutcome → (old new : Option (List ℕ))
+    → (before now : ℕ) → Type 0
+GainsErr words None content outcome old new before now =
+    GainsLine old new before now (line_of (named (misuse_of words)) outcome)
+GainsErr words (Some (Tell about)) content outcome old new before now =
+    GainsLine old new before now (line_of (named []) outcome)
+GainsErr words (Some (Do task name)) content outcome old new before now =
+    GainsLine old new before now (line_of (named name) outcome)
+GainsErr words (Some (Make task name main)) content outcome old new before now =
+    GainsSourceErr name main content outcome old new before now

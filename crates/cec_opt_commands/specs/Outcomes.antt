@@ -4,18 +4,23 @@ use Rattle.base_types.specs.declared.bounds.TheConstants.Limits.{TEXT_BYTES}
 use Rattle.base_types.specs.Reading.{KeepsFaults, Notes}
 use Rattle.base_types.specs.SinkChanges.{SinkChange}
 use Rattle.base_types.specs.Writing.{Appends}
+use Rattle.est_kernel.specs.Plain.{Program}
+use Rattle.est_front.specs.Sources.{StandsFor}
 use Rattle.net_ir.specs.Netlists.{Netlist}
+use Rattle.cec_compile.specs.Refusals.{Compiles, IsRefused}
+use Rattle.cec_compile.specs.declared.refusal.Refusal.{Refusal}
+use Rattle.cec_compile.specs.declared.refusal.Refusal.TheVariants as refusing
 use Rattle.cec_opt_texts.specs.Faults.{IsOptFault}
 use Rattle.cec_opt_texts.specs.Optimized.{IsTextNet}
 use Rattle.cec_text_io.specs.Contents.{Content, Holds}
 use Rattle.cec_text_io.specs.Writings.{LeavesText, LeavesPieces}
-use Rattle.cec_opt_commands.specs.Answers.{IsAnswer}
+use Rattle.cec_opt_commands.specs.Answers.{IsAnswer, IsSourceAnswer}
 use Rattle.cec_opt_commands.specs.HelpTexts.{own_text}
 use Rattle.cec_opt_commands.specs.Statuses.{written_of}
-use Rattle.cec_opt_commands.specs.Words.{Request, Tell, Do}
+use Rattle.cec_opt_commands.specs.Words.{Request, Tell, Do, Make}
 use Rattle.cec_opt_commands.specs.declared.outcome.OptOutcome.{OptOutcome}
 use Rattle.cec_opt_commands.specs.declared.outcome.OptOutcome.TheVariants.{Done, Usage, FileFault, BadText, TooLong}
-use Rattle.cec_opt_commands.specs.declared.outcome.OptOutcome.TheVariants.{WriteFault}
+use Rattle.cec_opt_commands.specs.declared.outcome.OptOutcome.TheVariants.{Refused, WriteFault}
 use Rattle.cec_opt_commands.specs.declared.outcome.OptOutcome.TheVariants.{NoMemory}
 use Rattle.cec_opt_commands.specs.declared.words.Task.{Task}
 use Rattle.cec_opt_commands.specs.declared.words.Task.TheVariants.{Write, Check}
@@ -37,10 +42,29 @@ SaysOf WriteFault text = HasNet text
 SaysOf NoMemory text = ⊤
 SaysOf others text = ⊥
 
--- what an outcome says of the file with the text; a file fault says nothing of bytes
-abbrev pub AgreesOnFile : Content → List ℕ → OptOutcome → Type 0
-AgreesOnFile content name FileFault = ⊤
-AgreesOnFile content name others = Holds content name (SaysOf others)
+-- the source stands for a program that compiles, by its main module
+pub record IsCompilable (main : Option (List ℕ)) (source : List ℕ) : Type 0 where
+  pub program : Program
+  pub stands : StandsFor source main program
+  pub compiles : Compiles program
+
+-- the cause of a refusal; running out of memory is an outcome of its own
+abbrev pub IsRefusedFor : (main : Option (List ℕ)) → Refusal → (source : List ℕ) → Type 0
+IsRefusedFor main refusing.NoMemory source = ⊥
+IsRefusedFor main refusal source = IsRefused source main refusal
+
+-- what the outcome of a task on a source that was read says of its bytes
+abbrev pub SourceSays : (main : Option (List ℕ)) → OptOutcome → (source : List ℕ) → Type 0
+SourceSays main Done source = IsCompilable main source
+SourceSays main (Refused refusal) source = IsRefusedFor main refusal source
+SourceSays main WriteFault source = IsCompilable main source
+SourceSays main NoMemory source = ⊤
+SourceSays main others source = ⊥
+
+-- what an outcome says of the file that is read; a file fault says nothing of bytes
+abbrev pub AgreesOnFile : Content → (name : List ℕ) → (OptOutcome → List ℕ → Type 0) → OptOutcome → Type 0
+AgreesOnFile content name Says FileFault = ⊤
+AgreesOnFile content name Says others = Holds content name (Says others)
 
 -- how a command ends that reads no file
 abbrev pub IsWriting : OptOutcome → Type 0
@@ -53,7 +77,8 @@ IsWriting others = ⊥
 abbrev pub IsOptOutcomeOf : Option Request → Content → OptOutcome → Type 0
 IsOptOutcomeOf None content outcome = outcome ≡ Usage
 IsOptOutcomeOf (Some (Tell about)) content outcome = IsWriting outcome
-IsOptOutcomeOf (Some (Do task name)) content outcome = AgreesOnFile content name outcome
+IsOptOutcomeOf (Some (Do task name)) content outcome = AgreesOnFile content name SaysOf outcome
+IsOptOutcomeOf (Some (Make task name main)) content outcome = AgreesOnFile content name (SourceSays main) outcome
 
 -- ---- the files
 
@@ -61,6 +86,8 @@ IsOptOutcomeOf (Some (Do task name)) content outcome = AgreesOnFile content name
 -- file's; every other outcome leaves both.
 abbrev pub CountsFiles : Option Request → OptOutcome → (before now : ℕ) (failed_before failed_now : List ℕ) → Type 0
 CountsFiles (Some (Do task name)) FileFault before now failed_before failed_now = Notes before now name failed_now
+CountsFiles (Some (Make task name main)) FileFault before now failed_before failed_now =
+    Notes before now name failed_now
 CountsFiles asked others before now failed_before failed_now = KeepsFaults before now failed_before failed_now
 
 -- ---- what `out` gained
@@ -74,7 +101,13 @@ LeavesAnswer Check IsText s outcome = LeavesText IsText s (written_of outcome)
 abbrev pub IsTextOf : Task → List ℕ → Content → List ℕ → Type 0
 IsTextOf task name content written = Holds content name (λ text. IsAnswer task text written)
 
+-- what a task writes of the source in a file
+abbrev pub IsSourceTextOf : Task → (name : List ℕ) → (main : Option (List ℕ)) → Content → List ℕ → Type 0
+IsSourceTextOf task name main content written = Holds content name (λ source. IsSourceAnswer task source main written)
+
 abbrev pub GainsOut : Option Request → Content → OptOutcome → SinkChange → Type 0
 GainsOut None content outcome s = Appends s.before s.after s.faults_before s.faults_now []
 GainsOut (Some (Tell about)) content outcome s = LeavesText (λ written. written ≡ own_text about) s (written_of outcome)
 GainsOut (Some (Do task name)) content outcome s = LeavesAnswer task (IsTextOf task name content) s outcome
+GainsOut (Some (Make task name main)) content outcome s =
+    LeavesAnswer task (IsSourceTextOf task name main content) s outcome

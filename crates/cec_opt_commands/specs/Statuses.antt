@@ -4,13 +4,23 @@ use Rattle.base_types.specs.declared.files.reading.FileFault as unread
 use Rattle.base_types.specs.declared.files.reading.FileFault.TheVariants as reading
 use Rattle.base_types.specs.declared.stop.Stop.{Stop}
 use Rattle.base_types.specs.declared.stop.Stop.TheVariants as stops
+use Rattle.cec_compile.specs.declared.refusal.Limit.TheVariants as limits
+use Rattle.cec_compile.specs.declared.refusal.Refusal as refusals
+use Rattle.cec_compile.specs.declared.refusal.Refusal.TheVariants as refusing
 use Rattle.cec_opt_texts.specs.declared.fault.OptFault.{OptFault}
 use Rattle.cec_text_io.specs.declared.writing.Written.{Written}
 use Rattle.cec_text_io.specs.declared.writing.Written.TheVariants as ends
 use Rattle.cec_opt_commands.specs.declared.outcome.OptOutcome.{OptOutcome}
 use Rattle.cec_opt_commands.specs.declared.outcome.OptOutcome.TheVariants.{Done, Usage, FileFault, BadText, TooLong}
-use Rattle.cec_opt_commands.specs.declared.outcome.OptOutcome.TheVariants.{WriteFault}
+use Rattle.cec_opt_commands.specs.declared.outcome.OptOutcome.TheVariants.{Refused, WriteFault}
 use Rattle.cec_opt_commands.specs.declared.outcome.OptOutcome.TheVariants.{NoMemory}
+
+-- of a source that does not compile: that of `cec`
+abbrev pub refusal_status : refusals.Refusal → ℕ
+refusal_status (refusing.Static fault) = 4
+refusal_status (refusing.Cyclic cycle) = 5
+refusal_status (refusing.Limit limit) = 8
+refusal_status refusing.NoMemory = 10
 
 abbrev pub status_of : OptOutcome → ℕ
 status_of Done = 0
@@ -18,6 +28,7 @@ status_of Usage = 2
 status_of FileFault = 3
 status_of (BadText fault) = 7
 status_of TooLong = 8
+status_of (Refused refusal) = refusal_status refusal
 status_of WriteFault = 9
 status_of NoMemory = 10
 
@@ -41,3 +52,13 @@ abbrev pub unread_outcome : unread.FileFault → OptOutcome
 unread_outcome reading.Failed = FileFault
 unread_outcome reading.TooLong = TooLong
 unread_outcome reading.NoMemory = NoMemory
+
+abbrev pub refusal_outcome : refusals.Refusal → OptOutcome
+refusal_outcome refusing.NoMemory = NoMemory
+refusal_outcome others = Refused others
+
+-- of a file with a source
+abbrev pub source_unread_outcome : unread.FileFault → OptOutcome
+source_unread_outcome reading.Failed = FileFault
+source_unread_outcome reading.TooLong = Refused (refusing.Limit limits.Source)
+source_unread_outcome reading.NoMemory = NoMemory

@@ -1,17 +1,19 @@
 // The top call: what the words ask for, done.
 
-ghost use Rattle.std.specs.Prelude.{◌≡◌, ◌↔◌, [], map, Some, None};
+ghost use Rattle.std.specs.Prelude.{◌≡◌, ◌≤◌, ◌↔◌, [], length, map, option_map, Some, None};
 ghost use Rattle.std.specs.String.{string_bytes};
 ghost use Rattle.base_types.specs.SinkChanges.{change};
 ghost use Rattle.cec_text_io.specs.ErrorLines.{GainsLine};
+ghost use Rattle.cec_opt_commands.specs.Answers.{IsSourceAnswer};
 ghost use Rattle.cec_opt_commands.specs.HelpTexts.{own_text};
-ghost use Rattle.cec_opt_commands.specs.Lines.{GainsErr, line_of};
-ghost use Rattle.cec_opt_commands.specs.Outcomes.{IsOptOutcomeOf, CountsFiles, GainsOut};
-ghost use Rattle.cec_opt_commands.specs.Views.{plain_request};
-ghost use Rattle.cec_opt_commands.specs.Words.{request_by, Do, Tell};
+ghost use Rattle.cec_opt_commands.specs.Lines.{GainsErr, GainsSourceErr, line_of, named, source_subject};
+ghost use Rattle.cec_opt_commands.specs.Outcomes.{IsOptOutcomeOf, CountsFiles, GainsOut, LeavesAnswer, SourceSays};
+ghost use Rattle.cec_opt_commands.specs.Views.{plain_request, subject_is};
+ghost use Rattle.cec_opt_commands.specs.Words.{request_by, Do, Make, Tell};
 
-use crate::lines::{report, report_misuse};
-use crate::outcome::OptOutcome;
+use crate::lines::{Subject, named, report, report_misuse};
+use crate::outcome::{OptOutcome, source_unread_outcome};
+use crate::sources::do_source_task;
 use crate::texts::do_task;
 use crate::words::{About, Request, Task, request_by};
 use base_types::{Files, Limits, Sink};
@@ -23,6 +25,9 @@ const HELP: &[u8] =
 cec-opt c TEXT         the same as C
 cec-opt verilog TEXT   the same as structural Verilog
 cec-opt check TEXT     writes the sizes of the circuit and of the optimized one
+    --source FILE      in place of TEXT: compiles the source FILE, with its state plain and in a code,
+                       and takes the lighter circuit; a latch weighs as much as four gates
+    --main M           after --source: of the module M, not of the first one
 cec-opt --help         writes these lines
 cec-opt --version      writes the program's name and version
 ";
@@ -37,6 +42,11 @@ const VERSION: &[u8] = b"cec-opt 0.1.0\n";
 /// one, `--help` the list of the commands, and `--version` the program's name and version. Every other list of words is
 /// `Usage`. For every outcome but `Done` one line goes to `err`, which for `Usage` names the word at fault; a write to
 /// `err` that fails changes no outcome.
+///
+/// With `--source FILE` in place of `TEXT` the file has a source, which is compiled first, by its module of the name
+/// after `--main`, or by its first one. Its plain and its encoded netlist are optimized, and the lighter one is written
+/// (`IsLightNetOf`). For `Done` the text keeps what the source's program means, as the texts of `cec` do
+/// (`IsSourceAnswer`). `Refused` has the cause for which `cec` refuses the source.
 ///
 /// For `Done` of `blif`, `c` and `verilog` the text that `out` gained has the interface of the text that was read, and
 /// over every list of items, resets included, whose events have one value for each input, both have a run, and all runs
@@ -59,11 +69,15 @@ pub fn cec_opt<F: Files, O: Sink, E: Sink>(
     ensures files_stay { F.content files.new ≡ F.content files.old }
     ensures out { GainsOut (request_by (map string_bytes words.now)) (F.content files.old) result
         (change O.told O.faults out.old out.new) }
-    ensures err { GainsErr (map string_bytes words.now) (request_by (map string_bytes words.now)) result
+    ensures err { GainsErr (map string_bytes words.now) (request_by (map string_bytes words.now))
+        (F.content files.old) result
         (E.told err.old) (E.told err.new) (E.faults err.old) (E.faults err.new) }
 {
     match request_by(words) {
         Some(Request::Do(task, name)) => do_file(alloc, task, name, files, out, err),
+        Some(Request::Make(task, name, main)) => {
+            do_source(alloc, task, name, main, files, out, err)
+        }
         Some(Request::Tell(about)) => tell(about, out, err),
         None => {
             report_misuse(err, words);
@@ -77,10 +91,10 @@ fn tell<O: Sink, E: Sink>(about: About, out: &mut O, err: &mut E) -> OptOutcome
     ensures agrees { IsOptOutcomeOf (Some (Tell about)) None result }
     ensures out { GainsOut (Some (Tell about)) None result (change O.told O.faults out.old out.new) }
     ensures err { GainsLine (E.told err.old) (E.told err.new) (E.faults err.old) (E.faults err.new)
-        (line_of [] result) }
+        (line_of (named []) result) }
 {
     let outcome = OptOutcome::from(write_whole(own_text(about), out));
-    report(err, "", &outcome);
+    report(err, named(""), &outcome);
     outcome
 }
 
@@ -109,18 +123,83 @@ fn do_file<F: Files, O: Sink, E: Sink>(
     ensures out { GainsOut (Some (Do task name.now)) (F.content files.old) result
         (change O.told O.faults out.old out.new) }
     ensures err { GainsLine (E.told err.old) (E.told err.new) (E.faults err.old) (E.faults err.new)
-        (line_of name.now result) }
+        (line_of (named name.now) result) }
 {
     match files.read(alloc, name, Limits::TEXT_BYTES) {
         Ok(text) => {
             let outcome = do_task(alloc, task, &text, out);
-            report(err, name, &outcome);
+            report(err, named(name), &outcome);
             outcome
         }
         Err(fault) => {
             let outcome = OptOutcome::from(fault);
-            report(err, name, &outcome);
+            report(err, named(name), &outcome);
             outcome
         }
+    }
+}
+
+// Does a task on the source in a file.
+fn do_source<F: Files, O: Sink, E: Sink>(
+    alloc: Global,
+    task: Task,
+    name: &str,
+    main: Option<&[u8]>,
+    files: &mut F,
+    out: &mut O,
+    err: &mut E,
+) -> OptOutcome
+    ensures agrees { IsOptOutcomeOf (Some (Make task name.now (option_map (λ m. m.now) main.entry)))
+        (F.content files.old) result }
+    ensures files_counted { CountsFiles (Some (Make task name.now (option_map (λ m. m.now) main.entry))) result
+        (F.faults files.old) (F.faults files.new) (F.last_failed files.old) (F.last_failed files.new) }
+    ensures files_stay { F.content files.new ≡ F.content files.old }
+    ensures out { GainsOut (Some (Make task name.now (option_map (λ m. m.now) main.entry)))
+        (F.content files.old) result (change O.told O.faults out.old out.new) }
+    ensures err { GainsSourceErr name.now (option_map (λ m. m.now) main.entry) (F.content files.old) result
+        (E.told err.old) (E.told err.new) (E.faults err.old) (E.faults err.new) }
+{
+    match files.read(alloc, name, Limits::SOURCE_BYTES) {
+        Ok(source) => told_source(alloc, task, name, main, &source, out, err),
+        Err(fault) => {
+            let outcome = source_unread_outcome(fault);
+            report(err, source_subject(name, main, b""), &outcome);
+            outcome
+        }
+    }
+}
+
+// Does a task on a source that was read, and writes the line of the outcome.
+fn told_source<O: Sink, E: Sink>(
+    alloc: Global,
+    task: Task,
+    name: &str,
+    main: Option<&[u8]>,
+    source: &[u8],
+    out: &mut O,
+    err: &mut E,
+) -> OptOutcome
+    requires { length source.now ≤ Limits.SOURCE_BYTES }
+    ensures says { SourceSays (option_map (λ m. m.now) main.entry) result source.now }
+    ensures out { LeavesAnswer task (IsSourceAnswer task source.now (option_map (λ m. m.now) main.entry))
+        (change O.told O.faults out.old out.new) result }
+    ensures err { GainsLine (E.told err.old) (E.told err.new) (E.faults err.old) (E.faults err.new)
+        (line_of (source_subject name.now (option_map (λ m. m.now) main.entry) source.now) result) }
+{
+    let outcome = do_source_task(alloc, task, source, main, out);
+    report(err, source_subject(name, main, source), &outcome);
+    outcome
+}
+
+// What a line about a source speaks of.
+fn source_subject<'a>(name: &'a str, main: Option<&'a [u8]>, source: &'a [u8]) -> Subject<'a>
+    ensures subject { subject_is result
+        ≡ source_subject name.now (option_map (λ m. m.now) main.entry) source.now }
+    ensures source { result.source.now ≡ source.now }
+{
+    Subject {
+        name,
+        main: main.unwrap_or(b""),
+        source,
     }
 }

@@ -1,15 +1,24 @@
-// What is reported of a text's circuit, and of its optimized one.
+// What is reported of a text's circuit, or of a source's, and of its optimized one.
 
-ghost use Rattle.std.specs.Prelude.{◌≡◌, ◌≤◌, length, IfOk};
+ghost use Rattle.std.specs.Prelude.{◌≡◌, ◌≤◌, ◌++◌, length, IfErr, IfOk, option_map};
 ghost use Rattle.base_types.specs.Stops.{IfFault};
+ghost use Rattle.est_kernel.specs.Plain.{Program};
+ghost use Rattle.net_ir.specs.Netlists.{Netlist};
 ghost use Rattle.net_ir.specs.Runs.{netlist_of};
+ghost use Rattle.cec_compile.specs.Compiling.{IsCompiled};
+ghost use Rattle.cec_compile.specs.Following.{FollowsGraph};
+ghost use Rattle.cec_compile.specs.Refusals.{IsRefused};
+ghost use Rattle.cec_opt_sources.specs.LightNets.{IsLightOf};
 ghost use Rattle.cec_opt_texts.specs.Faults.{IsOptFault};
-ghost use Rattle.cec_opt_commands.specs.Answers.{TellsNets, TellsText, counts_line};
+ghost use Rattle.cec_opt_commands.specs.Answers.{TellsNets, TellsSource, TellsText, counts_line};
 
 use crate::depths::depth_of;
 use base_types::{Limits, NoMemory, Stop};
+use cec_compile::{Compiled, Refusal, compile};
+use cec_opt_sources::light_of;
 use cec_opt_texts::{OptFault, text_net};
 use cec_text_io::joined;
+use grc_order::First;
 use itoa::Buffer;
 use net_ir::Net;
 use net_opt::optimize;
@@ -35,6 +44,46 @@ fn both_lines(alloc: Global, net: &Net) -> Result<Vec<u8>, NoMemory>
     let after = counts_line(alloc, &small)?;
     let lines = joined(alloc, &[&before, &after])?;
     Ok(lines)
+}
+
+/// A line of counts of the netlist of a compiled source, and one of what it becomes.
+pub(crate) fn source_counts(
+    alloc: Global,
+    source: &[u8],
+    main: Option<&[u8]>,
+) -> Result<Vec<u8>, Refusal>
+    requires { length source.now ≤ Limits.SOURCE_BYTES }
+    ensures lines { IfOk result (λ lines. TellsSource source.now (option_map (λ m. m.now) main.entry) lines.items) }
+    ensures refuses { IfErr result (IsRefused source.now (option_map (λ m. m.now) main.entry)) }
+{
+    let compiled = compile(alloc, source, main, &mut First)?;
+    let lines = light_lines(alloc, compiled)?;
+    Ok(lines)
+}
+
+// The same of a compiled source.
+fn light_lines(alloc: Global, compiled: Compiled) -> Result<Vec<u8>, NoMemory>
+    requires stands { (p : Program) × IsCompiled compiled p }
+    requires follows { FollowsGraph compiled }
+    ensures { IfOk result (λ lines. (p : Program) → IsCompiled compiled p → (net : Netlist) × IsLightOf compiled p net
+        × (lines.items ≡ counts_line (netlist_of compiled.net) ++ counts_line net)) }
+{
+    let before = counts_line(alloc, &compiled.net)?;
+    let after = light_line(alloc, compiled)?;
+    let lines = joined(alloc, &[&before, &after])?;
+    Ok(lines)
+}
+
+// The line of counts of what a compiled source becomes.
+fn light_line(alloc: Global, compiled: Compiled) -> Result<Vec<u8>, NoMemory>
+    requires stands { (p : Program) × IsCompiled compiled p }
+    requires follows { FollowsGraph compiled }
+    ensures { IfOk result (λ line. (p : Program) → IsCompiled compiled p
+        → (net : Netlist) × IsLightOf compiled p net × (line.items ≡ counts_line net)) }
+{
+    let net = light_of(alloc, compiled)?;
+    let line = counts_line(alloc, &net)?;
+    Ok(line)
 }
 
 // The line of counts of a netlist. Its outputs are those of its texts, so `_paused` is one of them.

@@ -4,8 +4,9 @@
 
 ghost use Rattle.cec_opt_commands.specs.Laws.{AcceptedTextsAreDone};
 
-/// What `cec_opt` says of an outcome leaves no other one but `Done` and `NoMemory` where no count of faults rises, the
-/// words have a meaning, and the text that the file holds keeps its limit and has no fault.
+/// What `cec_opt` says of an outcome leaves no other one but `Done` and `NoMemory`, where no count of faults rises and
+/// nothing is refused: the words have a meaning, and the text that the file holds keeps its limit and has no fault, or
+/// the source compiles.
 pub fn accepted_texts_are_done()
     ensures { AcceptedTextsAreDone }
 {}

@@ -1,8 +1,10 @@
-//! The optimizer of BLIF texts as a program: the top call, from the words of a command line on.
+//! The optimizer as a program: the top call, from the words of a command line on.
 //!
-//! `cec_opt` reads the words, reads a BLIF text, makes its circuit's netlist, optimizes it (`net_opt`), and writes it
-//! as BLIF (Berkeley), in the C subset, or as structural Verilog, with the interface of the text. Its contract says
-//! that over every list of items, resets included, the text that is written shows what the text shows that was read.
+//! `cec_opt` reads the words and a BLIF text, makes its circuit's netlist, optimizes it (`net_opt`), and writes it as
+//! BLIF (Berkeley), in the C subset, or as structural Verilog, with the interface of the text. Its contract says that
+//! over every list of items, resets included, the text that is written shows what the text shows that was read. With
+//! `--source` it reads a source in place of a text, and compiles it first (`cec_opt_sources`): then the text that is
+//! written does what the source means.
 #![tactic(auto)]
 
 mod command;
@@ -11,6 +13,7 @@ mod depths;
 mod laws;
 mod lines;
 mod outcome;
+mod sources;
 mod steady;
 mod texts;
 mod words;

@@ -1,24 +1,48 @@
 // The line about an outcome.
 
-ghost use Rattle.std.specs.Prelude.{◌++◌, codes, map};
+ghost use Rattle.std.specs.Prelude.{◌≡◌, ◌≤◌, ◌++◌, codes, length, map};
 ghost use Rattle.std.specs.String.{string_bytes};
 ghost use Rattle.base_types.specs.Writing.{Wrote};
 ghost use Rattle.cec_text_io.specs.ErrorLines.{GainsLine};
-ghost use Rattle.cec_opt_commands.specs.Lines.{circuit_line_text, fault_text, line_of};
+ghost use Rattle.cec_refusals.specs.Views.{refused_is};
+ghost use Rattle.cec_opt_commands.specs.Lines.{circuit_line_text, fault_text, line_of, named, own_line, refused_of};
+ghost use Rattle.cec_opt_commands.specs.Views.{subject_is};
 ghost use Rattle.cec_opt_commands.specs.Words.{misuse_of};
 
 use crate::outcome::OptOutcome;
 use crate::words::misuse_of;
-use base_types::{Sink, SinkFault, write_pieces};
+use base_types::{Limits, Sink, SinkFault, write_pieces};
 use blif_net::CircuitFault;
 use cec_opt_texts::OptFault;
+use cec_refusals::{RefusedSource, put_refusal};
 use cec_text_io::put_loop;
 use itoa::Buffer;
 
-/// Writes the line of an outcome, where a command reads the file of this name; a sink that fails changes nothing.
-pub(crate) fn report<E: Sink>(err: &mut E, subject: &str, outcome: &OptOutcome)
+/// What a line speaks of: the name of the file, and of a source also the main module and the bytes.
+#[derive(Clone, Copy)]
+pub(crate) struct Subject<'a> {
+    pub(crate) name: &'a str,
+    pub(crate) main: &'a [u8],
+    pub(crate) source: &'a [u8],
+}
+
+/// The subject of a line that speaks of no source.
+pub(crate) fn named(name: &str) -> Subject<'_>
+    ensures subject { subject_is result ≡ named name.now }
+    ensures short { length result.source.now ≡ 0 }
+{
+    Subject {
+        name,
+        main: b"",
+        source: b"",
+    }
+}
+
+/// Writes the line of an outcome; a sink that fails changes nothing.
+pub(crate) fn report<E: Sink>(err: &mut E, subject: Subject<'_>, outcome: &OptOutcome)
+    requires { length subject.source.now ≤ Limits.SOURCE_BYTES }
     ensures { GainsLine (E.told err.old) (E.told err.new) (E.faults err.old) (E.faults err.new)
-        (line_of subject.now outcome.now) }
+        (line_of (subject_is subject.entry) outcome.now) }
 {
     let _ = put_line(err, subject, outcome);
 }
@@ -26,7 +50,7 @@ pub(crate) fn report<E: Sink>(err: &mut E, subject: &str, outcome: &OptOutcome)
 /// Writes the line about words that have no meaning; a sink that fails changes nothing.
 pub(crate) fn report_misuse<E: Sink>(err: &mut E, words: &[String])
     ensures { GainsLine (E.told err.old) (E.told err.new) (E.faults err.old) (E.faults err.new)
-        (line_of (misuse_of (map string_bytes words.now)) OptOutcome.Usage) }
+        (line_of (named (misuse_of (map string_bytes words.now))) OptOutcome.Usage) }
 {
     let _ = put_misuse(err, words);
 }
@@ -34,7 +58,7 @@ pub(crate) fn report_misuse<E: Sink>(err: &mut E, words: &[String])
 // The line about words that have no meaning.
 fn put_misuse<E: Sink>(err: &mut E, words: &[String]) -> Result<(), SinkFault>
     ensures { Wrote (E.told err.old) (E.told err.new) (E.faults err.old) (E.faults err.new)
-        (line_of (misuse_of (map string_bytes words.now)) OptOutcome.Usage) result }
+        (line_of (named (misuse_of (map string_bytes words.now))) OptOutcome.Usage) result }
 {
     let misuse = misuse_of(words);
     write_pieces(
@@ -49,35 +73,47 @@ fn put_misuse<E: Sink>(err: &mut E, words: &[String]) -> Result<(), SinkFault>
     )
 }
 
+// A line of two parts.
+fn put_said<E: Sink>(err: &mut E, said: &[u8], of: &[u8]) -> Result<(), SinkFault>
+    ensures { Wrote (E.told err.old) (E.told err.new) (E.faults err.old) (E.faults err.new)
+        (own_line (said.now ++ of.now)) result }
+{
+    write_pieces(err, &[b"cec-opt: ", said, of, b"\n"])
+}
+
 // The line of an outcome, none for `Done`. Writing it takes no memory; a prefix of the line was appended where the
 // sink failed.
-fn put_line<E: Sink>(err: &mut E, subject: &str, outcome: &OptOutcome) -> Result<(), SinkFault>
+fn put_line<E: Sink>(
+    err: &mut E,
+    subject: Subject<'_>,
+    outcome: &OptOutcome,
+) -> Result<(), SinkFault>
+    requires { length subject.source.now ≤ Limits.SOURCE_BYTES }
     ensures { Wrote (E.told err.old) (E.told err.new) (E.faults err.old) (E.faults err.new)
-        (line_of subject.now outcome.now) result }
+        (line_of (subject_is subject.entry) outcome.now) result }
 {
     match outcome {
         OptOutcome::Done => Ok(()),
-        OptOutcome::Usage => {
-            write_pieces(
-                err,
-                &[
-                    b"cec-opt: ",
-                    subject.as_bytes(),
-                    b", see cec-opt --help",
-                    b"\n",
-                ],
-            )
-        }
-        OptOutcome::FileFault => {
-            write_pieces(
-                err,
-                &[b"cec-opt: ", b"cannot read ", subject.as_bytes(), b"\n"],
-            )
-        }
+        OptOutcome::Usage => put_said(err, subject.name.as_bytes(), b", see cec-opt --help"),
+        OptOutcome::FileFault => put_said(err, b"cannot read ", subject.name.as_bytes()),
         OptOutcome::BadText(fault) => put_fault(err, fault),
-        OptOutcome::TooLong => write_pieces(err, &[b"cec-opt: ", b"limit: text", b"\n"]),
-        OptOutcome::WriteFault => write_pieces(err, &[b"cec-opt: ", b"cannot write", b"\n"]),
-        OptOutcome::NoMemory => write_pieces(err, &[b"cec-opt: ", b"out of memory", b"\n"]),
+        OptOutcome::TooLong => put_said(err, b"limit: text", b""),
+        OptOutcome::Refused(refusal) => put_refusal(err, refused_of(subject), refusal),
+        OptOutcome::WriteFault => put_said(err, b"cannot write", b""),
+        OptOutcome::NoMemory => put_said(err, b"out of memory", b""),
+    }
+}
+
+// What the line about a refused source speaks of.
+fn refused_of(subject: Subject<'_>) -> RefusedSource<'_>
+    ensures refused { refused_is result ≡ refused_of (subject_is subject.entry) }
+    ensures source { result.source.now ≡ subject.entry.source.now }
+{
+    RefusedSource {
+        program: b"cec-opt: ",
+        name: subject.name,
+        main: subject.main,
+        source: subject.source,
     }
 }
 

@@ -1,9 +1,11 @@
 // How a command ended.
 
 ghost use Rattle.std.specs.Prelude.{◌≡◌};
-ghost use Rattle.cec_opt_commands.specs.Statuses.{status_of, stop_outcome, unread_outcome, written_outcome};
+ghost use Rattle.cec_opt_commands.specs.Statuses.{refusal_outcome, refusal_status, source_unread_outcome, status_of};
+ghost use Rattle.cec_opt_commands.specs.Statuses.{stop_outcome, unread_outcome, written_outcome};
 
 use base_types::{FileFault, Stop};
+use cec_compile::{Limit, Refusal};
 use cec_opt_texts::OptFault;
 use cec_text_io::Written;
 
@@ -20,6 +22,8 @@ pub enum OptOutcome {
     BadText(OptFault),
     /// The text has more bytes than `Limits::TEXT_BYTES`.
     TooLong,
+    /// The source does not compile.
+    Refused(Refusal),
     /// The output was not taken: its count of faults rose.
     WriteFault,
     /// Running out of memory.
@@ -72,8 +76,42 @@ impl OptOutcome {
             OptOutcome::FileFault => 3,
             OptOutcome::BadText(_) => 7,
             OptOutcome::TooLong => 8,
+            OptOutcome::Refused(refusal) => refusal_status(refusal),
             OptOutcome::WriteFault => 9,
             OptOutcome::NoMemory => 10,
         }
+    }
+}
+
+// The status of a source that does not compile: that of `cec`.
+fn refusal_status(refusal: &Refusal) -> u8
+    ensures { result ≡ refusal_status refusal.now }
+{
+    match refusal {
+        Refusal::Static(_) => 4,
+        Refusal::Cyclic(_) => 5,
+        Refusal::Limit(_) => 8,
+        Refusal::NoMemory => 10,
+    }
+}
+
+/// The outcome of a source that does not compile.
+pub(crate) fn refusal_outcome(refusal: Refusal) -> OptOutcome
+    ensures { result ≡ refusal_outcome refusal }
+{
+    match refusal {
+        Refusal::NoMemory => OptOutcome::NoMemory,
+        others => OptOutcome::Refused(others),
+    }
+}
+
+/// The outcome of a file with a source that was not read.
+pub(crate) fn source_unread_outcome(fault: FileFault) -> OptOutcome
+    ensures { result ≡ source_unread_outcome fault }
+{
+    match fault {
+        FileFault::Failed => OptOutcome::FileFault,
+        FileFault::TooLong => OptOutcome::Refused(Refusal::Limit(Limit::Source)),
+        FileFault::NoMemory => OptOutcome::NoMemory,
     }
 }

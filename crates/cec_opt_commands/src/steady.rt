@@ -15,7 +15,7 @@ use base_types::{Sink, SteadyFiles, SteadySink};
 use std::alloc::Global;
 
 /// `cec_opt` over files and a sink in memory that never fail. Where the words have a meaning, and the text that the
-/// file holds has no fault and keeps its limit, it is done, unless memory runs out.
+/// file holds has no fault and keeps its limit, or the source compiles, it is done, unless memory runs out.
 pub fn cec_opt_steadily<E: Sink>(
     alloc: Global,
     words: &[String],
@@ -29,7 +29,8 @@ pub fn cec_opt_steadily<E: Sink>(
     ensures files_stay { held files.new ≡ held files.old }
     ensures out { GainsOut (request_by (map string_bytes words.now)) (Some (held files.old)) result
         (record { before = told_of out.old; after = told_of out.new; faults_before = 0; faults_now = 0 }) }
-    ensures err { GainsErr (map string_bytes words.now) (request_by (map string_bytes words.now)) result
+    ensures err { GainsErr (map string_bytes words.now) (request_by (map string_bytes words.now))
+        (Some (held files.old)) result
         (E.told err.old) (E.told err.new) (E.faults err.old) (E.faults err.new) }
 {
     cec_opt(alloc, words, files, out, err)

@@ -59,8 +59,8 @@ fn write_counts<O: Sink>(alloc: Global, text: &[u8], out: &mut O) -> OptOutcome
     }
 }
 
-// Writes the text of a netlist in a form, piece by piece.
-fn write_net<O: Sink>(alloc: Global, form: Form, net: &Net, out: &mut O) -> Written
+/// Writes the text of a netlist in a form, piece by piece.
+pub(crate) fn write_net<O: Sink>(alloc: Global, form: Form, net: &Net, out: &mut O) -> Written
     ensures { LeavesPieces (λ text. IsWritten form text (netlist_of net.now))
         (change O.told O.faults out.old out.new) (Some result) }
 {

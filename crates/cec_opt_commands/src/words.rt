@@ -4,17 +4,31 @@ ghost use Rattle.std.specs.Prelude.{◌≡◌, ◌∷◌, ◌++◌, codes, map, 
 ghost use Rattle.std.specs.String.{string_bytes};
 ghost use Rattle.base_types.specs.Names.{is_same_name};
 ghost use Rattle.cec_opt_commands.specs.Words.{
+  is_option,
   is_plain,
   job_asked,
   misuse_after,
   misuse_of,
+  misuse_of_end,
+  misuse_of_more,
+  misuse_of_one,
+  misuse_of_options,
   misuse_of_own,
   misuse_of_task,
+  misuse_of_words,
+  more_options,
+  no_options,
+  options_asked,
+  options_of,
   request_by,
+  source_asked,
   task_of,
+  with_main,
+  with_option,
+  with_source,
   word_asked,
 };
-ghost use Rattle.cec_opt_commands.specs.Views.{plain_request};
+ghost use Rattle.cec_opt_commands.specs.Views.{options_are, plain_request};
 
 /// A form of the texts that are written.
 #[derive(Clone, Copy, Debug, PartialEq, Eq)]
@@ -27,7 +41,7 @@ pub(crate) enum Form {
     Verilog,
 }
 
-/// What is done with a text.
+/// What is done with a text, or with a source.
 #[derive(Clone, Copy, Debug, PartialEq, Eq)]
 pub(crate) enum Task {
     /// Its optimized circuit is written, in this form.
@@ -52,6 +66,15 @@ pub(crate) enum Request<'a> {
     Tell(About),
     /// A task on the text in the file of this name.
     Do(Task, &'a str),
+    /// A task on the source in the file of this name, by the main module of this name.
+    Make(Task, &'a str, Option<&'a [u8]>),
+}
+
+// The options of a command on a source.
+#[derive(Clone, Copy)]
+struct Options<'a> {
+    source: Option<&'a str>,
+    main: Option<&'a [u8]>,
 }
 
 /// What the words ask for; `None` where they have no meaning. It takes no memory.
@@ -62,10 +85,11 @@ pub(crate) fn request_by(words: &[String]) -> Option<Request<'_>>
     match behind.split_first() {
         None => word_asked(command.as_bytes()),
         Some((text, more)) => {
-            if !more.is_empty() {
-                return None;
+            if more.is_empty() {
+                return job_asked(command.as_bytes(), text);
             }
-            job_asked(command.as_bytes(), text)
+            let task = task_of(command.as_bytes())?;
+            options_asked(task, behind)
         }
     }
 }
@@ -94,7 +118,100 @@ fn job_asked<'a>(command: &[u8], text: &'a str) -> Option<Request<'a>>
     Some(Request::Do(task, text))
 }
 
-// Whether a word is a file: it is not empty and does not begin with `-`.
+// What a task and options ask for.
+fn options_asked<'a>(task: Task, words: &'a [String]) -> Option<Request<'a>>
+    ensures { option_map plain_request result ≡ options_asked task (map string_bytes words.now) }
+{
+    let options = options_of(words)?;
+    source_asked(task, options)
+}
+
+// What a task asks for, with these options.
+fn source_asked<'a>(task: Task, options: Options<'a>) -> Option<Request<'a>>
+    ensures { option_map plain_request result ≡ source_asked task (options_are options.entry) }
+{
+    let name = options.source?;
+    Some(Request::Make(task, name, options.main))
+}
+
+fn no_options<'a>() -> Options<'a>
+    ensures { options_are result ≡ no_options }
+{
+    Options {
+        source: None,
+        main: None,
+    }
+}
+
+// One option, or two, each of which is two words.
+fn options_of<'a>(words: &'a [String]) -> Option<Options<'a>>
+    ensures { option_map options_are result ≡ options_of (map string_bytes words.now) }
+{
+    let (key, rest) = words.split_first()?;
+    let (value, more) = rest.split_first()?;
+    let options = with_option(no_options(), key.as_bytes(), value)?;
+    more_options(options, more)
+}
+
+// No further option, or one.
+fn more_options<'a>(options: Options<'a>, words: &'a [String]) -> Option<Options<'a>>
+    ensures { option_map options_are result ≡ more_options (options_are options.entry) (map string_bytes words.now) }
+{
+    let Some((key, rest)) = words.split_first() else {
+        return Some(options);
+    };
+    let (value, more) = rest.split_first()?;
+    if !more.is_empty() {
+        return None;
+    }
+    with_option(options, key.as_bytes(), value)
+}
+
+// One more option.
+fn with_option<'a>(options: Options<'a>, key: &[u8], value: &'a str) -> Option<Options<'a>>
+    ensures { option_map options_are result ≡ with_option (options_are options.entry) key.now value.now }
+{
+    if key == b"--source".as_slice() {
+        with_source(options, value)
+    } else if key == b"--main".as_slice() {
+        with_main(options, value)
+    } else {
+        None
+    }
+}
+
+fn with_source<'a>(options: Options<'a>, value: &'a str) -> Option<Options<'a>>
+    ensures { option_map options_are result ≡ with_source (options_are options.entry) value.now }
+{
+    if options.source.is_some() || !is_plain(value.as_bytes()) {
+        return None;
+    }
+    Some(Options {
+        source: Some(value),
+        ..options
+    })
+}
+
+fn with_main<'a>(options: Options<'a>, value: &'a str) -> Option<Options<'a>>
+    ensures { option_map options_are result ≡ with_main (options_are options.entry) value.now }
+{
+    if options.main.is_some() || !is_plain(value.as_bytes()) {
+        return None;
+    }
+    Some(Options {
+        main: Some(value.as_bytes()),
+        ..options
+    })
+}
+
+// Whether a word is an option.
+fn is_option(word: &[u8]) -> bool
+    ensures { result ≡ is_option word.now }
+{
+    word == b"--source".as_slice() || word == b"--main".as_slice()
+}
+
+// Whether a word is a file or a name: it is not empty and does not begin with `-`.
 fn is_plain(word: &[u8]) -> bool
     ensures { result ≡ is_plain word.now }
 {
@@ -136,6 +253,13 @@ pub(crate) struct Misuse<'a> {
     pub(crate) word: &'a [u8],
 }
 
+// A fault and its word.
+fn faulty<'a>(fault: &'a [u8], word: &'a [u8]) -> Misuse<'a>
+    ensures { result.fault.now ++ result.word.now ≡ fault.now ++ word.now }
+{
+    Misuse { fault, word }
+}
+
 /// What is wrong with words, where they have no meaning. It takes no memory.
 pub(crate) fn misuse_of(words: &[String]) -> Misuse<'_>
     ensures { result.fault.now ++ result.word.now ≡ misuse_of (map string_bytes words.now) }
@@ -158,10 +282,7 @@ fn misuse_after<'a>(word: &'a [u8], rest: &'a [String]) -> Misuse<'a>
         Some(_) => misuse_of_task(word, rest),
         None => match word_asked(word) {
             Some(_) => misuse_of_own(word, rest),
-            None => Misuse {
-                fault: b"unknown word: ",
-                word,
-            },
+            None => faulty(b"unknown word: ", word),
         },
     }
 }
@@ -170,21 +291,83 @@ fn misuse_after<'a>(word: &'a [u8], rest: &'a [String]) -> Misuse<'a>
 fn misuse_of_task<'a>(command: &'a [u8], rest: &'a [String]) -> Misuse<'a>
     ensures { result.fault.now ++ result.word.now ≡ misuse_of_task command.now (map string_bytes rest.now) }
 {
-    match rest.split_first() {
-        None => Misuse {
-            fault: b"no file after ",
-            word: command,
-        },
-        Some((name, others)) => match others.first() {
-            None => Misuse {
-                fault: b"not a file: ",
-                word: name.as_bytes(),
-            },
-            Some(more) => Misuse {
-                fault: b"one word too many: ",
-                word: more.as_bytes(),
-            },
-        },
+    let Some((name, others)) = rest.split_first() else {
+        return faulty(b"no file after ", command);
+    };
+    match others.first() {
+        None => misuse_of_one(name.as_bytes()),
+        Some(more) => misuse_of_words(command, name.as_bytes(), more.as_bytes(), rest),
+    }
+}
+
+// The same of a word that is alone after a command, and no file.
+fn misuse_of_one(word: &[u8]) -> Misuse<'_>
+    ensures { result.fault.now ++ result.word.now ≡ misuse_of_one word.now }
+{
+    if is_option(word) {
+        faulty(b"no value after ", word)
+    } else {
+        faulty(b"not a file: ", word)
+    }
+}
+
+// The same of two words and more: a file, and one word too many, or options.
+fn misuse_of_words<'a>(
+    command: &'a [u8],
+    name: &[u8],
+    more: &'a [u8],
+    rest: &'a [String],
+) -> Misuse<'a>
+    ensures { result.fault.now ++ result.word.now
+        ≡ misuse_of_words command.now name.now more.now (map string_bytes rest.now) }
+{
+    if is_plain(name) {
+        faulty(b"one word too many: ", more)
+    } else {
+        misuse_of_options(command, rest)
+    }
+}
+
+// The same in options.
+fn misuse_of_options<'a>(command: &'a [u8], words: &'a [String]) -> Misuse<'a>
+    ensures { result.fault.now ++ result.word.now ≡ misuse_of_options command.now (map string_bytes words.now) }
+{
+    let Some((key, rest)) = words.split_first() else {
+        return faulty(b"no file after ", command);
+    };
+    let Some((value, more)) = rest.split_first() else {
+        return faulty(b"no value after ", key.as_bytes());
+    };
+    match with_option(no_options(), key.as_bytes(), value) {
+        None => faulty(b"bad option: ", key.as_bytes()),
+        Some(options) => misuse_of_more(command, options, more),
+    }
+}
+
+// The same after one option.
+fn misuse_of_more<'a>(command: &'a [u8], options: Options<'a>, words: &'a [String]) -> Misuse<'a>
+    ensures { result.fault.now ++ result.word.now
+        ≡ misuse_of_more command.now (options_are options.entry) (map string_bytes words.now) }
+{
+    let Some((key, rest)) = words.split_first() else {
+        return faulty(b"no file after ", command);
+    };
+    let Some((value, more)) = rest.split_first() else {
+        return faulty(b"no value after ", key.as_bytes());
+    };
+    match with_option(options, key.as_bytes(), value) {
+        None => faulty(b"bad option: ", key.as_bytes()),
+        Some(_) => misuse_of_end(command, more),
+    }
+}
+
+// The same after two options.
+fn misuse_of_end<'a>(command: &'a [u8], words: &'a [String]) -> Misuse<'a>
+    ensures { result.fault.now ++ result.word.now ≡ misuse_of_end command.now (map string_bytes words.now) }
+{
+    match words.first() {
+        None => faulty(b"no file after ", command),
+        Some(more) => faulty(b"one word too many: ", more.as_bytes()),
     }
 }
 
@@ -193,13 +376,7 @@ fn misuse_of_own<'a>(word: &'a [u8], rest: &'a [String]) -> Misuse<'a>
     ensures { result.fault.now ++ result.word.now ≡ misuse_of_own word.now (map string_bytes rest.now) }
 {
     match rest.first() {
-        None => Misuse {
-            fault: b"unknown word: ",
-            word,
-        },
-        Some(more) => Misuse {
-            fault: b"one word too many: ",
-            word: more.as_bytes(),
-        },
+        None => faulty(b"unknown word: ", word),
+        Some(more) => faulty(b"one word too many: ", more.as_bytes()),
     }
 }

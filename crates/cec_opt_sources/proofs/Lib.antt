@@ -1,1 +1,3 @@
 pub mod SmallNets
+pub mod LightNets
+pub mod Exports

@@ -14,7 +14,7 @@ use Rattle.cec_compile.proofs.Exports.{given-few, inputs_wide, widths, text_keep
 use Rattle.cec_opt_sources.specs.declared.texts.SmallSource.{SmallSource}
 use Rattle.cec_opt_sources.specs.SmallTexts.{StandsForSmallNet, StandsForSmallBlif, StandsForSmallC, StandsForSmallVerilog, IsSmallSource}
 
-optimized_keeps : (net new : Netlist) (p : Program) → given_count p ≡ length net.inputs → Optimizes net new → NetKeeps net p → NetKeeps new p
+pub optimized_keeps : (net new : Netlist) (p : Program) → given_count p ≡ length net.inputs → Optimizes net new → NetKeeps net p → NetKeeps new p
 optimized_keeps net new p wide o keeps = record {
   name = o.replaces.interface.name ∙ keeps.name;
   inputs = o.replaces.interface.inputs ∙ keeps.inputs;
@@ -39,41 +39,51 @@ small_stands bytes main small is =
 few : (bytes : List ℕ) (main : Option (List ℕ)) (made : Compiled) → (s : StandsForNet bytes main made) → given_count s.program ≤ length s.program.signals
 few bytes main made s = given-few s.program s.compiled.formed
 
+-- ---- texts of a netlist that keeps what the program means
+
+pub net_blif : (bytes : List ℕ) (main : Option (List ℕ)) (c : Compiled) (net : Netlist) (written : List ℕ) → (s : StandsForNet bytes main c)
+    → NetKeeps net s.program → Means written net → StandsForSmallBlif bytes main written
+net_blif bytes main c net written s keeps means = record {
+  program = s.program;
+  source = s.source;
+  compiles = s.compiled.compiles;
+  keeps = text_keeps written net s.program (few bytes main c s) keeps means;
+}
+
+pub net_c : (bytes : List ℕ) (main : Option (List ℕ)) (c : Compiled) (net : Netlist) (written : List ℕ) → (s : StandsForNet bytes main c)
+    → NetKeeps net s.program → c_texts.Means written net → StandsForSmallC bytes main written
+net_c bytes main c net written s keeps means = record {
+  program = s.program;
+  source = s.source;
+  compiles = s.compiled.compiles;
+  keeps = c_text_keeps written net s.program (few bytes main c s) keeps means;
+}
+
+pub net_verilog : (bytes : List ℕ) (main : Option (List ℕ)) (c : Compiled) (net : Netlist) (written : List ℕ) → (s : StandsForNet bytes main c)
+    → NetKeeps net s.program → vlog_texts.Means written net → StandsForSmallVerilog bytes main written
+net_verilog bytes main c net written s keeps means = record {
+  program = s.program;
+  source = s.source;
+  compiles = s.compiled.compiles;
+  keeps = verilog_text_keeps written net s.program (few bytes main c s) keeps means;
+}
+
+-- ---- texts of a small netlist
+
 pub blif_stands : (bytes : List ℕ) (main : Option (List ℕ)) (small : SmallSource) (written : List ℕ) → IsSmallSource bytes main small
     → Means written (netlist_of small.net) → StandsForSmallBlif bytes main written
 unfolding small_stands
 blif_stands bytes main small written is means =
-    let s = is.compiled in
-    let stands = small_stands bytes main small is in
-    record {
-      program = s.program;
-      source = s.source;
-      compiles = s.compiled.compiles;
-      keeps = text_keeps written (netlist_of small.net) s.program (few bytes main small.compiled s) stands.keeps means;
-    }
+    net_blif bytes main small.compiled (netlist_of small.net) written is.compiled (small_stands bytes main small is).keeps means
 
 pub c_stands : (bytes : List ℕ) (main : Option (List ℕ)) (small : SmallSource) (written : List ℕ) → IsSmallSource bytes main small
     → c_texts.Means written (netlist_of small.net) → StandsForSmallC bytes main written
 unfolding small_stands
 c_stands bytes main small written is means =
-    let s = is.compiled in
-    let stands = small_stands bytes main small is in
-    record {
-      program = s.program;
-      source = s.source;
-      compiles = s.compiled.compiles;
-      keeps = c_text_keeps written (netlist_of small.net) s.program (few bytes main small.compiled s) stands.keeps means;
-    }
+    net_c bytes main small.compiled (netlist_of small.net) written is.compiled (small_stands bytes main small is).keeps means
 
 pub verilog_stands : (bytes : List ℕ) (main : Option (List ℕ)) (small : SmallSource) (written : List ℕ) → IsSmallSource bytes main small
     → vlog_texts.Means written (netlist_of small.net) → StandsForSmallVerilog bytes main written
 unfolding small_stands
 verilog_stands bytes main small written is means =
-    let s = is.compiled in
-    let stands = small_stands bytes main small is in
-    record {
-      program = s.program;
-      source = s.source;
-      compiles = s.compiled.compiles;
-      keeps = verilog_text_keeps written (netlist_of small.net) s.program (few bytes main small.compiled s) stands.keeps means;
-    }
+    net_verilog bytes main small.compiled (netlist_of small.net) written is.compiled (small_stands bytes main small is).keeps means

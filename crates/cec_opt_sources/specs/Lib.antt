@@ -1,1 +1,2 @@
 pub mod SmallTexts
+pub mod LightNets

@@ -1,13 +1,13 @@
 -- To believe: the line that is written about an outcome.
 use Rattle.std.specs.Prelude.{⊤, ℕ, List, [], ◌++◌, Option, Some, None, codes, decimal, unwrap_or}
-use Rattle.est_front.specs.Lines.{fault_text}
-use Rattle.cec_compile.specs.declared.refusal.Refusal.{Refusal}
 use Rattle.cec_compile.specs.declared.refusal.Refusal.TheVariants as refusing
+use Rattle.cec_refusals.specs.RefusalLines.{RefusalSubject, refusal_line}
 use Rattle.cec_text_io.specs.Contents.{Content, IsHeld}
 use Rattle.cec_text_io.specs.ErrorLines.{GainsLine}
-use Rattle.cec_prove_commands.specs.Words.{Job, Request, Tell, Do, Task, Ask, Survey, Compare, misuse_of}
+use Rattle.cec_prove_commands.specs.Words.{Job, Request, Tell, Do, Task, Ask, Survey, Cover, Compare, misuse_of}
 use Rattle.cec_prove_commands.specs.declared.outcome.ProveOutcome.{ProveOutcome}
 use Rattle.cec_prove_commands.specs.declared.outcome.ProveOutcome.TheVariants.{Told, Proved, Refuted, Surveyed}
+use Rattle.cec_prove_commands.specs.declared.outcome.ProveOutcome.TheVariants.{Covered, PartlyCovered}
 use Rattle.cec_prove_commands.specs.declared.outcome.ProveOutcome.TheVariants.{PartlySurveyed, Undecided, NoSignal}
 use Rattle.cec_prove_commands.specs.declared.outcome.ProveOutcome.TheVariants.{NoAssumed, OtherGiven, OtherOutgoing}
 use Rattle.cec_prove_commands.specs.declared.outcome.ProveOutcome.TheVariants.{OtherRelations, Usage, FileFault}
@@ -31,12 +31,9 @@ nothing = record { name = []; other = []; signal = []; assumed = []; main = []; 
 abbrev pub own_line : List ℕ → List ℕ
 own_line said = codes "cec-prove: " ++ (said ++ codes "\n")
 
--- The line of a source, in the file of this name, that does not compile. That of a static fault is the compiler's.
-abbrev pub refusal_line : Subject → (name : List ℕ) → Refusal → List ℕ
-refusal_line s name (refusing.Static fault) = codes "cec: " ++ (fault_text s.source s.main fault ++ codes "\n")
-refusal_line s name (refusing.Cyclic cycle) = own_line (codes "cyclic: " ++ cycle.text.items)
-refusal_line s name (refusing.Limit limit) = own_line (codes "a limit is passed, see cec check " ++ name)
-refusal_line s name refusing.NoMemory = own_line (codes "out of memory")
+-- what the line of a source that does not compile speaks of, where the file has this name
+abbrev pub refused_of : Subject → (name : List ℕ) → RefusalSubject
+refused_of s name = record { program = codes "cec-prove: "; name = name; main = s.main; source = s.source }
 
 -- the line of an outcome; none for Told
 abbrev pub line_of : Subject → ProveOutcome → List ℕ
@@ -45,6 +42,8 @@ line_of s Proved = own_line (codes "proved")
 line_of s Refuted = own_line (codes "refuted")
 line_of s Surveyed = own_line (codes "all signals are decided")
 line_of s PartlySurveyed = own_line (codes "some signals are undecided")
+line_of s Covered = own_line (codes "all points are decided")
+line_of s PartlyCovered = own_line (codes "some points are undecided")
 line_of s (Undecided depth) = own_line (codes "undecided, instants searched: " ++ decimal depth)
 line_of s NoSignal = own_line (codes "no outgoing signal " ++ s.signal)
 line_of s NoAssumed = own_line (codes "no outgoing signal " ++ s.assumed)
@@ -54,8 +53,8 @@ line_of s OtherRelations = own_line (codes "the relations differ")
 line_of s Usage = own_line (codes "no meaning")
 line_of s FileFault = own_line (codes "cannot read " ++ s.name)
 line_of s SecondFault = own_line (codes "cannot read " ++ s.other)
-line_of s (Refused refusal) = refusal_line s s.name refusal
-line_of s (SecondRefused refusal) = refusal_line s s.other refusal
+line_of s (Refused refusal) = refusal_line (refused_of s s.name) refusal
+line_of s (SecondRefused refusal) = refusal_line (refused_of s s.other) refusal
 line_of s WriteFault = own_line (codes "cannot write")
 line_of s NoMemory = own_line (codes "out of memory")
 
@@ -63,12 +62,14 @@ line_of s NoMemory = own_line (codes "out of memory")
 abbrev pub asked_signal : Task → List ℕ
 asked_signal (Ask claim signal) = signal
 asked_signal Survey = []
+asked_signal Cover = []
 asked_signal (Compare other) = []
 
 -- the second file of a task
 abbrev pub second_of : Task → List ℕ
 second_of (Ask claim signal) = []
 second_of Survey = []
+second_of Cover = []
 second_of (Compare other) = other
 
 -- a line about a static fault speaks of the source that the file holds

@@ -1,18 +1,18 @@
 // The line about an outcome.
 
-ghost use Rattle.std.specs.Prelude.{◌≤◌, ◌++◌, codes, decimal, length, map};
+ghost use Rattle.std.specs.Prelude.{◌≡◌, ◌≤◌, ◌++◌, codes, decimal, length, map};
 ghost use Rattle.std.specs.String.{string_bytes};
 ghost use Rattle.base_types.specs.Writing.{Wrote};
 ghost use Rattle.cec_text_io.specs.ErrorLines.{GainsLine};
-ghost use Rattle.cec_prove_commands.specs.Lines.{line_of, own_line, refusal_line};
+ghost use Rattle.cec_refusals.specs.Views.{refused_is};
+ghost use Rattle.cec_prove_commands.specs.Lines.{line_of, own_line, refused_of};
 ghost use Rattle.cec_prove_commands.specs.Views.{subject_is};
 ghost use Rattle.cec_prove_commands.specs.Words.{misuse_of};
 
 use crate::outcome::ProveOutcome;
 use crate::words::misuse_of;
 use base_types::{Limits, Sink, SinkFault, write_pieces};
-use cec_compile::Refusal;
-use est_front::put_fault;
+use cec_refusals::{RefusedSource, put_refusal};
 use itoa::Buffer;
 
 /// What a line speaks of: the names of the files, the signals, the main module, and the source.
@@ -86,6 +86,8 @@ fn put_line<E: Sink>(
         ProveOutcome::Refuted => put_said(err, b"refuted", b""),
         ProveOutcome::Surveyed => put_said(err, b"all signals are decided", b""),
         ProveOutcome::PartlySurveyed => put_said(err, b"some signals are undecided", b""),
+        ProveOutcome::Covered => put_said(err, b"all points are decided", b""),
+        ProveOutcome::PartlyCovered => put_said(err, b"some points are undecided", b""),
         ProveOutcome::Undecided(depth) => put_depth(err, *depth),
         ProveOutcome::NoSignal => put_said(err, b"no outgoing signal ", subject.signal),
         ProveOutcome::NoAssumed => put_said(err, b"no outgoing signal ", subject.assumed),
@@ -95,8 +97,16 @@ fn put_line<E: Sink>(
         ProveOutcome::Usage => put_said(err, b"no meaning", b""),
         ProveOutcome::FileFault => put_said(err, b"cannot read ", subject.name.as_bytes()),
         ProveOutcome::SecondFault => put_said(err, b"cannot read ", subject.other.as_bytes()),
-        ProveOutcome::Refused(refusal) => put_refusal(err, subject, subject.name, refusal),
-        ProveOutcome::SecondRefused(refusal) => put_refusal(err, subject, subject.other, refusal),
+        ProveOutcome::Refused(refusal) => put_refusal(
+            err,
+            refused_of(subject, subject.name),
+            refusal,
+        ),
+        ProveOutcome::SecondRefused(refusal) => put_refusal(
+            err,
+            refused_of(subject, subject.other),
+            refusal,
+        ),
         ProveOutcome::WriteFault => put_said(err, b"cannot write", b""),
         ProveOutcome::NoMemory => put_said(err, b"out of memory", b""),
     }
@@ -115,27 +125,15 @@ fn put_depth<E: Sink>(err: &mut E, depth: usize) -> Result<(), SinkFault>
     )
 }
 
-// The line of a source, in the file of this name, that does not compile.
-fn put_refusal<E: Sink>(
-    err: &mut E,
-    subject: Subject<'_>,
-    name: &str,
-    refusal: &Refusal,
-) -> Result<(), SinkFault>
-    requires { length subject.source.now ≤ Limits.SOURCE_BYTES }
-    ensures { Wrote (E.told err.old) (E.told err.new) (E.faults err.old) (E.faults err.new)
-        (refusal_line (subject_is subject.entry) name.now refusal.now) result }
+// What the line about a refused source in the file of this name speaks of.
+fn refused_of<'a>(subject: Subject<'a>, name: &'a str) -> RefusedSource<'a>
+    ensures refused { refused_is result ≡ refused_of (subject_is subject.entry) name.now }
+    ensures source { result.source.now ≡ subject.entry.source.now }
 {
-    match refusal {
-        Refusal::Static(fault) => {
-            let subject = est_front::Subject {
-                main: subject.main,
-                source: subject.source,
-            };
-            put_fault(err, subject, fault)
-        }
-        Refusal::Cyclic(cycle) => put_said(err, b"cyclic: ", cycle.text.as_slice()),
-        Refusal::Limit(_) => put_said(err, b"a limit is passed, see cec check ", name.as_bytes()),
-        Refusal::NoMemory => put_said(err, b"out of memory", b""),
+    RefusedSource {
+        program: b"cec-prove: ",
+        name,
+        main: subject.main,
+        source: subject.source,
     }
 }

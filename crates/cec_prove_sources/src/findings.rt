@@ -27,11 +27,11 @@ use std::alloc::Global;
 
 /// A question with the places of its signals, and the layout of a trace that answers it.
 #[derive(Clone, Copy)]
-pub(crate) struct Placed<'a> {
-    pub(crate) question: Question<'a>,
-    pub(crate) place: usize,
-    pub(crate) assumed: Option<usize>,
-    pub(crate) layout: Layout,
+pub struct Placed<'a> {
+    pub question: Question<'a>,
+    pub place: usize,
+    pub assumed: Option<usize>,
+    pub layout: Layout,
 }
 
 // Whether the signal of a claim is present.
@@ -122,8 +122,9 @@ fn broken_by(
     }
 }
 
-/// What is found about a question.
-pub(crate) fn found(
+/// What is found about a question, by a netlist that keeps what the program means. `Holds` is proved, and the last
+/// reaction to the trace of `Broken` breaks the claim. Out of memory is the only error.
+pub fn found(
     alloc: Global,
     program: &KernelProgram,
     net: &Net,

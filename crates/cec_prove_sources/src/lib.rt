@@ -21,7 +21,9 @@ mod traces;
 mod verdicts;
 
 pub use comparing::comparison_of;
-pub use questions::{Claim, Comparison, PairRefusal, Question, Survey, Verdict};
+pub use findings::{Placed, found};
+pub use places::place_of;
+pub use questions::{Claim, Comparison, Finding, Layout, PairRefusal, Question, Survey, Verdict};
 pub use relations::relation_clauses;
 pub use surveys::survey_of;
 pub use verdicts::verdict_of;

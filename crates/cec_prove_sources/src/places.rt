@@ -12,7 +12,7 @@ use est_kernel::KernelProgram;
 use net_ir::{Net, NetOut};
 
 /// The place of an outgoing signal by its name.
-pub(crate) fn place_of(program: &KernelProgram, net: &Net, name: &[u8]) -> Option<usize>
+pub fn place_of(program: &KernelProgram, net: &Net, name: &[u8]) -> Option<usize>
     requires keeps { NetKeeps (netlist_of net.now) (program_of program.now) }
     ensures found { IfSome result (HasPlace (outgoing_names (program_of program.now)) name.now) }
     ensures none { result ≡ None → is_among name.now (outgoing_names (program_of program.now)) ≡ false }

@@ -32,7 +32,7 @@ pub enum Layout {
 
 /// What the search for a proof or a trace found.
 #[derive(Drop)]
-pub(crate) enum Finding {
+pub enum Finding {
     /// The claim holds over all items.
     Holds,
     /// This trace leads to a reaction that breaks the claim.

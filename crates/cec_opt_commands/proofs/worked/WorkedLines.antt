@@ -4,14 +4,20 @@ use Rattle.std.specs.Fmt.{digits}
 use Rattle.net_ir.specs.declared.netlist.Op.TheVariants.{Const, Copy, Not, And, Or}
 use Rattle.net_ir.specs.Netlists.{Netlist}
 use Rattle.blif_net.specs.declared.fault.CircuitFault.TheVariants.{NoPause, Model, Input, Output, Again}
+use Rattle.base_types.specs.declared.files.reading.FileFault.TheVariants as reading
+use Rattle.cec_compile.specs.declared.refusal.Limit.TheVariants as limits
+use Rattle.cec_compile.specs.declared.refusal.Refusal.TheVariants as refusing
 use Rattle.cec_opt_texts.specs.declared.fault.OptFault.TheVariants.{Line, TwoDrivers, NoDriver, Circuit}
 use Rattle.cec_opt_commands.specs.Answers.{counts_line}
 use Rattle.blif_net.specs.Depths.{op_depth, net_depths, greatest, depth_of}
-use Rattle.cec_opt_commands.specs.Lines.{line_of, subject_of}
-use Rattle.cec_opt_commands.specs.Statuses.{status_of, written_of, written_outcome}
-use Rattle.cec_opt_commands.specs.Words.{Tell, misuse_of, request_by}
+use Rattle.cec_opt_commands.specs.Lines.{line_of, named, source_subject}
+use Rattle.cec_opt_commands.specs.Statuses.{refusal_outcome, source_unread_outcome, status_of, written_of, written_outcome}
+use Rattle.cec_opt_commands.specs.Words.{Make, Tell, misuse_of, request_by}
+use Rattle.cec_opt_commands.specs.declared.words.Form.TheVariants as forms
+use Rattle.cec_opt_commands.specs.declared.words.Task.TheVariants.{Check, Write}
 use Rattle.cec_opt_commands.specs.declared.words.About.TheVariants.{Commands, Version}
-use Rattle.cec_opt_commands.specs.declared.outcome.OptOutcome.TheVariants.{Done, Usage, FileFault, BadText, TooLong, WriteFault, NoMemory}
+use Rattle.cec_opt_commands.specs.declared.outcome.OptOutcome.TheVariants.{Done, Usage, FileFault, BadText, TooLong, Refused, WriteFault}
+use Rattle.cec_opt_commands.specs.declared.outcome.OptOutcome.TheVariants.{NoMemory}
 use Rattle.cec_text_io.specs.declared.writing.Written.TheVariants as ends
 
 -- ---- depths and counts
@@ -54,12 +60,12 @@ counts = refl
 statuses : map status_of (Done ∷ Usage ∷ FileFault ∷ BadText (Line 3) ∷ TooLong ∷ WriteFault ∷ NoMemory ∷ []) ≡ 0 ∷ 2 ∷ 3 ∷ 7 ∷ 8 ∷ 9 ∷ 10 ∷ []
 statuses = refl
 
-lines : map (line_of (codes "p.blif")) (Done ∷ Usage ∷ FileFault ∷ TooLong ∷ WriteFault ∷ NoMemory ∷ [])
+lines : map (line_of (named (codes "p.blif"))) (Done ∷ Usage ∷ FileFault ∷ TooLong ∷ WriteFault ∷ NoMemory ∷ [])
     ≡ [] ∷ codes "cec-opt: p.blif, see cec-opt --help\n" ∷ codes "cec-opt: cannot read p.blif\n" ∷ codes "cec-opt: limit: text\n"
     ∷ codes "cec-opt: cannot write\n" ∷ codes "cec-opt: out of memory\n" ∷ []
 lines = refl
 
-lines_of_faults : map (λ fault. line_of [] (BadText fault)) (Line 12 ∷ TwoDrivers (codes "a") ∷ NoDriver (codes "a") ∷ Circuit NoPause
+lines_of_faults : map (λ fault. line_of (named []) (BadText fault)) (Line 12 ∷ TwoDrivers (codes "a") ∷ NoDriver (codes "a") ∷ Circuit NoPause
     ∷ Circuit (Model (codes "a"))
     ∷ Circuit (Input (codes "a")) ∷ Circuit (Output (codes "a")) ∷ Circuit (Again (codes "a")) ∷ [])
     ≡ codes "cec-opt: line 12: not in the profile\n" ∷ codes "cec-opt: two drivers: a\n" ∷ codes "cec-opt: no driver: a\n"
@@ -88,5 +94,34 @@ misuses : map misuse_of ([] ∷ (codes "check" ∷ []) ∷ (codes "run" ∷ []) 
     ∷ codes "one word too many: q" ∷ codes "one word too many: p" ∷ []
 misuses = refl
 
-subjects : map (subject_of (codes "run" ∷ [])) (None ∷ Some (Tell Commands) ∷ Some (Tell Version) ∷ []) ≡ codes "unknown word: run" ∷ [] ∷ [] ∷ []
-subjects = refl
+sources : map request_by ((codes "check" ∷ codes "--source" ∷ codes "p" ∷ [])
+    ∷ (codes "c" ∷ codes "--main" ∷ codes "M" ∷ codes "--source" ∷ codes "p" ∷ [])
+    ∷ (codes "blif" ∷ codes "--source" ∷ codes "p" ∷ codes "--main" ∷ codes "M" ∷ [])
+    ∷ (codes "run" ∷ codes "--source" ∷ codes "p" ∷ []) ∷ (codes "c" ∷ codes "--main" ∷ codes "M" ∷ [])
+    ∷ (codes "c" ∷ codes "--source" ∷ codes "p" ∷ codes "--source" ∷ codes "q" ∷ []) ∷ (codes "c" ∷ codes "--source" ∷ codes "-p" ∷ [])
+    ∷ (codes "c" ∷ codes "--source" ∷ codes "p" ∷ codes "q" ∷ []) ∷ (codes "c" ∷ codes "p" ∷ codes "--main" ∷ codes "M" ∷ []) ∷ [])
+    ≡ Some (Make Check (codes "p") None) ∷ Some (Make (Write forms.C) (codes "p") (Some (codes "M")))
+    ∷ Some (Make (Write forms.Blif) (codes "p") (Some (codes "M"))) ∷ None ∷ None ∷ None ∷ None ∷ None ∷ None ∷ []
+sources = refl
+
+misuses_of_options : map misuse_of ((codes "c" ∷ codes "--source" ∷ []) ∷ (codes "c" ∷ codes "--main" ∷ codes "M" ∷ [])
+    ∷ (codes "c" ∷ codes "--mine" ∷ codes "M" ∷ []) ∷ (codes "c" ∷ codes "--source" ∷ codes "p" ∷ codes "q" ∷ [])
+    ∷ (codes "c" ∷ codes "--source" ∷ codes "p" ∷ codes "--source" ∷ codes "q" ∷ [])
+    ∷ (codes "c" ∷ codes "--source" ∷ codes "p" ∷ codes "--main" ∷ codes "M" ∷ codes "q" ∷ [])
+    ∷ (codes "c" ∷ codes "p" ∷ codes "--main" ∷ codes "M" ∷ []) ∷ [])
+    ≡ codes "no value after --source" ∷ codes "no file after c" ∷ codes "bad option: --mine" ∷ codes "no value after q"
+    ∷ codes "bad option: --source" ∷ codes "one word too many: q" ∷ codes "one word too many: --main" ∷ []
+misuses_of_options = refl
+
+-- ---- sources
+
+refusals_end : map (λ r. status_of (refusal_outcome r)) (refusing.Limit limits.Wires ∷ refusing.NoMemory ∷ []) ≡ 8 ∷ 10 ∷ []
+refusals_end = refl
+
+unread : map source_unread_outcome (reading.Failed ∷ reading.TooLong ∷ reading.NoMemory ∷ [])
+    ≡ FileFault ∷ Refused (refusing.Limit limits.Source) ∷ NoMemory ∷ []
+unread = refl
+
+line_of_limit : line_of (source_subject (codes "p.strl") None []) (Refused (refusing.Limit limits.Source))
+    ≡ codes "cec-opt: a limit is passed, see cec check p.strl\n"
+line_of_limit = refl

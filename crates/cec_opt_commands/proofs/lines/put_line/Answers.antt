@@ -1,17 +1,16 @@
-use Rattle.std.proofs.Common.{append_assoc, codes}
 use Rattle.cec_opt_commands.proofs.lines.put_line.Goals as goal
 
 pub returns-in-Usage : goal.returns-in-Usage
-returns-in-Usage g c = rw (c.in-Usage.is, ← c.as_bytes.ensures.value, append_assoc c.as_bytes.result.now (codes ", see cec-opt --help") (codes "\n")) c.write_pieces.ensures
+returns-in-Usage g c = rw (c.in-Usage.is, ← c.as_bytes.ensures.value) c.put_said.ensures
 
 pub returns-in-FileFault : goal.returns-in-FileFault
-returns-in-FileFault g c = rw (c.in-FileFault.is, ← c.as_bytes-in-FileFault.ensures.value) c.write_pieces-in-FileFault.ensures
+returns-in-FileFault g c = rw (c.in-FileFault.is, ← c.as_bytes-in-FileFault.ensures.value) c.put_said-in-FileFault.ensures
 
 pub returns-in-TooLong : goal.returns-in-TooLong
-returns-in-TooLong g c = rw c.in-TooLong.is c.write_pieces-in-TooLong.ensures
+returns-in-TooLong g c = rw c.in-TooLong.is c.put_said-in-TooLong.ensures
 
 pub returns-in-WriteFault : goal.returns-in-WriteFault
-returns-in-WriteFault g c = rw c.in-WriteFault.is c.write_pieces-in-WriteFault.ensures
+returns-in-WriteFault g c = rw c.in-WriteFault.is c.put_said-in-WriteFault.ensures
 
 pub returns-in-NoMemory : goal.returns-in-NoMemory
-returns-in-NoMemory g c = rw c.in-NoMemory.is c.write_pieces-in-NoMemory.ensures
+returns-in-NoMemory g c = rw c.in-NoMemory.is c.put_said-in-NoMemory.ensures

@@ -1,0 +1,2 @@
+-- What other crates use of these proofs.
+pub use Rattle.cec_opt_sources.proofs.LightNets.{light_blif, light_c, light_verilog}

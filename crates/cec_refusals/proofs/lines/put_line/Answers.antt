@@ -1,0 +1,5 @@
+use Rattle.std.proofs.Common.{append_assoc, codes}
+use Rattle.cec_refusals.proofs.lines.put_line.Goals as goal
+
+pub returns : goal.returns
+returns g c = rw (append_assoc c.args.said.now c.args.of.now (codes "\n")) c.write_pieces.ensures

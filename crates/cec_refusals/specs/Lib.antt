@@ -1,0 +1,2 @@
+pub mod RefusalLines
+pub mod Views

@@ -1,0 +1,7 @@
+mod TestRows
+mod Rows
+mod Fitting
+mod NewSignals
+mod CoveredFlats
+mod FreshNames
+pub mod Exports
