@@ -6,6 +6,8 @@
 #![tactic(auto)]
 
 #[cfg(test)]
+mod cycles;
+#[cfg(test)]
 mod graphs;
 #[cfg(test)]
 mod sharing;
