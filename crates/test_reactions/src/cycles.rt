@@ -15,7 +15,7 @@ use std::test::Fail;
 const EFFORT: u64 = 2_000_000;
 
 // Sources that are constructive, each over all events that meet its relations.
-const CONSTRUCTIVE: [Worked; 4] = [
+const CONSTRUCTIVE: [Worked; 3] = [
     // In each instant one of the two tests decides about the other one.
     (
         "module M: input A; output X, Y; loop present A then emit X; present X then emit Y end \
@@ -47,14 +47,6 @@ const CONSTRUCTIVE: [Worked; 4] = [
             "X | paused",
             "Y | paused",
         ],
-    ),
-    // Berry's reincarnated signal in a circle that no instant closes.
-    (
-        "module M: input A; output X, Y; loop signal S in \
-         present S then emit X else present Y then emit S end end \
-         || present A then emit Y end || pause end end end module",
-        &["A", ""],
-        &["Y | paused", "- | paused"],
     ),
 ];
 
