@@ -459,11 +459,12 @@ points-from before p none = ap (λ b. points_after b (flat_stmt_of p)) none
 
 -- ---- cases
 
+-- what is held, in a row of what it is used for
+held-ap : {Y : Type 0} (f : FlatStmt → Y) (p q : FlatStmt) → Some p ≡ Some q → f p ≡ f q
+held-ap f p q h = let e : p ≡ q = cc in ap f e
+
 none-held : {X : Type 0} (x : X) → None ≡ Some x → ⊥
 none-held x h = cc
-
-held-same : {X : Type 0} (x y : X) → Some x ≡ Some y → x ≡ y
-held-same x y h = cc
 
 pub points-case_missing : (at : Span) (before : List Point) (c : FlatCase) → (out-FlatCase c).body ≡ None →
     case_points at before c ≡ more_points kinds.Case at before
@@ -476,7 +477,7 @@ pub points-case_written : (at : Span) (before : List Point) (c : FlatCase) (p : 
 unfolding case_points more_points stmt_points out-FlatCase denote.Hole.Carrier.out
 points-case_written at before (FlatCase' event FlatCase-body-None') p h = absurd (none-held p h)
 points-case_written at before (FlatCase' event (FlatCase-body-Some' span form)) p h =
-    ap (λ q. stmt_points (more_points kinds.Case q.span before) q) (held-same (record { span = span; form = form }) p h)
+    held-ap (λ q. stmt_points (more_points kinds.Case q.span before) q) (record { span = span; form = form }) p h
 
 pub covers-case_missing : (w : Portion) (at : Span) (before : List Point) (c : FlatCase) → (out-FlatCase c).body ≡ None →
     case_covered w at before c ≡ (test_moved w (out-FlatCase c).event, empty_covered w (length before) at)
@@ -492,8 +493,8 @@ pub covers-case_written : (w : Portion) (at : Span) (before : List Point) (c : F
 unfolding case_covered with_mark more_points stmt_covered test_moved out-FlatCase denote.Hole.Carrier.out
 covers-case_written w at before (FlatCase' event FlatCase-body-None') p h = absurd (none-held p h)
 covers-case_written w at before (FlatCase' event (FlatCase-body-Some' span form)) p h =
-    ap (λ q. (test_moved w event, Written (with_mark w (length before) q.span (stmt_covered w (more_points kinds.Case q.span before) q))))
-    (held-same (record { span = span; form = form }) p h)
+    held-ap (λ q. (test_moved w event, Written (with_mark w (length before) q.span (stmt_covered w (more_points kinds.Case q.span before) q))))
+    (record { span = span; form = form }) p h
 
 pub ruleset case_rows = (points-case_missing, points-case_written, covers-case_missing, covers-case_written)
 
