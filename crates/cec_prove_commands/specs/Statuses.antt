@@ -38,8 +38,8 @@ status_of (SecondRefused refusal) = 4
 status_of WriteFault = 9
 status_of NoMemory = 10
 
--- how the writing of what the program writes about itself, of a trace, a survey or a covering ended; after every other outcome
--- nothing was to be written
+-- how the writing of what the program writes about itself, of a trace, a survey or a covering ended; after every other
+-- outcome nothing was to be written
 abbrev pub written_of : ProveOutcome → Option Written
 written_of Told = Some ends.Done
 written_of Refuted = Some ends.Done

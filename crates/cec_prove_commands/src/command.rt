@@ -48,8 +48,8 @@ const VERSION: &[u8] = b"cec-prove 0.1.0\n";
 /// - `cover FILE` writes for each emission, pause, wait and branch whether a reaction starts it: a trace whose last
 ///   reaction does, or that none does.
 /// - `same FILE FILE` answers whether two sources do the same.
-/// - `--assume SIGNAL` asks `never`, `always`, `all` and `cover` of the runs in each of whose reactions another outgoing signal
-///   is present, `--main M` asks of the module M, and `--effort N` says how long to search.
+/// - `--assume SIGNAL` asks `never`, `always`, `all` and `cover` of the runs in each of whose reactions another
+///   outgoing signal is present, `--main M` asks of the module M, and `--effort N` says how long to search.
 /// - `--help` writes the list of the commands, and `--version` the program's name and version.
 ///
 /// Every other list of words is `Usage`. For every outcome but `Told` one line goes to `err`, which for `Usage` names

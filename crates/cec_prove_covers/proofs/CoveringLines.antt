@@ -8,7 +8,7 @@ use Rattle.est_ast.specs.FlatTrees.{Flat}
 use Rattle.est_cover.specs.declared.points.Point.{Point}
 use Rattle.est_cover.specs.Points.{points_of}
 use Rattle.cec_prove_covers.specs.Coverings.{AreReaches, IsCoveringText, IsReach}
-use Rattle.cec_prove_covers.specs.Lines.{Reach, covering_text, is_known, point_text}
+use Rattle.cec_prove_covers.specs.Lines.{Reach, covering_text, is_decided, point_text}
 use Rattle.cec_prove_covers.specs.Stages.{IsCoveringPart}
 
 reaches-more : (flat : Flat) (assumed : Option (List ℕ)) (number : ℕ) (reaches : List Reach) (r : Reach) → AreReaches flat assumed number reaches
@@ -32,11 +32,11 @@ text-more source (p ∷ points) (q ∷ reaches) point r same =
 
 pub part-none : (source : List ℕ) (flat : Flat) (assumed : Option (List ℕ)) (points : List Point) → IsCoveringPart source flat assumed points 0 [] true
 part-none source flat assumed points =
-    record { reaches = []; low = omega arith; count = refl; known = tt; written = refl; each_known = refl }
+    record { reaches = []; low = omega arith; count = refl; known = tt; written = refl; each_decided = refl }
 
 pub part-more : (source : List ℕ) (flat : Flat) (assumed : Option (List ℕ)) (points : List Point) (number : ℕ) (text new : List ℕ)
     (whole sure : Bool) (point : Point) (r : Reach) → number < length points → point ≡ get_or points number point → IsReach flat assumed number r
-    → new ≡ text ++ point_text source point r → sure ≡ (whole && is_known r) → IsCoveringPart source flat assumed points number text whole
+    → new ≡ text ++ point_text source point r → sure ≡ (whole && is_decided r) → IsCoveringPart source flat assumed points number text whole
     → IsCoveringPart source flat assumed points (number + 1) new sure
 part-more source flat assumed points number text new whole sure point r low at is grown both part = record {
   reaches = part.reaches ++ r ∷ [];
@@ -48,8 +48,8 @@ part-more source flat assumed points number text new whole sure point r low at i
       ∙ sym (text-more source (take number points) part.reaches point r
       (omega (arith, part.count, length-take-le number points part.low)))
       ∙ ap (λ ps. covering_text source ps (part.reaches ++ r ∷ [])) (ap (λ p. take number points ++ p ∷ []) at ∙ sym (take_more points number point low));
-  each_known = both ∙ ap (λ b. b && is_known r) part.each_known ∙ ap (λ b. list_all is_known part.reaches && b) (sym (and-true (is_known r)))
-      ∙ sym (list_all-append is_known part.reaches (r ∷ []));
+  each_decided = both ∙ ap (λ b. b && is_decided r) part.each_known ∙ ap (λ b. list_all is_decided part.reaches && b) (sym (and-true (is_decided r)))
+      ∙ sym (list_all-append is_decided part.reaches (r ∷ []));
 }
 
 pub part-all : (source : List ℕ) (flat : Flat) (assumed : Option (List ℕ)) (points : List Point) (text : List ℕ) (whole : Bool) → points ≡ points_of flat
@@ -59,5 +59,5 @@ part-all source flat assumed points text whole is part = record {
   count = part.count ∙ ap length is;
   known = part.known;
   written = part.written ∙ ap (λ ps. covering_text source ps part.reaches) (take-length points ∙ is);
-  each_known = part.each_known;
+  each_decided = part.each_known;
 }

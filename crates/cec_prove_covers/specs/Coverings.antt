@@ -15,11 +15,11 @@ use Rattle.cec_prove_sources.specs.declared.questions.Claim.TheVariants as claim
 use Rattle.cec_prove_sources.specs.declared.questions.Layout.TheVariants.{OneLine}
 use Rattle.cec_prove_covers.specs.declared.coverings.Covering.{Covering}
 use Rattle.cec_prove_covers.specs.declared.coverings.Covering.TheVariants.{Whole, Partly, NoAssumed}
-use Rattle.cec_prove_covers.specs.Lines.{Reach, Never, Reached, Unknown, covering_text, is_known}
+use Rattle.cec_prove_covers.specs.Lines.{Reach, Never, Reached, Unknown, covering_text, is_decided}
 
 -- A program is that of a covered program, in which the signal of the point with this number has this name. No two
 -- signals that the environment sees have one name.
-pub record Shows (flat : Flat) (number : ℕ) (p : Program) (signal : List ℕ) : Type 0 where
+pub record ShowsPoint (flat : Flat) (number : ℕ) (p : Program) (signal : List ℕ) : Type 0 where
   pub first : ℕ
   pub names : List (List ℕ)
   pub expands : expansion (covered flat first names) ≡ Expanded p
@@ -32,7 +32,7 @@ pub record Shows (flat : Flat) (number : ℕ) (p : Program) (signal : List ℕ) 
 pub record NeverStarts (flat : Flat) (assumed : Option (List ℕ)) (number : ℕ) : Type 0 where
   pub program : Program
   pub signal : List ℕ
-  pub shows : Shows flat number program signal
+  pub shows : ShowsPoint flat number program signal
   pub never : AnswersHolds program (about claims.Never signal assumed)
 
 -- The last reaction to these events starts what is at the point: its signal is present. The signal that is assumed is
@@ -40,7 +40,7 @@ pub record NeverStarts (flat : Flat) (assumed : Option (List ℕ)) (number : ℕ
 pub record Starts (flat : Flat) (assumed : Option (List ℕ)) (number : ℕ) (trace : List ℕ) : Type 0 where
   pub program : Program
   pub signal : List ℕ
-  pub shows : Shows flat number program signal
+  pub shows : ShowsPoint flat number program signal
   pub starts : AnswersBroken OneLine program (about claims.Never signal assumed) trace
 
 abbrev pub IsReach : Flat → Option (List ℕ) → (number : ℕ) → Reach → Type 0
@@ -51,7 +51,8 @@ IsReach flat assumed number Unknown = ⊤
 -- the same of several points, the first of which has this number
 abbrev pub AreReaches : Flat → Option (List ℕ) → (number : ℕ) → List Reach → Type 0
 AreReaches flat assumed number [] = ⊤
-AreReaches flat assumed number (r ∷ others) = IsReach flat assumed number r × AreReaches flat assumed (number + 1) others
+AreReaches flat assumed number (r ∷ others) =
+    IsReach flat assumed number r × AreReaches flat assumed (number + 1) others
 
 -- A text has the lines of all points of a program, in order. It is whole where each of them is decided.
 pub record IsCoveringText (source : List ℕ) (flat : Flat) (assumed : Option (List ℕ)) (text : List ℕ) (whole : Bool) :
@@ -60,7 +61,7 @@ pub record IsCoveringText (source : List ℕ) (flat : Flat) (assumed : Option (L
   pub count : length reaches ≡ length (points_of flat)
   pub known : AreReaches flat assumed 0 reaches
   pub written : text ≡ covering_text source (points_of flat) reaches
-  pub each_known : whole ≡ list_all is_known reaches
+  pub each_decided : whole ≡ list_all is_decided reaches
 
 -- the same of the program that a source is flattened to
 pub record IsCovering (source : List ℕ) (main assumed : Option (List ℕ)) (text : List ℕ) (whole : Bool) : Type 0 where

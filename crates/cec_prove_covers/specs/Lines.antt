@@ -2,8 +2,8 @@
 use Rattle.std.specs.Prelude.{ℕ, Bool, true, false, List, [], ◌∷◌, ◌++◌, codes, decimal}
 use Rattle.est_cover.specs.declared.points.Point.{Point}
 use Rattle.est_cover.specs.declared.points.PointKind.{PointKind}
-use Rattle.est_cover.specs.declared.points.PointKind.TheVariants.{Emit, Sustain, Pause, Halt, Await, Then, Else, Case, Do}
-use Rattle.est_cover.specs.declared.points.PointKind.TheVariants.{Handle}
+use Rattle.est_cover.specs.declared.points.PointKind.TheVariants.{Emit, Sustain, Pause, Halt, Await, Then, Else}
+use Rattle.est_cover.specs.declared.points.PointKind.TheVariants.{Case, Do, Handle}
 use Rattle.est_front.specs.Positions.{Position, position}
 
 -- what is known of a point
@@ -15,10 +15,10 @@ pub data Reach : Type 0 where
   -- neither was shown
   Unknown : Reach
 
-abbrev pub is_known : Reach → Bool
-is_known Never = true
-is_known (Reached trace) = true
-is_known Unknown = false
+abbrev pub is_decided : Reach → Bool
+is_decided Never = true
+is_decided (Reached trace) = true
+is_decided Unknown = false
 
 abbrev pub kind_word : PointKind → List ℕ
 kind_word Emit = codes "emit"

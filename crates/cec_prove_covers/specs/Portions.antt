@@ -2,7 +2,7 @@
 use Rattle.std.specs.Prelude.{◌≡◌, ◌+◌, ◌-◌, ◌≤◌, ◌<◌, ◌^◌, ℕ, length, map, option_map, take}
 use Rattle.est_ast.specs.FlatPrograms.{IsFlat}
 use Rattle.est_ast.specs.FlatViews.{flat_of}
-use Rattle.est_cover.specs.Covered.{seen_of}
+use Rattle.est_cover.specs.Covered.{visible_count}
 use Rattle.est_cover.specs.NewNames.{AreNew}
 use Rattle.est_cover.specs.Points.{points_of}
 use Rattle.cec_prove_covers.specs.declared.portions.Asked.{Asked}
@@ -14,7 +14,7 @@ pub record IsAsked (asked : Asked) : Type 0 where
   pub flat : IsFlat (flat_of asked.flat.now)
   pub points : asked.points.now ≡ points_of (flat_of asked.flat.now)
   pub room : length asked.flat.now.signals.items + length asked.names.now ≤ 4096
-  pub new : AreNew (take (seen_of (flat_of asked.flat.now)) (flat_of asked.flat.now).signals)
+  pub new : AreNew (take (visible_count (flat_of asked.flat.now)) (flat_of asked.flat.now).signals)
       (map (λ s. s.name) asked.names.now)
 
 -- the lines of the points before this number

@@ -16,7 +16,7 @@ use Rattle.cec_prove_covers.specs.declared.coverings.Covering.{Covering}
 use Rattle.cec_prove_covers.specs.declared.coverings.Covering.TheVariants.{Whole, Partly, NoAssumed}
 use Rattle.cec_prove_covers.specs.declared.nets.CoveredNet.{CoveredNet}
 use Rattle.cec_prove_covers.specs.Coverings.{AreReaches}
-use Rattle.cec_prove_covers.specs.Lines.{Reach, covering_text, is_known}
+use Rattle.cec_prove_covers.specs.Lines.{Reach, covering_text, is_decided}
 
 -- the bytes stand for a program that compiles, and None says that it has no signal of the name that is assumed
 pub record HasRoom (source : List ℕ) (main assumed : Option (List ℕ)) (room : Option ℕ) : Type 0 where
@@ -50,4 +50,4 @@ pub record IsCoveringPart (source : List ℕ) (flat : Flat) (assumed : Option (L
   pub count : length reaches ≡ number
   pub known : AreReaches flat assumed 0 reaches
   pub written : text ≡ covering_text source (take number points) reaches
-  pub each_known : whole ≡ list_all is_known reaches
+  pub each_decided : whole ≡ list_all is_decided reaches

@@ -24,10 +24,10 @@ pub enum Covering {
 }
 
 /// The covering of the points of a source: for each emission, pause, wait and branch, in the order in which they are
-/// written, the place, and a trace whose last reaction starts what is there, or `never`. `never` is proved: no reaction to
-/// events that meet the source's relations starts it, where the signal that is assumed is present in each reaction. Each
-/// point has the effort, which is one of `net_search`. A module that is run several times has the lines of its points
-/// once for each run.
+/// written, the place, and a trace whose last reaction starts what is there, or `never`. `never` is proved: no reaction
+/// to events that meet the source's relations starts it, where the signal that is assumed is present in each reaction.
+/// Each point has the effort, which is one of `net_search`. A module that is run several times has the lines of its
+/// points once for each run.
 ///
 /// It refuses what `cec_compile::compile` refuses.
 pub fn covering_of<P: Picker>(

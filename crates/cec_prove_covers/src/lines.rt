@@ -3,7 +3,7 @@
 ghost use Rattle.std.specs.Prelude.{◌≡◌, ◌-◌, ◌++◌, ◌<◌, ◌^◌, OnOk, length};
 ghost use Rattle.est_front.specs.Positions.{position};
 ghost use Rattle.cec_prove_covers.specs.Findings.{reach_of};
-ghost use Rattle.cec_prove_covers.specs.Lines.{is_known, kind_word, place_text, point_text, reach_text};
+ghost use Rattle.cec_prove_covers.specs.Lines.{is_decided, kind_word, place_text, point_text, reach_text};
 
 use base_types::{NoMemory, put, put_number};
 use cec_prove_sources::Finding;
@@ -70,8 +70,8 @@ fn push_reach(text: &mut Vec<u8>, finding: &Finding) -> Result<(), NoMemory>
 }
 
 /// Whether a point is decided.
-pub(crate) fn is_known(finding: &Finding) -> bool
-    ensures { result ≡ is_known (reach_of finding.now) }
+pub(crate) fn is_decided(finding: &Finding) -> bool
+    ensures { result ≡ is_decided (reach_of finding.now) }
 {
     match finding {
         Finding::Holds | Finding::Broken(_) => true,

@@ -6,7 +6,7 @@ ghost use Rattle.base_types.specs.declared.bounds.TheConstants.Limits.{SIGNALS};
 ghost use Rattle.est_ast.specs.FlatPrograms.{IsFlat, IsNamed};
 ghost use Rattle.est_ast.specs.FlatViews.{flat_of};
 ghost use Rattle.est_ast.specs.NewSignals.{new_in};
-ghost use Rattle.est_cover.specs.Covered.{covered, seen_of};
+ghost use Rattle.est_cover.specs.Covered.{covered, visible_count};
 ghost use Rattle.est_cover.specs.NewNames.{AreNew};
 ghost use Rattle.est_kernel.specs.CodeLists.{AreCodesOf};
 ghost use Rattle.est_kernel.specs.Plain.{Program as PlainProgram, program_of, term_of};
@@ -35,8 +35,8 @@ pub(crate) struct CoveredNet {
     pub(crate) small: Net,
 }
 
-/// The program of a flat program with new outgoing signals of these names for the points from this one on, compiled. None
-/// where that program passes a limit, or does not compile.
+/// The program of a flat program with new outgoing signals of these names for the points from this one on, compiled.
+/// None where that program passes a limit, or does not compile.
 pub(crate) fn covered_net<P: Picker>(
     alloc: Global,
     flat: &Flat,
@@ -46,7 +46,8 @@ pub(crate) fn covered_net<P: Picker>(
 ) -> Result<Option<CoveredNet>, NoMemory>
     requires flat { IsFlat (flat_of flat.now) }
     requires room { length flat.now.signals.items + length names.now ≤ 4096 }
-    requires new { AreNew (take (seen_of (flat_of flat.now)) (flat_of flat.now).signals) (map (λ s. s.name) names.now) }
+    requires new { AreNew (take (visible_count (flat_of flat.now)) (flat_of flat.now).signals)
+        (map (λ s. s.name) names.now) }
     ensures { IfOk result (λ o. IfSome o (IsCoveredNet
         (covered (flat_of flat.now) first (map (λ s. s.name) names.now)))) }
 {
@@ -69,7 +70,8 @@ fn covered_program(
     requires flat { IsFlat (flat_of flat.now) }
     requires named { IsNamed (flat_of flat.now) }
     requires room { length flat.now.signals.items + length names.now ≤ 4096 }
-    requires new { AreNew (take (seen_of (flat_of flat.now)) (flat_of flat.now).signals) (map (λ s. s.name) names.now) }
+    requires new { AreNew (take (visible_count (flat_of flat.now)) (flat_of flat.now).signals)
+        (map (λ s. s.name) names.now) }
     ensures { IfOk result (λ o. IfSome o (λ p. IsCoveredProgram
         (covered (flat_of flat.now) first (map (λ s. s.name) names.now)) (program_of p))) }
 {

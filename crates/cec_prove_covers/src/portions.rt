@@ -9,7 +9,7 @@ ghost use Rattle.cec_prove_covers.specs.Findings.{reach_of};
 ghost use Rattle.cec_prove_covers.specs.Portions.{HasLines, IsAsked};
 ghost use Rattle.cec_prove_covers.specs.Stages.{IsCoveredNet};
 
-use crate::lines::{is_known, push_point};
+use crate::lines::{is_decided, push_point};
 use crate::nets::{CoveredNet, covered_net};
 use crate::reaching::signal_reach;
 use base_types::{NoMemory, SignalInfo};
@@ -169,7 +169,7 @@ fn push_finding(
     ensures { HasLines asked.now number lines.old → OnOk result (HasLines asked.now (number + 1) lines.new) }
 {
     push_point(&mut lines.text, asked.source, asked.points[number], finding)?;
-    lines.whole = both(lines.whole, is_known(finding));
+    lines.whole = both(lines.whole, is_decided(finding));
     Ok(())
 }
 

@@ -11,13 +11,13 @@ ghost use Rattle.cec_prove_sources.specs.Views.{plain_question};
 ghost use Rattle.cec_prove_covers.specs.Findings.{IsSignalReach, reach_of};
 
 use base_types::NoMemory;
-use cec_prove_sources::{Claim, Finding, Layout, Placed, Question, found, place_of};
+use cec_prove_sources::{Claim, Finding, Layout, PlacedQuestion, Question, found, place_of};
 use est_kernel::KernelProgram;
 use net_ir::Net;
 use std::alloc::Global;
 
-/// A trace whose last reaction has the signal of this name, or that none has, where the signal that is assumed is present
-/// in each reaction.
+/// A trace whose last reaction has the signal of this name, or that none has, where the signal that is assumed is
+/// present in each reaction.
 pub(crate) fn signal_reach(
     alloc: Global,
     program: &KernelProgram,
@@ -72,7 +72,7 @@ fn asked<'a>(
     place: usize,
     assumed: Option<&'a [u8]>,
     at: Option<usize>,
-) -> Placed<'a>
+) -> PlacedQuestion<'a>
     ensures question { plain_question result.question
         ≡ about Claim.Never signal.entry.now (option_map (λ n. n.now) assumed.entry) }
     ensures claim { result.question.claim ≡ Claim.Never }
@@ -80,7 +80,7 @@ fn asked<'a>(
     ensures assumed { result.assumed ≡ at }
     ensures layout { result.layout ≡ Layout.OneLine }
 {
-    Placed {
+    PlacedQuestion {
         question: Question {
             claim: Claim::Never,
             signal,

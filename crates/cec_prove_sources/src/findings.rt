@@ -27,7 +27,7 @@ use std::alloc::Global;
 
 /// A question with the places of its signals, and the layout of a trace that answers it.
 #[derive(Clone, Copy)]
-pub struct Placed<'a> {
+pub struct PlacedQuestion<'a> {
     pub question: Question<'a>,
     pub place: usize,
     pub assumed: Option<usize>,
@@ -105,7 +105,7 @@ fn broken_by(
     alloc: Global,
     program: &KernelProgram,
     net: &Net,
-    asked: Placed<'_>,
+    asked: PlacedQuestion<'_>,
     events: &[Vec<bool>],
 ) -> Result<Finding, NoMemory>
     requires keeps { NetKeeps (netlist_of net.now) (program_of program.now) }
@@ -128,7 +128,7 @@ pub fn found(
     alloc: Global,
     program: &KernelProgram,
     net: &Net,
-    asked: Placed<'_>,
+    asked: PlacedQuestion<'_>,
     effort: u64,
 ) -> Result<Finding, NoMemory>
     requires fits { IsWellFormed (program_of program.now) }

@@ -21,7 +21,7 @@ mod traces;
 mod verdicts;
 
 pub use comparing::comparison_of;
-pub use findings::{Placed, found};
+pub use findings::{PlacedQuestion, found};
 pub use places::place_of;
 pub use questions::{Claim, Comparison, Finding, Layout, PairRefusal, Question, Survey, Verdict};
 pub use relations::relation_clauses;

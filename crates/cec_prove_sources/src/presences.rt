@@ -10,7 +10,7 @@ ghost use Rattle.cec_prove_sources.specs.Surveys.{trace_line};
 ghost use Rattle.cec_prove_sources.specs.Verdicts.{AsksOf};
 ghost use Rattle.cec_prove_sources.specs.Views.{AddsPresence, plain_presence, plain_question, plain_trace};
 
-use crate::findings::{Placed, found};
+use crate::findings::{PlacedQuestion, found};
 use crate::questions::{Claim, Finding, Layout, Presence, Question};
 use base_types::NoMemory;
 use est_kernel::KernelProgram;
@@ -27,7 +27,7 @@ pub(crate) struct Signal<'a> {
 }
 
 // A question about a signal.
-fn placed(signal: Signal<'_>, claim: Claim) -> Placed<'_>
+fn placed(signal: Signal<'_>, claim: Claim) -> PlacedQuestion<'_>
     ensures question { plain_question result.question
         ≡ about claim signal.entry.name.now (option_map (λ n. n.now) signal.entry.assumed) }
     ensures claim { result.question.claim ≡ claim }
@@ -35,7 +35,7 @@ fn placed(signal: Signal<'_>, claim: Claim) -> Placed<'_>
     ensures assumed { result.assumed ≡ signal.entry.assumed_place }
     ensures layout { result.layout ≡ Layout.OneLine }
 {
-    Placed {
+    PlacedQuestion {
         question: Question {
             claim,
             signal: signal.name,

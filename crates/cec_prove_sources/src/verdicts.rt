@@ -9,7 +9,7 @@ ghost use Rattle.cec_compile.specs.Refusals.{IsRefused};
 ghost use Rattle.cec_prove_sources.specs.Verdicts.{AsksOf, HasPlace, HasVerdict, IsVerdict};
 ghost use Rattle.cec_prove_sources.specs.Views.{plain_question};
 
-use crate::findings::{Placed, found};
+use crate::findings::{PlacedQuestion, found};
 use crate::places::place_of;
 use crate::questions::{Finding, Layout, Question, Verdict};
 use base_types::{Limits, NoMemory};
@@ -35,7 +35,7 @@ fn decided(
     requires asks { AsksOf (program_of program.now) (plain_question question) place assumed }
     ensures { IfOk result (IsVerdict (program_of program.now) (plain_question question.entry)) }
 {
-    let asked = Placed {
+    let asked = PlacedQuestion {
         question,
         place,
         assumed,

@@ -10,10 +10,9 @@ use Rattle.est_ast.specs.FlatTrees.{Flat}
 use Rattle.est_ast.specs.FlatFits.{Scope, Fits}
 use Rattle.est_ast.specs.FlatPrograms.{IsFlat, IsNamed, whole_scope}
 use Rattle.est_ast.specs.NewSignals.{new_in}
-use Rattle.est_cover.specs.Covered.{covered, covered_stmt, seen_of}
+use Rattle.est_cover.specs.Covered.{covered, covered_stmt, visible_count}
 use Rattle.est_cover.specs.NewNames.{AreNew}
 use Rattle.est_cover.proofs.Fitting.{body-fits}
-use Rattle.est_cover.proofs.NewSignals.{stmt-new}
 
 -- new elements after the first ones
 inserted-length : {X : Type 0} (seen : ℕ) (names signals : List X) →
@@ -36,45 +35,46 @@ inserted-front seen count names signals within is =
     (omega (arith, is, length-append (take seen signals) names, length-take-le seen signals within))
 
 -- the signals that the environment sees
-pub front-of : (flat : Flat) (first : ℕ) (names : List (List ℕ)) → seen_of flat ≤ length flat.signals →
-    take (seen_of (covered flat first names)) (covered flat first names).signals ≡ take (seen_of flat) flat.signals ++ names
+pub front-of : (flat : Flat) (first : ℕ) (names : List (List ℕ)) → visible_count flat ≤ length flat.signals →
+    take (visible_count (covered flat first names)) (covered flat first names).signals ≡ take (visible_count flat) flat.signals ++ names
 front-of flat first names within =
-    inserted-front (seen_of flat) (seen_of (covered flat first names)) names flat.signals within (omega arith)
+    inserted-front (visible_count flat) (visible_count (covered flat first names)) names flat.signals within (omega arith)
 
 pub length-of : (flat : Flat) (first : ℕ) (names : List (List ℕ)) → length (covered flat first names).signals ≡ length flat.signals + length names
-length-of flat first names = inserted-length (seen_of flat) names flat.signals
+length-of flat first names = inserted-length (visible_count flat) names flat.signals
 
 covered-body : (flat : Flat) (first : ℕ) (names : List (List ℕ)) → IsFlat flat → length flat.signals + length names ≤ SIGNALS →
-    Fits flat.inputs (seen_of flat + length names) (length flat.signals + length names) (whole_scope (covered flat first names)) (covered flat first names).body
+    Fits flat.inputs (visible_count flat + length names) (length flat.signals + length names) (whole_scope (covered flat first names))
+    (covered flat first names).body
 covered-body flat first names is room =
-    body-fits flat.inputs (seen_of flat) (length flat.signals) first (length names) (omega arith) (omega (arith, room))
+    body-fits flat.inputs (visible_count flat) (length flat.signals) first (length names) (omega arith) (omega (arith, room))
     (whole_scope flat) (whole_scope (covered flat first names)) flat.body refl
-    (let e : seen_of (covered flat first names) ≡ seen_of flat + length names = omega arith in ap (λ k s. nat_lt s k) e)
+    (let e : visible_count (covered flat first names) ≡ visible_count flat + length names = omega arith in ap (λ k s. nat_lt s k) e)
     refl is.interface is.body
 
 -- it is a flat program, where there is room for its signals and no two have one name
-pub covered-flat : (flat : Flat) (first : ℕ) (names : List (List ℕ)) → IsFlat flat → AreNew (take (seen_of flat) flat.signals) names
-    → length flat.signals + length names + new_in flat.body ≤ SIGNALS → IsFlat (covered flat first names)
+pub covered-flat : (flat : Flat) (first : ℕ) (names : List (List ℕ)) → IsFlat flat → AreNew (take (visible_count flat) flat.signals) names
+    → length (covered flat first names).signals + new_in (covered flat first names).body ≤ SIGNALS → IsFlat (covered flat first names)
 covered-flat flat first names is new room =
     let long = length-of flat first names in
-    let seen : seen_of flat + length names ≡ seen_of (covered flat first names) = omega arith in
-    let body = covered-body flat first names is (omega (arith, room)) in
+    let seen : visible_count flat + length names ≡ visible_count (covered flat first names) = omega arith in
+    let body = covered-body flat first names is (omega (arith, long, room)) in
     record {
       interface = omega (arith, long, seen, is.interface);
-      room = omega (arith, long, room, stmt-new (record { seen = seen_of flat; first = first; count = length names }) [] flat.body);
+      room = room;
       body = subst (λ k. Fits flat.inputs k (length (covered flat first names).signals) (whole_scope (covered flat first names))
           (covered flat first names).body) seen
-          (subst (λ k. Fits flat.inputs (seen_of flat + length names) k (whole_scope (covered flat first names)) (covered flat first names).body)
+          (subst (λ k. Fits flat.inputs (visible_count flat + length names) k (whole_scope (covered flat first names)) (covered flat first names).body)
           (sym long) body);
       relations = is.relations;
       differ = ap (all_differ is_same_name) (front-of flat first names is.interface) ∙ new.differ;
     }
 
 -- the names of its interface can be written
-pub covered-named : (flat : Flat) (first : ℕ) (names : List (List ℕ)) → IsFlat flat → IsNamed flat → AreNew (take (seen_of flat) flat.signals) names
+pub covered-named : (flat : Flat) (first : ℕ) (names : List (List ℕ)) → IsFlat flat → IsNamed flat → AreNew (take (visible_count flat) flat.signals) names
     → IsNamed (covered flat first names)
 covered-named flat first names is named new = record {
   name = named.name;
   names = subst (All (λ n. IsTrue (is_name n))) (sym (front-of flat first names is.interface))
-      (All-append (λ n. IsTrue (is_name n)) (take (seen_of flat) flat.signals) names named.names new.written);
+      (All-append (λ n. IsTrue (is_name n)) (take (visible_count flat) flat.signals) names named.names new.written);
 }

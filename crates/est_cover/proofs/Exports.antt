@@ -1,2 +1,2 @@
 -- What other crates use of these proofs.
-pub use Rattle.est_cover.proofs.CoveredFlats.{covered-flat, covered-named, front-of, length-of}
+pub use Rattle.est_cover.proofs.CoveredFlats.{covered-flat, covered-named}

@@ -1,6 +1,6 @@
 -- Inner: a covered statement fits where the given one does.
 use Rattle.std.proofs.Common.{◌≡◌, ℕ, ◌+◌, ◌-◌, ◌^◌, ◌<◌, ◌≤◌, ◌==◌, ◌||◌, ◌&&◌, Bool, true, false, nat_le, nat_lt, cond, min, List, [], ◌∷◌, length, map}
-use Rattle.std.proofs.Common.{refl, sym, ap, ◌∙◌, subst, arith, IsTrue}
+use Rattle.std.proofs.Common.{refl, sym, ap, ◌∙◌, subst, arith, IsTrue, ◌⊎◌, inl, inr}
 use Rattle.std.proofs.lemmas.Bool.{eq-eqb, eqb-true, lt-ltb, le-ltb, leb-true, ltb-true, and_parts}
 use Rattle.std.specs.Prelude.{⊤, if◌then◌else◌}
 use Rattle.base_types.specs.declared.place.Span.{Span}
@@ -12,17 +12,15 @@ use Rattle.est_ast.specs.FlatFits.{Scope, binding, in_signals, in_trap, TestFits
 use Rattle.est_cover.specs.declared.points.Point.{Point}
 use Rattle.est_cover.specs.declared.points.PointKind.{PointKind}
 use Rattle.est_cover.specs.declared.points.PointKind.TheVariants as kinds
-use Rattle.est_cover.specs.Points.{span_of, with_point, points_after, branch_points, cases_points}
-use Rattle.est_cover.specs.Covered.{Portion, moved, moved_test, moved_tests, moved_delay, is_in, mark, marked, covered_stmt, covered_form, covered_branch}
+use Rattle.est_cover.specs.Points.{stmt_place, with_point, points_after, branch_points, cases_points}
+use Rattle.est_cover.specs.Covered.{Portion, moved, moved_test, moved_tests, moved_delay, is_in, emission, marked, covered_stmt, covered_form, covered_branch}
 use Rattle.est_cover.specs.Covered.{covered_handler, covered_stmts, covered_cases}
 
-or_right : (a b : Bool) → IsTrue b → IsTrue (a || b)
-or_right true b h = refl
-or_right false b h = h
-
-or_left : (a b : Bool) → IsTrue a → IsTrue (a || b)
-or_left true b h = refl
-or_left false b h = absurd (cc)
+-- one of two is true
+either : (a b : Bool) → IsTrue a ⊎ IsTrue b → IsTrue (a || b)
+either true b h = refl
+either false b (inl h) = absurd (cc)
+either false b (inr h) = h
 
 -- ---- numbers
 
@@ -52,8 +50,8 @@ bind-moves : (w : Portion) (all s t : ℕ) (v u : ℕ → Bool) → Moves w all 
 bind-moves w all s t v u m h = go (t == s) refl h
   where
     go : (b : Bool) → (t == s) ≡ b → IsTrue (b || v t) → IsTrue (moved w t == moved w s || u (moved w t))
-    go true is h = or_left (moved w t == moved w s) (u (moved w t)) (eq-eqb (moved w t) (moved w s) (ap (moved w) (eqb-true t s is)))
-    go false is h = or_right (moved w t == moved w s) (u (moved w t)) (m.moves t h)
+    go true is h = either (moved w t == moved w s) (u (moved w t)) (inl (eq-eqb (moved w t) (moved w s) (ap (moved w) (eqb-true t s is))))
+    go false is h = either (moved w t == moved w s) (u (moved w t)) (inr (m.moves t h))
 
 bind-low : (w : Portion) (all s t : ℕ) (v u : ℕ → Bool) → Moves w all v u → s < all → IsTrue (t == s || v t) → t < all
 bind-low w all s t v u m low h = go (t == s) refl h
@@ -66,7 +64,7 @@ bound : (w : Portion) (all s : ℕ) (v u : ℕ → Bool) → Moves w all v u →
 bound w all s v u m low = record {
   moves = λ t h. bind-moves w all s t v u m h;
   low = λ t h. bind-low w all s t v u m low h;
-  new = λ t a b. or_right (t == moved w s) (u t) (m.new t a b);
+  new = λ t a b. either (t == moved w s) (u t) (inr (m.new t a b));
 }
 
 mutual
@@ -117,7 +115,7 @@ module _ (inputs seen all first n : ℕ) (given : inputs ≤ seen) (few : all + 
       Opens (in_signals l scope) (in_signals (map (moved w) l) outer)
   in-signals l scope outer local o = record { visible = bindings l scope.visible outer.visible local o.visible; traps = o.traps }
 
-  mark-fits : (scope outer : Scope) (number : ℕ) (at : Span) → Opens scope outer → is_in w number ≡ true → Fitting outer (mark w number at)
+  mark-fits : (scope outer : Scope) (number : ℕ) (at : Span) → Opens scope outer → is_in w number ≡ true → Fitting outer (emission w number at)
   mark-fits scope outer number at o is =
       let parts = and_parts (nat_le first number) (nat_lt number (first + n)) is in
       let low = leb-true first number parts.0 in
@@ -128,7 +126,7 @@ module _ (inputs seen all first n : ℕ) (given : inputs ≤ seen) (few : all + 
   marked-fits scope outer number at p o h = go (is_in w number) refl
     where
       go : (b : Bool) → is_in w number ≡ b
-          → Fitting outer (if b then At at (Seq (MoreStmts (mark w number at) (MoreStmts p NoStmts))) else p)
+          → Fitting outer (if b then At at (Seq (MoreStmts (emission w number at) (MoreStmts p NoStmts))) else p)
       go true is = (mark-fits scope outer number at o is, (h, tt))
       go false is = h
 
@@ -137,10 +135,10 @@ module _ (inputs seen all first n : ℕ) (given : inputs ≤ seen) (few : all + 
   emitted scope outer s o h = (o.visible.moves s h.0, moved-least w inputs s h.1 (omega (arith, o.visible.low s h.0, few)))
 
   empty-fits : (scope outer : Scope) (number : ℕ) (at : Span) → Opens scope outer →
-      PartFits inputs (seen + n) (all + n) outer (if is_in w number then Written (mark w number at) else Missing)
+      PartFits inputs (seen + n) (all + n) outer (if is_in w number then Written (emission w number at) else Missing)
   empty-fits scope outer number at o = go (is_in w number) refl
     where
-      go : (b : Bool) → is_in w number ≡ b → PartFits inputs (seen + n) (all + n) outer (if b then Written (mark w number at) else Missing)
+      go : (b : Bool) → is_in w number ≡ b → PartFits inputs (seen + n) (all + n) outer (if b then Written (emission w number at) else Missing)
       go true is = mark-fits scope outer number at o is
       go false is = tt
 
@@ -203,13 +201,13 @@ module _ (inputs seen all first n : ℕ) (given : inputs ≤ seen) (few : all + 
         PartFits inputs seen all scope q → PartFits inputs (seen + n) (all + n) outer (covered_branch w kind at before q)
     branch-fits scope outer kind at before Missing o h = empty-fits scope outer (length before) at o
     branch-fits scope outer kind at before (Written p) o h =
-        marked-fits scope outer (length before) (span_of p) _ o (stmt-fits scope outer (with_point kind (span_of p) before) p o h)
+        marked-fits scope outer (length before) (stmt_place p) _ o (stmt-fits scope outer (with_point kind (stmt_place p) before) p o h)
 
     handler-fits : (scope outer : Scope) (kind : PointKind) (before : List Point) (q : Part) → Opens scope outer →
         PartFits inputs seen all scope q → PartFits inputs (seen + n) (all + n) outer (covered_handler w kind before q)
     handler-fits scope outer kind before Missing o h = tt
     handler-fits scope outer kind before (Written p) o h =
-        marked-fits scope outer (length before) (span_of p) _ o (stmt-fits scope outer (with_point kind (span_of p) before) p o h)
+        marked-fits scope outer (length before) (stmt_place p) _ o (stmt-fits scope outer (with_point kind (stmt_place p) before) p o h)
 
     all-fit : (scope outer : Scope) (before : List Point) (parts : Stmts) → Opens scope outer → AllFit inputs seen all scope parts →
         AllFit inputs (seen + n) (all + n) outer (covered_stmts w before parts)

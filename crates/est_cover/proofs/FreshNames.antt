@@ -1,5 +1,6 @@
 -- Inner: names of new signals.
-use Rattle.std.proofs.Common.{◌≡◌, ℕ, ◌<◌, ◌≤◌, ◌^◌, ◌==◌, ◌&&◌, ◌||◌, Bool, true, false, not, List, [], ◌∷◌, ◌++◌, length, map, refl, sym, ap, ◌∙◌, arith, All}
+use Rattle.std.proofs.Common.{◌≡◌, ℕ, ◌<◌, ◌≤◌, ◌^◌, ◌==◌, ◌&&◌, ◌||◌, Bool, true, false, not, List, [], ◌∷◌, ◌++◌, length, map, take, refl, sym}
+use Rattle.std.proofs.Common.{ap, subst, ◌∙◌, arith, All}
 use Rattle.std.proofs.Common.{IsTrue, append_assoc, append-nil, decimal, nat_le, get_or, drop, ◌+◌}
 use Rattle.std.specs.List.{list_any, list_all}
 use Rattle.std.specs.Str.Parse.{AllDigits}
@@ -62,7 +63,8 @@ new-more f given old new x is written apart fresh before =
     list_any-append (is_same_name (f x)) given (map f old)
     ∙ or_from (list_any (is_same_name (f x)) given) (list_any (is_same_name (f x)) (map f old)) apart fresh in
     rw grown (record {
-      written = All-append (λ n. IsTrue (is_name n)) (map f old) (f x ∷ []) before.written (All-cons (λ n. IsTrue (is_name n)) (f x) [] written (All-nil (λ n. IsTrue (is_name n))));
+      written = All-append (λ n. IsTrue (is_name n)) (map f old) (f x ∷ []) before.written (All-cons (λ n. IsTrue (is_name n)) (f x) [] written (All-nil
+          (λ n. IsTrue (is_name n))));
       differ = ap (all_differ is_same_name) (sym (append_assoc given (map f old) (f x ∷ [])))
           ∙ differ-more (given ++ map f old) (f x) before.differ out;
     })
@@ -70,6 +72,14 @@ new-more f given old new x is written apart fresh before =
 -- no name yet
 pub new-none : (given : List (List ℕ)) → IsTrue (all_differ is_same_name given) → AreNew given []
 new-none given h = record { written = All-nil (λ n. IsTrue (is_name n)); differ = ap (all_differ is_same_name) (append-nil given) ∙ h }
+
+-- ---- names that can be written
+
+pub named-all : (names : List (List ℕ)) → list_all is_name names ≡ true → All (λ n. IsTrue (is_name n)) names
+named-all [] h = All-nil (λ n. IsTrue (is_name n))
+named-all (n ∷ names) h =
+    let parts = and_parts (is_name n) (list_all is_name names) h in
+    All-cons (λ m. IsTrue (is_name m)) n names parts.0 (named-all names parts.1)
 
 -- ---- names among others
 

@@ -1,7 +1,6 @@
 mod TestRows
 mod Rows
 mod Fitting
-mod NewSignals
 mod CoveredFlats
 mod FreshNames
 pub mod Exports

@@ -90,19 +90,23 @@ pub points-Sustain : (before : List Point) (at : Span) (s : SigId) → node_poin
 unfolding node_points stmt_points part_points rest_points more_points
 points-Sustain before at s = refl
 
-pub points-Await : (before : List Point) (at : Span) (d : FlatDelay) (q : Option (Box FlatStmt Global)) → node_points before at (forms.Await d q) ≡ rest_points kinds.Do (more_points kinds.Await at before) q
+pub points-Await : (before : List Point) (at : Span) (d : FlatDelay) (q : Option (Box FlatStmt Global)) → node_points before at (forms.Await d q)
+    ≡ rest_points kinds.Do (more_points kinds.Await at before) q
 unfolding node_points stmt_points part_points rest_points more_points
 points-Await before at d q = refl
 
-pub points-AwaitCase : (before : List Point) (at : Span) (v : Vec FlatCase Global) → node_points before at (forms.AwaitCase v) ≡ choice_points at (more_points kinds.Await at before) v.items
+pub points-AwaitCase : (before : List Point) (at : Span) (v : Vec FlatCase Global) → node_points before at (forms.AwaitCase v)
+    ≡ choice_points at (more_points kinds.Await at before) v.items
 unfolding node_points stmt_points part_points rest_points more_points
 points-AwaitCase before at v = ap (form_points before at) (flat_form-AwaitCase v) ∙ choice-points at (more_points kinds.Await at before) v.items
 
-pub points-Present : (before : List Point) (at : Span) (e : FlatExpr) (p q : Option (Box FlatStmt Global)) → node_points before at (forms.Present e p q) ≡ part_points kinds.Else at (part_points kinds.Then at before p) q
+pub points-Present : (before : List Point) (at : Span) (e : FlatExpr) (p q : Option (Box FlatStmt Global)) → node_points before at (forms.Present e p q)
+    ≡ part_points kinds.Else at (part_points kinds.Then at before p) q
 unfolding node_points stmt_points part_points rest_points more_points
 points-Present before at e p q = refl
 
-pub points-PresentCase : (before : List Point) (at : Span) (v : Vec FlatCase Global) (q : Option (Box FlatStmt Global)) → node_points before at (forms.PresentCase v q) ≡ part_points kinds.Else at (choice_points at before v.items) q
+pub points-PresentCase : (before : List Point) (at : Span) (v : Vec FlatCase Global) (q : Option (Box FlatStmt Global))
+    → node_points before at (forms.PresentCase v q) ≡ part_points kinds.Else at (choice_points at before v.items) q
 unfolding node_points stmt_points part_points rest_points more_points
 points-PresentCase before at v q =
     ap (form_points before at) (flat_form-PresentCase v q) ∙ ap (λ ps. part_points kinds.Else at ps q) (choice-points at before v.items)
@@ -111,39 +115,48 @@ pub points-Loop : (before : List Point) (at : Span) (p : Box FlatStmt Global) �
 unfolding node_points stmt_points part_points rest_points more_points
 points-Loop before at p = refl
 
-pub points-LoopEach : (before : List Point) (at : Span) (p : Box FlatStmt Global) (d : FlatDelay) → node_points before at (forms.LoopEach p d) ≡ stmt_points before p.value
+pub points-LoopEach : (before : List Point) (at : Span) (p : Box FlatStmt Global) (d : FlatDelay) → node_points before at (forms.LoopEach p d)
+    ≡ stmt_points before p.value
 unfolding node_points stmt_points part_points rest_points more_points
 points-LoopEach before at p d = refl
 
-pub points-Every : (before : List Point) (at : Span) (d : FlatDelay) (p : Box FlatStmt Global) → node_points before at (forms.Every d p) ≡ stmt_points before p.value
+pub points-Every : (before : List Point) (at : Span) (d : FlatDelay) (p : Box FlatStmt Global) → node_points before at (forms.Every d p)
+    ≡ stmt_points before p.value
 unfolding node_points stmt_points part_points rest_points more_points
 points-Every before at d p = refl
 
-pub points-Repeat : (before : List Point) (at : Span) (n : ℕ) (span : Span) (p : Box FlatStmt Global) → node_points before at (forms.Repeat n span p) ≡ stmt_points before p.value
+pub points-Repeat : (before : List Point) (at : Span) (n : ℕ) (span : Span) (p : Box FlatStmt Global) → node_points before at (forms.Repeat n span p)
+    ≡ stmt_points before p.value
 unfolding node_points stmt_points part_points rest_points more_points
 points-Repeat before at n span p = refl
 
-pub points-Abort : (before : List Point) (at : Span) (p : Box FlatStmt Global) (d : FlatDelay) (q : Option (Box FlatStmt Global)) → node_points before at (forms.Abort p d q) ≡ rest_points kinds.Do (stmt_points before p.value) q
+pub points-Abort : (before : List Point) (at : Span) (p : Box FlatStmt Global) (d : FlatDelay) (q : Option (Box FlatStmt Global))
+    → node_points before at (forms.Abort p d q) ≡ rest_points kinds.Do (stmt_points before p.value) q
 unfolding node_points stmt_points part_points rest_points more_points
 points-Abort before at p d q = refl
 
-pub points-AbortCase : (before : List Point) (at : Span) (p : Box FlatStmt Global) (v : Vec FlatCase Global) → node_points before at (forms.AbortCase p v) ≡ choice_points at (stmt_points before p.value) v.items
+pub points-AbortCase : (before : List Point) (at : Span) (p : Box FlatStmt Global) (v : Vec FlatCase Global) → node_points before at (forms.AbortCase p v)
+    ≡ choice_points at (stmt_points before p.value) v.items
 unfolding node_points stmt_points part_points rest_points more_points
 points-AbortCase before at p v = ap (form_points before at) (flat_form-AbortCase p v) ∙ choice-points at (stmt_points before p.value) v.items
 
-pub points-WeakAbort : (before : List Point) (at : Span) (p : Box FlatStmt Global) (d : FlatDelay) → node_points before at (forms.WeakAbort p d) ≡ stmt_points before p.value
+pub points-WeakAbort : (before : List Point) (at : Span) (p : Box FlatStmt Global) (d : FlatDelay) → node_points before at (forms.WeakAbort p d)
+    ≡ stmt_points before p.value
 unfolding node_points stmt_points part_points rest_points more_points
 points-WeakAbort before at p d = refl
 
-pub points-Suspend : (before : List Point) (at : Span) (p : Box FlatStmt Global) (d : FlatDelay) → node_points before at (forms.Suspend p d) ≡ stmt_points before p.value
+pub points-Suspend : (before : List Point) (at : Span) (p : Box FlatStmt Global) (d : FlatDelay) → node_points before at (forms.Suspend p d)
+    ≡ stmt_points before p.value
 unfolding node_points stmt_points part_points rest_points more_points
 points-Suspend before at p d = refl
 
-pub points-Trap : (before : List Point) (at : Span) (p : Box FlatStmt Global) (q : Option (Box FlatStmt Global)) → node_points before at (forms.Trap p q) ≡ rest_points kinds.Handle (stmt_points before p.value) q
+pub points-Trap : (before : List Point) (at : Span) (p : Box FlatStmt Global) (q : Option (Box FlatStmt Global)) → node_points before at (forms.Trap p q)
+    ≡ rest_points kinds.Handle (stmt_points before p.value) q
 unfolding node_points stmt_points part_points rest_points more_points
 points-Trap before at p q = refl
 
-pub points-Signal : (before : List Point) (at : Span) (v : Vec SigId Global) (p : Box FlatStmt Global) → node_points before at (forms.Signal v p) ≡ stmt_points before p.value
+pub points-Signal : (before : List Point) (at : Span) (v : Vec SigId Global) (p : Box FlatStmt Global) → node_points before at (forms.Signal v p)
+    ≡ stmt_points before p.value
 unfolding node_points stmt_points part_points rest_points more_points
 points-Signal before at v p = refl
 
@@ -209,7 +222,8 @@ pub covers-Sustain : (w : Portion) (before : List Point) (at : Span) (s : SigId)
 unfolding node_covered stmt_covered part_covered rest_covered with_mark signal_moved test_moved delay_moved more_points part_points stmt_points
 covers-Sustain w before at s = refl
 
-pub covers-Await : (w : Portion) (before : List Point) (at : Span) (d : FlatDelay) (q : Option (Box FlatStmt Global)) → node_covered w before at (forms.Await d q)
+pub covers-Await : (w : Portion) (before : List Point) (at : Span) (d : FlatDelay) (q : Option (Box FlatStmt Global))
+    → node_covered w before at (forms.Await d q)
     ≡ with_mark w (length before) at (At at (trees.Await (delay_moved w d) (rest_covered w kinds.Do (more_points kinds.Await at before) q)))
 unfolding node_covered stmt_covered part_covered rest_covered with_mark signal_moved test_moved delay_moved more_points part_points stmt_points
 covers-Await w before at d q = refl
@@ -218,19 +232,23 @@ pub covers-AwaitCase : (w : Portion) (before : List Point) (at : Span) (v : Vec 
     ≡ with_mark w (length before) at (At at (trees.AwaitCase (cases (choices_covered w at (more_points kinds.Await at before) v.items))))
 unfolding node_covered stmt_covered part_covered rest_covered with_mark signal_moved test_moved delay_moved more_points part_points stmt_points
 covers-AwaitCase w before at v =
-    ap (defined.covered_form (portion_of w) before at) (flat_form-AwaitCase v) ∙ ap (λ l. with_mark w (length before) at (At at (trees.AwaitCase l))) (choices-covered w at (more_points kinds.Await at before) v.items)
+    ap (defined.covered_form (portion_of w) before at) (flat_form-AwaitCase v) ∙ ap (λ l. with_mark w (length before) at (At at (trees.AwaitCase l)))
+    (choices-covered w at (more_points kinds.Await at before) v.items)
 
-pub covers-Present : (w : Portion) (before : List Point) (at : Span) (e : FlatExpr) (p q : Option (Box FlatStmt Global)) → node_covered w before at (forms.Present e p q)
+pub covers-Present : (w : Portion) (before : List Point) (at : Span) (e : FlatExpr) (p q : Option (Box FlatStmt Global))
+    → node_covered w before at (forms.Present e p q)
     ≡ At at (trees.Present (test_moved w e) (part_covered w kinds.Then at before p) (part_covered w kinds.Else at (part_points kinds.Then at before p) q))
 unfolding node_covered stmt_covered part_covered rest_covered with_mark signal_moved test_moved delay_moved more_points part_points stmt_points
 covers-Present w before at e p q = refl
 
-pub covers-PresentCase : (w : Portion) (before : List Point) (at : Span) (v : Vec FlatCase Global) (q : Option (Box FlatStmt Global)) → node_covered w before at (forms.PresentCase v q)
+pub covers-PresentCase : (w : Portion) (before : List Point) (at : Span) (v : Vec FlatCase Global) (q : Option (Box FlatStmt Global))
+    → node_covered w before at (forms.PresentCase v q)
     ≡ At at (trees.PresentCase (cases (choices_covered w at before v.items)) (part_covered w kinds.Else at (choice_points at before v.items) q))
 unfolding node_covered stmt_covered part_covered rest_covered with_mark signal_moved test_moved delay_moved more_points part_points stmt_points
 covers-PresentCase w before at v q =
     ap (defined.covered_form (portion_of w) before at) (flat_form-PresentCase v q)
-    ∙ ap (λ l. At at (trees.PresentCase l (part_covered w kinds.Else at (cases_points at before (cases (map flat_case_of v.items))) q))) (choices-covered w at before v.items)
+    ∙ ap (λ l. At at (trees.PresentCase l (part_covered w kinds.Else at (cases_points at before (cases (map flat_case_of v.items))) q)))
+    (choices-covered w at before v.items)
     ∙ ap (λ ps. At at (trees.PresentCase (cases (choices_covered w at before v.items)) (part_covered w kinds.Else at ps q))) (choice-points at before v.items)
 
 pub covers-Loop : (w : Portion) (before : List Point) (at : Span) (p : Box FlatStmt Global) → node_covered w before at (forms.Loop p)
@@ -238,7 +256,8 @@ pub covers-Loop : (w : Portion) (before : List Point) (at : Span) (p : Box FlatS
 unfolding node_covered stmt_covered part_covered rest_covered with_mark signal_moved test_moved delay_moved more_points part_points stmt_points
 covers-Loop w before at p = refl
 
-pub covers-LoopEach : (w : Portion) (before : List Point) (at : Span) (p : Box FlatStmt Global) (d : FlatDelay) → node_covered w before at (forms.LoopEach p d)
+pub covers-LoopEach : (w : Portion) (before : List Point) (at : Span) (p : Box FlatStmt Global) (d : FlatDelay)
+    → node_covered w before at (forms.LoopEach p d)
     ≡ At at (trees.LoopEach (stmt_covered w before p.value) (delay_moved w d))
 unfolding node_covered stmt_covered part_covered rest_covered with_mark signal_moved test_moved delay_moved more_points part_points stmt_points
 covers-LoopEach w before at p d = refl
@@ -248,23 +267,28 @@ pub covers-Every : (w : Portion) (before : List Point) (at : Span) (d : FlatDela
 unfolding node_covered stmt_covered part_covered rest_covered with_mark signal_moved test_moved delay_moved more_points part_points stmt_points
 covers-Every w before at d p = refl
 
-pub covers-Repeat : (w : Portion) (before : List Point) (at : Span) (n : ℕ) (span : Span) (p : Box FlatStmt Global) → node_covered w before at (forms.Repeat n span p)
+pub covers-Repeat : (w : Portion) (before : List Point) (at : Span) (n : ℕ) (span : Span) (p : Box FlatStmt Global)
+    → node_covered w before at (forms.Repeat n span p)
     ≡ At at (trees.Repeat n span (stmt_covered w before p.value))
 unfolding node_covered stmt_covered part_covered rest_covered with_mark signal_moved test_moved delay_moved more_points part_points stmt_points
 covers-Repeat w before at n span p = refl
 
-pub covers-Abort : (w : Portion) (before : List Point) (at : Span) (p : Box FlatStmt Global) (d : FlatDelay) (q : Option (Box FlatStmt Global)) → node_covered w before at (forms.Abort p d q)
+pub covers-Abort : (w : Portion) (before : List Point) (at : Span) (p : Box FlatStmt Global) (d : FlatDelay) (q : Option (Box FlatStmt Global))
+    → node_covered w before at (forms.Abort p d q)
     ≡ At at (trees.Abort (stmt_covered w before p.value) (delay_moved w d) (rest_covered w kinds.Do (stmt_points before p.value) q))
 unfolding node_covered stmt_covered part_covered rest_covered with_mark signal_moved test_moved delay_moved more_points part_points stmt_points
 covers-Abort w before at p d q = refl
 
-pub covers-AbortCase : (w : Portion) (before : List Point) (at : Span) (p : Box FlatStmt Global) (v : Vec FlatCase Global) → node_covered w before at (forms.AbortCase p v)
+pub covers-AbortCase : (w : Portion) (before : List Point) (at : Span) (p : Box FlatStmt Global) (v : Vec FlatCase Global)
+    → node_covered w before at (forms.AbortCase p v)
     ≡ At at (trees.AbortCase (stmt_covered w before p.value) (cases (choices_covered w at (stmt_points before p.value) v.items)))
 unfolding node_covered stmt_covered part_covered rest_covered with_mark signal_moved test_moved delay_moved more_points part_points stmt_points
 covers-AbortCase w before at p v =
-    ap (defined.covered_form (portion_of w) before at) (flat_form-AbortCase p v) ∙ ap (λ l. At at (trees.AbortCase (stmt_covered w before p.value) l)) (choices-covered w at (stmt_points before p.value) v.items)
+    ap (defined.covered_form (portion_of w) before at) (flat_form-AbortCase p v)
+    ∙ ap (λ l. At at (trees.AbortCase (stmt_covered w before p.value) l)) (choices-covered w at (stmt_points before p.value) v.items)
 
-pub covers-WeakAbort : (w : Portion) (before : List Point) (at : Span) (p : Box FlatStmt Global) (d : FlatDelay) → node_covered w before at (forms.WeakAbort p d)
+pub covers-WeakAbort : (w : Portion) (before : List Point) (at : Span) (p : Box FlatStmt Global) (d : FlatDelay)
+    → node_covered w before at (forms.WeakAbort p d)
     ≡ At at (trees.WeakAbort (stmt_covered w before p.value) (delay_moved w d))
 unfolding node_covered stmt_covered part_covered rest_covered with_mark signal_moved test_moved delay_moved more_points part_points stmt_points
 covers-WeakAbort w before at p d = refl
@@ -274,12 +298,14 @@ pub covers-Suspend : (w : Portion) (before : List Point) (at : Span) (p : Box Fl
 unfolding node_covered stmt_covered part_covered rest_covered with_mark signal_moved test_moved delay_moved more_points part_points stmt_points
 covers-Suspend w before at p d = refl
 
-pub covers-Trap : (w : Portion) (before : List Point) (at : Span) (p : Box FlatStmt Global) (q : Option (Box FlatStmt Global)) → node_covered w before at (forms.Trap p q)
+pub covers-Trap : (w : Portion) (before : List Point) (at : Span) (p : Box FlatStmt Global) (q : Option (Box FlatStmt Global))
+    → node_covered w before at (forms.Trap p q)
     ≡ At at (trees.Trap (stmt_covered w before p.value) (rest_covered w kinds.Handle (stmt_points before p.value) q))
 unfolding node_covered stmt_covered part_covered rest_covered with_mark signal_moved test_moved delay_moved more_points part_points stmt_points
 covers-Trap w before at p q = refl
 
-pub covers-Signal : (w : Portion) (before : List Point) (at : Span) (v : Vec SigId Global) (p : Box FlatStmt Global) → node_covered w before at (forms.Signal v p)
+pub covers-Signal : (w : Portion) (before : List Point) (at : Span) (v : Vec SigId Global) (p : Box FlatStmt Global)
+    → node_covered w before at (forms.Signal v p)
     ≡ At at (trees.Signal (signals_moved w v.items) (stmt_covered w before p.value))
 unfolding node_covered stmt_covered part_covered rest_covered with_mark signal_moved test_moved delay_moved more_points part_points stmt_points
 covers-Signal w before at v p = ap (λ l. At at (trees.Signal l (stmt_covered w before p.value))) (signals-moved w v.items)
@@ -301,7 +327,8 @@ pub covers-part_missing : (w : Portion) (kind : PointKind) (at : Span) (before :
 unfolding part_covered empty_covered
 covers-part_missing w kind at before = refl
 
-pub covers-part_written : (w : Portion) (kind : PointKind) (at : Span) (before : List Point) (p : Box FlatStmt Global) → part_covered w kind at before (Some p)
+pub covers-part_written : (w : Portion) (kind : PointKind) (at : Span) (before : List Point) (p : Box FlatStmt Global)
+    → part_covered w kind at before (Some p)
     ≡ Written (with_mark w (length before) p.value.span (stmt_covered w (more_points kind p.value.span before) p.value))
 unfolding part_covered with_mark stmt_covered more_points
 covers-part_written w kind at before p = refl
@@ -316,7 +343,7 @@ unfolding rest_covered with_mark stmt_covered more_points
 covers-rest_written w kind before p = refl
 
 pub empty-in : (w : Portion) (number : ℕ) (at : Span) → in_portion w number ≡ true →
-    empty_covered w number at ≡ Written (defined.mark (portion_of w) number at)
+    empty_covered w number at ≡ Written (defined.emission (portion_of w) number at)
 unfolding empty_covered in_portion
 empty-in w number at h = rw h refl
 
@@ -325,7 +352,7 @@ unfolding empty_covered in_portion
 empty-out w number at h = rw h refl
 
 pub mark-in : (w : Portion) (number : ℕ) (at : Span) (p : Stmt) → in_portion w number ≡ true →
-    with_mark w number at p ≡ At at (trees.Seq (trees.MoreStmts (defined.mark (portion_of w) number at) (trees.MoreStmts p trees.NoStmts)))
+    with_mark w number at p ≡ At at (trees.Seq (trees.MoreStmts (defined.emission (portion_of w) number at) (trees.MoreStmts p trees.NoStmts)))
 unfolding with_mark in_portion
 mark-in w number at p h = rw h refl
 
@@ -432,30 +459,31 @@ points-from before p none = ap (λ b. points_after b (flat_stmt_of p)) none
 
 -- ---- cases
 
-none-some : (p : FlatStmt) → None ≡ Some p → ⊥
-none-some p h = cc
+-- what is held, in a row of what it is used for
+held-ap : {Y : Type 0} (f : FlatStmt → Y) (p q : FlatStmt) → Some p ≡ Some q → f p ≡ f q
+held-ap f p q h = let e : p ≡ q = cc in ap f e
 
-some-same : (p q : FlatStmt) → Some p ≡ Some q → p ≡ q
-some-same p q h = cc
+none-held : {X : Type 0} (x : X) → None ≡ Some x → ⊥
+none-held x h = cc
 
 pub points-case_missing : (at : Span) (before : List Point) (c : FlatCase) → (out-FlatCase c).body ≡ None →
     case_points at before c ≡ more_points kinds.Case at before
 unfolding case_points more_points out-FlatCase denote.Hole.Carrier.out
 points-case_missing at before (FlatCase' event FlatCase-body-None') h = refl
-points-case_missing at before (FlatCase' event (FlatCase-body-Some' span form)) h = absurd (none-some (record { span = span; form = form }) (sym h))
+points-case_missing at before (FlatCase' event (FlatCase-body-Some' span form)) h = absurd (none-held (record { span = span; form = form }) (sym h))
 
 pub points-case_written : (at : Span) (before : List Point) (c : FlatCase) (p : FlatStmt) → (out-FlatCase c).body ≡ Some p →
     case_points at before c ≡ stmt_points (more_points kinds.Case p.span before) p
 unfolding case_points more_points stmt_points out-FlatCase denote.Hole.Carrier.out
-points-case_written at before (FlatCase' event FlatCase-body-None') p h = absurd (none-some p h)
+points-case_written at before (FlatCase' event FlatCase-body-None') p h = absurd (none-held p h)
 points-case_written at before (FlatCase' event (FlatCase-body-Some' span form)) p h =
-    ap (λ q. stmt_points (more_points kinds.Case q.span before) q) (some-same (record { span = span; form = form }) p h)
+    held-ap (λ q. stmt_points (more_points kinds.Case q.span before) q) (record { span = span; form = form }) p h
 
 pub covers-case_missing : (w : Portion) (at : Span) (before : List Point) (c : FlatCase) → (out-FlatCase c).body ≡ None →
     case_covered w at before c ≡ (test_moved w (out-FlatCase c).event, empty_covered w (length before) at)
 unfolding case_covered empty_covered test_moved out-FlatCase denote.Hole.Carrier.out
 covers-case_missing w at before (FlatCase' event FlatCase-body-None') h = refl
-covers-case_missing w at before (FlatCase' event (FlatCase-body-Some' span form)) h = absurd (none-some (record { span = span; form = form }) (sym h))
+covers-case_missing w at before (FlatCase' event (FlatCase-body-Some' span form)) h = absurd (none-held (record { span = span; form = form }) (sym h))
 
 pub covers-case_written : (w : Portion) (at : Span) (before : List Point) (c : FlatCase) (p : FlatStmt) → (out-FlatCase c).body ≡ Some p →
     case_covered w at before c ≡ (
@@ -463,10 +491,10 @@ pub covers-case_written : (w : Portion) (at : Span) (before : List Point) (c : F
       Written (with_mark w (length before) p.span (stmt_covered w (more_points kinds.Case p.span before) p)),
     )
 unfolding case_covered with_mark more_points stmt_covered test_moved out-FlatCase denote.Hole.Carrier.out
-covers-case_written w at before (FlatCase' event FlatCase-body-None') p h = absurd (none-some p h)
+covers-case_written w at before (FlatCase' event FlatCase-body-None') p h = absurd (none-held p h)
 covers-case_written w at before (FlatCase' event (FlatCase-body-Some' span form)) p h =
-    ap (λ q. (test_moved w event, Written (with_mark w (length before) q.span (stmt_covered w (more_points kinds.Case q.span before) q))))
-    (some-same (record { span = span; form = form }) p h)
+    held-ap (λ q. (test_moved w event, Written (with_mark w (length before) q.span (stmt_covered w (more_points kinds.Case q.span before) q))))
+    (record { span = span; form = form }) p h
 
 pub ruleset case_rows = (points-case_missing, points-case_written, covers-case_missing, covers-case_written)
 

@@ -1,10 +1,10 @@
 -- To believe: a program that shows which of its points are reached. It is a flat program with some more outgoing
--- signals, one for each point of a portion. The signal of a point is emitted where the point is, in front of what starts
--- there, and nowhere else. Nothing tests these signals. Else the program is the given one.
+-- signals, one for each point of a portion. The signal of a point is emitted where the point is, in front of what
+-- starts there, and nowhere else. Nothing tests these signals. Else the program is the given one.
 --
 -- The number of a point is how many points are before it.
-use Rattle.std.specs.Prelude.{ℕ, ◌+◌, ◌-◌, ◌^◌, Bool, ◌&&◌, nat_le, nat_lt, min, if◌then◌else◌, List, [], ◌++◌, map, length, take}
-use Rattle.std.specs.Prelude.{drop}
+use Rattle.std.specs.Prelude.{ℕ, ◌+◌, ◌-◌, ◌^◌, Bool, ◌&&◌, nat_le, nat_lt, min, if◌then◌else◌, List, [], ◌++◌, map}
+use Rattle.std.specs.Prelude.{drop, length, take}
 use Rattle.base_types.specs.declared.place.Span.{Span}
 use Rattle.est_ast.specs.FlatTrees.{Expr, Tick, Sig, Not, And, Or, Exprs, NoExprs, MoreExprs, Delay}
 use Rattle.est_ast.specs.FlatTrees.{Plain, Immediate, Count, Stmt, At, Form, Nothing, Pause, Halt, Emit, Sustain, Await}
@@ -14,7 +14,7 @@ use Rattle.est_ast.specs.FlatTrees.{NoStmts, MoreStmts, Cases, NoCases, MoreCase
 use Rattle.est_cover.specs.declared.points.Point.{Point}
 use Rattle.est_cover.specs.declared.points.PointKind.{PointKind}
 use Rattle.est_cover.specs.declared.points.PointKind.TheVariants as kinds
-use Rattle.est_cover.specs.Points.{span_of, with_point, points_after, branch_points, cases_points}
+use Rattle.est_cover.specs.Points.{stmt_place, with_point, points_after, branch_points, cases_points}
 
 -- Points that follow one another, by the number of the first and how many they are, in a program that has this many
 -- signals that the environment sees. Their signals come right after those.
@@ -49,12 +49,13 @@ abbrev pub is_in : Portion → ℕ → Bool
 is_in w number = nat_le w.first number && nat_lt number (w.first + w.count)
 
 -- the emission of the signal of the point with this number
-abbrev pub mark : Portion → ℕ → Span → Stmt
-mark w number at = At at (Emit (w.seen + (number - w.first)))
+abbrev pub emission : Portion → ℕ → Span → Stmt
+emission w number at = At at (Emit (w.seen + (number - w.first)))
 
 -- a statement that starts at the point with this number, with the emission in front
 abbrev pub marked : Portion → ℕ → Span → Stmt → Stmt
-marked w number at p = if is_in w number then At at (Seq (MoreStmts (mark w number at) (MoreStmts p NoStmts))) else p
+marked w number at p =
+    if is_in w number then At at (Seq (MoreStmts (emission w number at) (MoreStmts p NoStmts))) else p
 
 -- A statement, where these are the points before it.
 abbrev mutual
@@ -94,14 +95,15 @@ abbrev mutual
 
   -- a branch of a test: where it is not written, the emission alone
   pub covered_branch : Portion → PointKind → Span → List Point → Part → Part
-  covered_branch w kind at before Missing = if is_in w (length before) then Written (mark w (length before) at) else Missing
+  covered_branch w kind at before Missing =
+      if is_in w (length before) then Written (emission w (length before) at) else Missing
   covered_branch w kind at before (Written p) =
-      Written (marked w (length before) (span_of p) (covered_stmt w (with_point kind (span_of p) before) p))
+      Written (marked w (length before) (stmt_place p) (covered_stmt w (with_point kind (stmt_place p) before) p))
 
   pub covered_handler : Portion → PointKind → List Point → Part → Part
   covered_handler w kind before Missing = Missing
   covered_handler w kind before (Written p) =
-      Written (marked w (length before) (span_of p) (covered_stmt w (with_point kind (span_of p) before) p))
+      Written (marked w (length before) (stmt_place p) (covered_stmt w (with_point kind (stmt_place p) before) p))
 
   pub covered_stmts : Portion → List Point → Stmts → Stmts
   covered_stmts w before NoStmts = NoStmts
@@ -115,18 +117,18 @@ abbrev mutual
       (covered_cases w at (branch_points kinds.Case at before body) others)
 
 -- how many signals the environment sees of the given program
-abbrev pub seen_of : Flat → ℕ
-seen_of flat = flat.inputs + (flat.both + flat.outputs)
+abbrev pub visible_count : Flat → ℕ
+visible_count flat = flat.inputs + (flat.both + flat.outputs)
 
 -- The program with new outgoing signals of these names, one for each of as many points, from the one with this number
 -- on.
 abbrev pub covered : Flat → (first : ℕ) → (names : List (List ℕ)) → Flat
 covered flat first names = record {
   name = flat.name;
-  signals = take (seen_of flat) flat.signals ++ (names ++ drop (seen_of flat) flat.signals);
+  signals = take (visible_count flat) flat.signals ++ (names ++ drop (visible_count flat) flat.signals);
   inputs = flat.inputs;
   both = flat.both;
   outputs = flat.outputs + length names;
   relations = flat.relations;
-  body = covered_stmt (record { seen = seen_of flat; first = first; count = length names }) [] flat.body;
+  body = covered_stmt (record { seen = visible_count flat; first = first; count = length names }) [] flat.body;
 }

@@ -1,4 +1,4 @@
--- Inner: what a covered program has besides its body.
+-- Inner: what a covered program has, except for its body.
 use Rattle.std.specs.Prelude.{◌≡◌, ℕ, List, map}
 use Rattle.base_types.specs.Relations.{relation_of}
 use Rattle.est_ast.specs.FlatTrees.{Flat}

@@ -1,5 +1,5 @@
--- Inner: points and covered statements at the nodes of the code. The definitions are closed, so that a proof sees one row
--- at a time.
+-- Inner: points and covered statements at the nodes of the code. The definitions are closed, so that a proof sees one
+-- row at a time.
 use Rattle.std.specs.Prelude.{ℕ, Bool, if◌then◌else◌, List, [], ◌∷◌, map, Option}
 use Rattle.std.specs.declared.alloc.Global.{Global}
 use Rattle.std.specs.declared.boxed.Box.{Box}
@@ -11,8 +11,8 @@ use Rattle.est_ast.specs.declared.flat.FlatExpr.{FlatExpr}
 use Rattle.est_ast.specs.declared.flat.FlatForm.{FlatForm}
 use Rattle.est_ast.specs.declared.flat.FlatStmt.{FlatStmt}
 use Rattle.est_ast.specs.FlatTrees.{Expr, Delay, Stmt, Part, Missing, Written}
-use Rattle.est_ast.specs.FlatViews.{flat_expr_of, flat_delay_of, flat_form_of, flat_stmt_of, flat_part_of, flat_event_of}
-use Rattle.est_ast.specs.FlatViews.{flat_body_of}
+use Rattle.est_ast.specs.FlatViews.{flat_expr_of, flat_delay_of, flat_form_of, flat_stmt_of, flat_part_of}
+use Rattle.est_ast.specs.FlatViews.{flat_body_of, flat_event_of}
 use Rattle.est_cover.specs.declared.points.Point.{Point}
 use Rattle.est_cover.specs.declared.points.PointKind.{PointKind}
 use Rattle.est_cover.specs.declared.points.PointKind.TheVariants as kinds
@@ -72,7 +72,7 @@ with_mark w number at p = defined.marked (portion_of w) number at p
 -- a branch that is not written
 unfoldable pub empty_covered : Portion → ℕ → Span → Part
 empty_covered w number at =
-    if defined.is_in (portion_of w) number then Written (defined.mark (portion_of w) number at) else Missing
+    if defined.is_in (portion_of w) number then Written (defined.emission (portion_of w) number at) else Missing
 
 unfoldable pub stmt_covered : Portion → List Point → FlatStmt → Stmt
 stmt_covered w before p = defined.covered_stmt (portion_of w) before (flat_stmt_of p)

@@ -1,5 +1,5 @@
--- To believe: the points of a flat program, in the order in which they are written. A point is the start of an emission,
--- of a pause, of a wait or of a branch. A module that is run several times has its points once for each run.
+-- To believe: the points of a flat program, in the order in which they are written. A point is the start of an
+-- emission, of a pause, of a wait or of a branch. A module that is run several times has its points once for each run.
 use Rattle.std.specs.Prelude.{List, [], ◌∷◌, ◌++◌}
 use Rattle.base_types.specs.declared.place.Span.{Span}
 use Rattle.est_ast.specs.FlatTrees.{Stmt, At, Form, Nothing, Pause, Halt, Emit, Sustain, Await, AwaitCase, Present}
@@ -10,13 +10,13 @@ use Rattle.est_cover.specs.declared.points.Point.{Point}
 use Rattle.est_cover.specs.declared.points.PointKind.{PointKind}
 use Rattle.est_cover.specs.declared.points.PointKind.TheVariants as kinds
 
-abbrev pub span_of : Stmt → Span
-span_of (At span form) = span
+abbrev pub stmt_place : Stmt → Span
+stmt_place (At span form) = span
 
 -- the place of a branch: that of its statement, or that of the whole where the branch is not written
 abbrev pub branch_place : Span → Part → Span
 branch_place at Missing = at
-branch_place at (Written p) = span_of p
+branch_place at (Written p) = stmt_place p
 
 -- one more point
 abbrev pub with_point : PointKind → Span → List Point → List Point
@@ -54,12 +54,12 @@ abbrev mutual
   -- a branch of a test: it has a point where it is not written, too
   pub branch_points : PointKind → Span → List Point → Part → List Point
   branch_points kind at before Missing = with_point kind at before
-  branch_points kind at before (Written p) = points_after (with_point kind (span_of p) before) p
+  branch_points kind at before (Written p) = points_after (with_point kind (stmt_place p) before) p
 
   -- what comes after a wait, an abortion or a trap, where it is written
   pub handler_points : PointKind → List Point → Part → List Point
   handler_points kind before Missing = before
-  handler_points kind before (Written p) = points_after (with_point kind (span_of p) before) p
+  handler_points kind before (Written p) = points_after (with_point kind (stmt_place p) before) p
 
   pub stmts_points : List Point → Stmts → List Point
   stmts_points before NoStmts = before

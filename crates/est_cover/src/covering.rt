@@ -1,5 +1,5 @@
-// Covered statements: the walk that adds the points of a statement to a list, and emits the signal of each point that is
-// in a portion.
+// Covered statements: the walk that adds the points of a statement to a list, and emits the signal of each point that
+// is in a portion.
 
 ghost use Rattle.std.specs.Prelude.{◌≡◌, IfOk, OnOk, length, map};
 ghost use Rattle.est_ast.specs.FlatTrees.{At as flat_at, Missing, Written};

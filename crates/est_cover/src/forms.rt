@@ -81,7 +81,8 @@ pub(crate) fn cover_present(
 ) -> Result<FlatStmt, NoMemory>
     ensures covers { IfOk result (λ p. flat_stmt_of p
         ≡ node_covered portion points.old.items at (Present test.now yes.now no.now)) }
-    ensures points { OnOk result (points.new.items ≡ node_points points.old.items at (Present test.now yes.now no.now)) }
+    ensures points { OnOk result (points.new.items
+        ≡ node_points points.old.items at (Present test.now yes.now no.now)) }
 {
     let test = moved_test(alloc, portion, test)?;
     let yes = branch(alloc, portion, points, PointKind::Then, at, yes)?;
@@ -219,7 +220,8 @@ pub(crate) fn cover_abort(
 ) -> Result<FlatStmt, NoMemory>
     ensures covers { IfOk result (λ p. flat_stmt_of p
         ≡ node_covered portion points.old.items at (Abort body.now delay.now rest.now)) }
-    ensures points { OnOk result (points.new.items ≡ node_points points.old.items at (Abort body.now delay.now rest.now)) }
+    ensures points { OnOk result (points.new.items
+        ≡ node_points points.old.items at (Abort body.now delay.now rest.now)) }
 {
     let body = inside(alloc, portion, points, body)?;
     let delay = moved_delay(alloc, portion, delay)?;

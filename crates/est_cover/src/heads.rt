@@ -1,4 +1,4 @@
-// What a covered program has besides its body.
+// What a covered program has, except for its body.
 
 ghost use Rattle.std.specs.Prelude.{◌≤◌, length};
 

@@ -3,7 +3,7 @@
 ghost use Rattle.std.specs.Prelude.{◌≡◌, ◌+◌, ◌≤◌, IfOk, IsTrue};
 ghost use Rattle.est_ast.specs.FlatTrees.{At, MoreStmts, NoStmts, Seq};
 ghost use Rattle.est_ast.specs.FlatViews.{flat_stmt_of};
-ghost use Rattle.est_cover.specs.Covered.{mark};
+ghost use Rattle.est_cover.specs.Covered.{emission};
 ghost use Rattle.est_cover.specs.Nodes.{in_portion, signal_moved, with_mark};
 ghost use Rattle.est_cover.specs.Portions.{portion_of};
 
@@ -36,7 +36,7 @@ pub(crate) fn moved(portion: Portion, signal: SigId) -> SigId
 #[tactic(auto, using(crate::proofs::Rows::in_rows))]
 pub(crate) fn mark(portion: Portion, number: usize, at: Span) -> FlatStmt
     requires { IsTrue (in_portion portion number) }
-    ensures { flat_stmt_of result ≡ mark (portion_of portion) number at }
+    ensures { flat_stmt_of result ≡ emission (portion_of portion) number at }
 {
     let place = (number - portion.first) as u32;
     FlatStmt {

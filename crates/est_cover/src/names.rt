@@ -1,26 +1,27 @@
 // Names of new signals.
 
-ghost use Rattle.std.specs.Prelude.{◌≡◌, ◌+◌, ◌≤◌, ◌∷◌, All, IfOk, IsTrue, OnOk, decimal, length, map, take};
-ghost use Rattle.std.specs.List.{list_any};
+ghost use Rattle.std.specs.Prelude.{◌≡◌, ◌&&◌, ◌+◌, ◌≤◌, ◌∷◌, IfOk, IsTrue, OnOk, decimal, length, map, take};
+ghost use Rattle.std.specs.List.{list_all, list_any};
 ghost use Rattle.base_types.specs.Distinct.{all_differ};
-ghost use Rattle.base_types.specs.Names.{is_name, is_same_name};
+ghost use Rattle.base_types.specs.Names.{is_name, is_name_byte, is_same_name};
 ghost use Rattle.est_ast.specs.FlatPrograms.{IsNamed};
 ghost use Rattle.est_ast.specs.FlatViews.{flat_of};
-ghost use Rattle.est_cover.specs.Covered.{seen_of};
+ghost use Rattle.est_cover.specs.Covered.{visible_count};
 ghost use Rattle.est_cover.specs.NewNames.{AreNew};
 
 use base_types::{NoMemory, SignalInfo, Text, is_letter, is_name_byte, put_number};
 use est_ast::Flat;
 use std::alloc::Global;
 
-/// Names for this many new outgoing signals of a program, or for fewer: names such as `p0` that the environment does not
-/// see in the program. Out of memory is the only error.
+/// Names for this many new outgoing signals of a program, or for fewer: names such as `p0` that the environment does
+/// not see in the program. Out of memory is the only error.
 pub fn new_names(alloc: Global, flat: &Flat, count: usize) -> Result<Vec<SignalInfo>, NoMemory>
-    requires interface { seen_of (flat_of flat.now) ≤ length flat.now.signals.items }
+    requires interface { visible_count (flat_of flat.now) ≤ length flat.now.signals.items }
     requires few { count ≤ 4096 }
-    requires differ { IsTrue (all_differ is_same_name (take (seen_of (flat_of flat.now)) (flat_of flat.now).signals)) }
+    requires differ { IsTrue (all_differ is_same_name
+        (take (visible_count (flat_of flat.now)) (flat_of flat.now).signals)) }
     ensures count { IfOk result (λ v. length v.items ≤ count) }
-    ensures new { IfOk result (λ v. AreNew (take (seen_of (flat_of flat.now)) (flat_of flat.now).signals)
+    ensures new { IfOk result (λ v. AreNew (take (visible_count (flat_of flat.now)) (flat_of flat.now).signals)
         (map (λ s. s.name) v.items)) }
 {
     let seen = (flat.inputs + (flat.both + flat.outputs)) as usize;
@@ -90,19 +91,28 @@ fn is_among(signals: &[SignalInfo], name: &[u8]) -> bool
     false
 }
 
-/// Reports whether the names of a program and of its interface can be written: a letter, followed by letters, digits and
-/// `_`.
+/// Reports whether the names of a program and of its interface can be written: a letter, followed by letters, digits
+/// and `_`.
 pub fn is_named(flat: &Flat) -> bool
-    requires { seen_of (flat_of flat.now) ≤ length flat.now.signals.items }
+    requires { visible_count (flat_of flat.now) ≤ length flat.now.signals.items }
     ensures { IsTrue result → IsNamed (flat_of flat.now) }
 {
     let seen = (flat.inputs + (flat.both + flat.outputs)) as usize;
-    is_written(flat.name.bytes()) && are_written(&flat.signals[..seen])
+    let written = is_written(flat.name.bytes());
+    let all = are_written(&flat.signals[..seen]);
+    both(written, all)
+}
+
+// Whether both are so.
+fn both(left: bool, right: bool) -> bool
+    ensures { result ≡ (left && right) }
+{
+    left && right
 }
 
 // Whether each of these names can be written.
 fn are_written(signals: &[SignalInfo]) -> bool
-    ensures { IsTrue result → All (λ n. IsTrue (is_name n)) (map (λ s. s.name) signals.now) }
+    ensures { result ≡ list_all is_name (map (λ s. s.name) signals.now) }
 {
     for signal in signals {
         if !is_written(signal.name.bytes()) {
@@ -114,12 +124,19 @@ fn are_written(signals: &[SignalInfo]) -> bool
 
 // Whether a name can be written.
 fn is_written(name: &[u8]) -> bool
-    ensures { IsTrue result → IsTrue (is_name name.now) }
+    ensures { result ≡ is_name name.now }
 {
-    if name.is_empty() || !is_letter(name[0]) {
-        return false;
+    match name.split_first() {
+        None => false,
+        Some((first, rest)) => is_letter(*first) && are_name_bytes(rest),
     }
-    for byte in &name[1..] {
+}
+
+// Whether each of these bytes may be in a name.
+fn are_name_bytes(bytes: &[u8]) -> bool
+    ensures { result ≡ list_all is_name_byte bytes.now }
+{
+    for byte in bytes {
         if !is_name_byte(*byte) {
             return false;
         }

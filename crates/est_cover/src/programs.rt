@@ -3,7 +3,7 @@
 ghost use Rattle.std.specs.Prelude.{◌≡◌, ◌+◌, ◌≤◌, ◌++◌, ℕ, [], List, IfOk, OnOk, drop, length, map, take};
 ghost use Rattle.base_types.specs.Relations.{relation_of};
 ghost use Rattle.est_ast.specs.FlatViews.{flat_of, flat_stmt_of};
-ghost use Rattle.est_cover.specs.Covered.{covered, seen_of};
+ghost use Rattle.est_cover.specs.Covered.{covered, visible_count};
 ghost use Rattle.est_ast.specs.FlatTrees.{Flat as PlainFlat};
 ghost use Rattle.est_cover.specs.Heads.{IsHeadOf};
 ghost use Rattle.est_cover.specs.Points.{points_of};
@@ -20,14 +20,15 @@ use std::alloc::Global;
 /// `first` on. Where fewer points are left, the last of the new signals are never emitted.
 /// It takes time and memory in proportion to the program. Out of memory is the only error.
 ///
-/// Example: `emit O` has one point, and its covered program is `emit p0; emit O` with the outgoing signals `O` and `p0`.
+/// Example: `emit O` has one point, and its covered program is `emit p0; emit O` with the outgoing signals `O` and
+/// `p0`.
 pub fn cover_program(
     alloc: Global,
     flat: &Flat,
     first: usize,
     names: &[SignalInfo],
 ) -> Result<Flat, NoMemory>
-    requires interface { seen_of (flat_of flat.now) ≤ length flat.now.signals.items }
+    requires interface { visible_count (flat_of flat.now) ≤ length flat.now.signals.items }
     requires room { length flat.now.signals.items + length names.now ≤ 4096 }
     ensures { IfOk result (λ c. flat_of c ≡ covered (flat_of flat.now) first (map (λ s. s.name) names.now)) }
 {
@@ -52,9 +53,9 @@ pub fn program_points(alloc: Global, flat: &Flat) -> Result<Vec<Point>, NoMemory
     Ok(points)
 }
 
-// What a program with new outgoing signals of these names has besides its body.
+// What a program with new outgoing signals of these names has, except for its body.
 fn head_of(alloc: Global, flat: &Flat, names: &[SignalInfo]) -> Result<Head, NoMemory>
-    requires interface { seen_of (flat_of flat.now) ≤ length flat.now.signals.items }
+    requires interface { visible_count (flat_of flat.now) ≤ length flat.now.signals.items }
     requires room { length flat.now.signals.items + length names.now ≤ 4096 }
     ensures { IfOk result (IsHeadOf (flat_of flat.now) (map (λ s. s.name) names.now)) }
 {
