@@ -1,4 +1,4 @@
--- Contract: the netlists of a graph along a schedule are a netlist and its check.
+-- Inner: the netlists of a graph along a schedule are a netlist and its check.
 use Rattle.std.specs.Prelude.{ℕ, ◌≤◌, List, length}
 use Rattle.est_kernel.specs.Plain.{interface_count, program_of}
 use Rattle.grc_graph.specs.declared.graph.Graph.{Graph}

@@ -1,4 +1,4 @@
--- Contract: what a schedule of a graph's system finds.
+-- Inner: what a schedule of a graph's system finds.
 use Rattle.std.specs.Prelude.{◌≡◌, ℕ, ◌<◌, ◌≤◌, Bool, true, List, [], ◌∷◌, ◌++◌, length, All}
 use Rattle.base_types.specs.declared.indices.NetId.{NetId}
 use Rattle.grc_graph.specs.declared.graph.Graph.{Graph}

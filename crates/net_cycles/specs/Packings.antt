@@ -1,4 +1,4 @@
--- Contract: the netlist around a drawn circuit, and the one around its alarm.
+-- Inner: the netlist around a drawn circuit, and the one around its alarm.
 use Rattle.std.specs.Prelude.{◌≡◌, ℕ, ◌+◌, ◌<◌, ◌≤◌, ◌^◌, true, List, [], ◌∷◌, length, map, codes}
 use Rattle.base_types.specs.declared.indices.NetId.{NetId}
 use Rattle.est_kernel.specs.Plain.{given_names, outgoing_names, program_of}

@@ -1,2 +1,2 @@
 -- What other crates use of these proofs.
-pub use Rattle.net_unroll.proofs.Growth.{grows-both, grows-none, grows-push, grows-value, nets-stay, pushed-new, pushed-number, pushed-old}
+pub use Rattle.net_unroll.proofs.Growth.{grows-both, grows-none, grows-push, grows-value, nets-stay, pushed-new, pushed-number}
