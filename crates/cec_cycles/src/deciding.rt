@@ -9,7 +9,7 @@ ghost use Rattle.net_never.specs.GateClauses.{signed};
 ghost use Rattle.cec_compile.specs.Graphs.{IsBuilt};
 ghost use Rattle.cec_compile.specs.NetMeaning.{NetKeeps};
 ghost use Rattle.cec_prove_sources.specs.NetClaims.{output_net};
-ghost use Rattle.cec_cycles.specs.LoopNets.{NeverAlarms};
+ghost use Rattle.cec_cycles.specs.LoopNets.{IsLoopNet, NeverAlarms};
 
 use crate::laws::{cycle_nets_are_loop_nets, quiet_nets_keep};
 use base_types::NoMemory;
@@ -24,7 +24,6 @@ use net_cycles::{CycleNets, cycle_nets};
 use net_ir::Net;
 use net_opt::optimize;
 use net_search::{Decision, decide};
-use net_unroll::GrowFault;
 use sat_kernel::Literal;
 use std::alloc::Global;
 
@@ -33,12 +32,11 @@ const PASSES: usize = 8;
 
 /// The netlist of a program by its graph, whose dependencies may go round in a circle. Where there is one, the program
 /// is constructive over every list of events that meet its relations, and resets, and the netlist keeps what it means.
-/// None says nothing: the search for a proof ended. The effort is one of `net_search`.
-///
-/// The errors are that a netlist would have more than 2^32 nets, and out of memory.
+/// None says nothing: the search for a proof ended, or a netlist would have more than 2^32 nets. The effort is one of
+/// `net_search`. The error is out of memory.
 ///
 /// Example: of `present A then emit B end || present B then emit A end` there is none, whatever the effort.
-pub fn constructive_net(alloc: Global, graph: &Graph, effort: u64) -> Result<Option<Net>, GrowFault>
+pub fn constructive_net(alloc: Global, graph: &Graph, effort: u64) -> Result<Option<Net>, NoMemory>
     requires { IsBuilt graph.now (program_of graph.now.program) }
     ensures { IfOk result (λ found. IfSome found (λ net.
         NetKeeps (netlist_of net) (program_of graph.now.program))) }
@@ -68,18 +66,38 @@ fn net_along(
     system: &System,
     schedule: &[usize],
     effort: u64,
-) -> Result<Option<Net>, GrowFault>
+) -> Result<Option<Net>, NoMemory>
     requires built { IsBuilt graph.now (program_of graph.now.program) }
     requires reads { ReadsGraph graph.now words.now system.now }
     requires schedule { All (λ n. n < length system.now.gates.items) schedule.now }
     ensures { IfOk result (λ found. IfSome found (λ net.
         NetKeeps (netlist_of net) (program_of graph.now.program))) }
 {
-    quiet_nets_keep();
     cycle_nets_are_loop_nets();
-    let CycleNets { net, check } = cycle_nets(alloc, graph, words, system, schedule)?;
-    if is_quiet(alloc, &graph.program, &check, effort)? {
-        Ok(Some(optimize(alloc, &net)?))
+    match cycle_nets(alloc, graph, words, system, schedule)? {
+        Some(nets) => quiet_net(alloc, graph, nets, effort),
+        None => Ok(None),
+    }
+}
+
+// The optimized netlist, where its check never raises the alarm.
+fn quiet_net(
+    alloc: Global,
+    graph: &Graph,
+    nets: CycleNets,
+    effort: u64,
+) -> Result<Option<Net>, NoMemory>
+    requires built { IsBuilt graph.now (program_of graph.now.program) }
+    requires nets { IsLoopNet graph.now (netlist_of nets.net) (netlist_of nets.check) }
+    requires inputs { (netlist_of nets.check).inputs ≡ given_names (program_of graph.now.program) }
+    requires one { length nets.check.outputs.items ≡ 1 }
+    ensures { IfOk result (λ found. IfSome found (λ net.
+        NetKeeps (netlist_of net) (program_of graph.now.program))) }
+{
+    quiet_nets_keep();
+    if is_quiet(alloc, &graph.program, &nets.check, effort)? {
+        let net = optimize(alloc, &nets.net)?;
+        Ok(Some(net))
     } else {
         Ok(None)
     }

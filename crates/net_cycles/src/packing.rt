@@ -1,6 +1,6 @@
 // The netlist around a drawn circuit, and the one around its alarm.
 
-ghost use Rattle.std.specs.Prelude.{◌≡◌, ◌+◌, ◌≤◌, ◌<◌, ◌^◌, length, map, IfOk, IsTrue, All};
+ghost use Rattle.std.specs.Prelude.{◌≡◌, ◌+◌, ◌≤◌, ◌<◌, ◌^◌, length, map, IfOk, IfSome, IsTrue, All};
 ghost use Rattle.std.specs.List.{range_with_len};
 ghost use Rattle.est_kernel.specs.Plain.{interface_count, outgoing_count, outgoing_names, program_of};
 ghost use Rattle.est_kernel.specs.WellFormed.{HasNames};
@@ -33,12 +33,33 @@ pub struct CycleNets {
     pub check: Net,
 }
 
-/// The netlist of a graph along a schedule of its system, and its check. The errors are that there would be more than
-/// 2^32 nets, and out of memory.
+/// The netlist of a graph along a schedule of its system, and its check. There are none where one of them would have
+/// more than 2^32 nets. The error is out of memory.
 ///
 /// Example: in the graph of `present A else emit A end` the status of A stays unknown along every schedule, so the
 /// output of the check is true in each instant in which the statement starts.
 pub fn cycle_nets(
+    alloc: Global,
+    graph: &Graph,
+    words: &Words,
+    system: &System,
+    schedule: &[usize],
+) -> Result<Option<CycleNets>, NoMemory>
+    requires draws { CanDraw graph.now words.now system.now schedule.now }
+    requires signals { interface_count (program_of graph.now.program) ≤ length graph.now.program.signals.items }
+    requires names { HasNames (program_of graph.now.program) }
+    ensures { IfOk result (λ found. IfSome found (λ made. AreCycleNets graph.now words.now system.now schedule.now
+        (netlist_of made.net) (netlist_of made.check))) }
+{
+    match nets_along(alloc, graph, words, system, schedule) {
+        Ok(nets) => Ok(Some(nets)),
+        Err(GrowFault::TooManyNets) => Ok(None),
+        Err(GrowFault::NoMemory) => Err(NoMemory),
+    }
+}
+
+// The same, with a fault where there would be too many nets.
+fn nets_along(
     alloc: Global,
     graph: &Graph,
     words: &Words,

@@ -1,6 +1,6 @@
 -- Contract: gates over nets for the nodes of a schedule. Each copy of a node reads the copies that are latest then.
 use Rattle.std.specs.Prelude.{◌≡◌, ℕ, ◌+◌, ◌<◌, ◌≤◌, ◌^◌, Bool, false, List, ◌++◌, length, map, slice_index_or, All}
-use Rattle.std.specs.Prelude.{IsTrue, None, [], ◌∷◌}
+use Rattle.std.specs.Prelude.{IsTrue, None, [], ◌∷◌, ⊤}
 use Rattle.base_types.specs.declared.indices.NetId.{NetId}
 use Rattle.net_ir.specs.declared.netlist.Gate.{Gate}
 use Rattle.net_ir.specs.declared.netlist.Op.{Op}
@@ -9,6 +9,8 @@ use Rattle.net_ir.specs.Gates.{ReadsLower, carried, gate_values, value_in}
 use Rattle.grc_ternary_gates.specs.declared.gates.Gate as systems
 use Rattle.grc_ternary_gates.specs.declared.gates.Gate.TheVariants as gates
 use Rattle.grc_ternary_gates.specs.Systems.{gate_fits}
+use Rattle.net_unroll.specs.declared.growing.GrowFault.{GrowFault}
+use Rattle.net_unroll.specs.declared.growing.GrowFault.TheVariants.{NoMemory, TooManyNets}
 use Rattle.net_unroll.specs.declared.growing.Growing.{Growing}
 use Rattle.net_unroll.specs.Laws.{IsSchedule}
 use Rattle.net_unroll.specs.Schedules.{all_false, truths_along}
@@ -58,6 +60,11 @@ pub record Grows (old new : Growing) (count : ℕ) : Type 0 where
   pub growing : IsGrowing new
   pub many : next_number new ≡ next_number old + count
   pub silent : carried new.list.items ≡ carried old.list.items
+
+-- Why gates cannot grow by so many: the nets would pass their numbers. Running out of memory has no cause here.
+abbrev pub IsFull : GrowFault → (next count : ℕ) → Type 0
+IsFull TooManyNets next count = 2 ^ 32 ≤ next + count
+IsFull NoMemory next count = ⊤
 
 -- a net that is never true
 pub record IsNo (g : Growing) (n : ℕ) : Type 0 where

@@ -1,8 +1,8 @@
 // One copy of a node for each place of a schedule.
 
-ghost use Rattle.std.specs.Prelude.{◌≡◌, length, replicate, IfOk, IsTrue};
+ghost use Rattle.std.specs.Prelude.{◌≡◌, length, replicate, IfErr, IfOk, IsTrue};
 ghost use Rattle.grc_ternary_gates.specs.Systems.{gate_fits};
-ghost use Rattle.net_unroll.specs.Copies.{CanUnroll, IsUnrolled, truth_op};
+ghost use Rattle.net_unroll.specs.Copies.{CanUnroll, IsFull, IsUnrolled, next_number, truth_op};
 
 use crate::growing::{GrowFault, Growing};
 use base_types::{NetId, NoMemory};
@@ -42,7 +42,8 @@ pub fn unroll(
     schedule: &[usize],
 ) -> Result<Vec<NetId>, GrowFault>
     requires can { CanUnroll gates.old system.now sources.now no schedule.now }
-    ensures { IfOk result (λ copies. IsUnrolled gates.old gates.new system.now sources.now copies.items schedule.now) }
+    ensures made { IfOk result (λ copies. IsUnrolled gates.old gates.new system.now sources.now copies.items schedule.now) }
+    ensures full { IfErr result (λ fault. IsFull fault (next_number gates.old) (length schedule.now)) }
 {
     let mut copies = same_nets(alloc, no, system.len())?;
     for node in schedule {

@@ -1,7 +1,8 @@
 // Gates under way.
 
-ghost use Rattle.std.specs.Prelude.{◌≡◌, ◌+◌, ◌<◌, ◌^◌, length, IfOk};
-ghost use Rattle.net_unroll.specs.Copies.{Pushed, next_number};
+ghost use Rattle.std.specs.Prelude.{◌≡◌, ◌+◌, ◌<◌, ◌^◌, length, IfErr, IfOk};
+ghost use Rattle.net_unroll.specs.declared.growing.GrowFault.TheVariants.{NoMemory as lacks_memory};
+ghost use Rattle.net_unroll.specs.Copies.{IsFull, Pushed, next_number};
 
 use base_types::{NetId, NoMemory};
 use net_ir::{Gate, Op};
@@ -19,18 +20,24 @@ pub enum GrowFault {
 }
 
 impl From<AllocError> for GrowFault {
+    ghost from_gives = { λ _ fault. fault ≡ lacks_memory };
+
     fn from(_error: AllocError) -> GrowFault {
         GrowFault::NoMemory
     }
 }
 
 impl<T: Drop> From<AllocFailed<T>> for GrowFault {
+    ghost from_gives = { λ _ fault. fault ≡ lacks_memory };
+
     fn from(_error: AllocFailed<T>) -> GrowFault {
         GrowFault::NoMemory
     }
 }
 
 impl From<NoMemory> for GrowFault {
+    ghost from_gives = { λ _ fault. fault ≡ lacks_memory };
+
     fn from(_error: NoMemory) -> GrowFault {
         GrowFault::NoMemory
     }
@@ -49,6 +56,7 @@ impl Growing {
         ensures pushed { IfOk result (λ n. Pushed self.old self.new op) }
         ensures number { IfOk result (λ n. n.0 ≡ next_number self.old) }
         ensures room { IfOk result (λ n. next_number self.old < 2 ^ 32) }
+        ensures full { IfErr result (λ fault. IsFull fault (next_number self.old) 1) }
     {
         let first = self.first;
         let count = self.list.len();

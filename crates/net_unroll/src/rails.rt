@@ -1,8 +1,8 @@
 // Two rails for each node: known to be true, and known to be false.
 
-ghost use Rattle.std.specs.Prelude.{◌≡◌, length, IfOk, IsTrue};
+ghost use Rattle.std.specs.Prelude.{◌≡◌, ◌+◌, ◌*◌, length, IfErr, IfOk, IsTrue};
 ghost use Rattle.grc_ternary_gates.specs.Systems.{gate_fits};
-ghost use Rattle.net_unroll.specs.Copies.{CanUnroll};
+ghost use Rattle.net_unroll.specs.Copies.{CanUnroll, IsFull, next_number};
 ghost use Rattle.net_unroll.specs.Laws.{IsSchedule};
 ghost use Rattle.net_unroll.specs.Rails.{CanWatch, IsAlarm, IsUnrolledTwice, Watches, excluded_op, sure_op};
 
@@ -60,7 +60,8 @@ fn unroll_twice(
     schedule: &[usize],
 ) -> Result<Rails, GrowFault>
     requires can { CanUnroll gates.old system.now sources.now no schedule.now }
-    ensures { IfOk result (λ r. IsUnrolledTwice gates.old gates.new system.now sources.now r schedule.now) }
+    ensures made { IfOk result (λ r. IsUnrolledTwice gates.old gates.new system.now sources.now r schedule.now) }
+    ensures full { IfErr result (λ fault. IsFull fault (next_number gates.old) (2 * length schedule.now)) }
 {
     let mut rails = Rails {
         sure: same_nets(alloc, no, system.len())?,
@@ -81,7 +82,8 @@ fn unroll_twice(
 // A net that says that each watched node is known.
 fn watch(gates: &mut Growing, rails: &Rails, watched: &[usize]) -> Result<NetId, GrowFault>
     requires can { CanWatch gates.old rails.now watched.now }
-    ensures { IfOk result (λ n. Watches gates.old gates.new rails.now watched.now n.0) }
+    ensures made { IfOk result (λ n. Watches gates.old gates.new rails.now watched.now n.0) }
+    ensures full { IfErr result (λ fault. IsFull fault (next_number gates.old) (2 * length watched.now + 1)) }
 {
     let mut whole = gates.push(Op::Const(true))?;
     for node in watched {
@@ -104,7 +106,9 @@ pub fn raise_alarm(
 ) -> Result<NetId, GrowFault>
     requires can { CanUnroll gates.old system.now sources.now no schedule.now }
     requires watched { IsSchedule system.now watched.now }
-    ensures { IfOk result (λ n. IsAlarm gates.old gates.new system.now sources.now schedule.now watched.now n.0) }
+    ensures made { IfOk result (λ n. IsAlarm gates.old gates.new system.now sources.now schedule.now watched.now n.0) }
+    ensures full { IfErr result (λ fault. IsFull fault (next_number gates.old)
+        (2 * length schedule.now + (2 * length watched.now + 2))) }
 {
     let rails = unroll_twice(alloc, gates, system, sources, no, schedule)?;
     let whole = watch(gates, &rails, watched)?;

@@ -40,7 +40,7 @@ add_rows-requires-2-clause-ready c =
     let nodes = c.in_ok-nodes.nodes.items in
     let ready = subst (λ l. IsReady g w b l rs one) (c.as_slice.ensures.value ∙ c.new-none.ensures.items) c.in_ok-add_rows.ensures.ready in
     let u = subst (λ l. IsUnrolled one two l ss nodes s) c.as_slice-3.ensures.value
-    (subst (λ l. IsUnrolled one two c.as_slice-3.result.now l nodes s) c.as_slice-4.ensures.value c.in_ok-nodes.ensures) in
+    (subst (λ l. IsUnrolled one two c.as_slice-3.result.now l nodes s) c.as_slice-4.ensures.value c.in_ok-nodes.ensures.made) in
     let taken : c.in_ok-copies.copies.items ≡ take (length g.wires.items) nodes = c.in_ok-copies.ensures
     ∙ ap (λ l. take (length c.wires.result.now) l) c.as_slice-5.ensures.value ∙ ap (λ n. take n nodes) (ap length c.wires.ensures) in
     let is = c.requires.system in
@@ -57,7 +57,7 @@ add_rows-requires-2-clause-fits c =
     let y = c.args.system.now in
     let b = c.in_ok-base.field-0.base in
     let nodes = c.in_ok-nodes.nodes.items in
-    let u = c.in_ok-nodes.ensures in
+    let u = c.in_ok-nodes.ensures.made in
     let taken : c.in_ok-copies.copies.items ≡ take (length g.wires.items) nodes = c.in_ok-copies.ensures
     ∙ ap (λ l. take (length c.wires.result.now) l) c.as_slice-5.ensures.value ∙ ap (λ n. take n nodes) (ap length c.wires.ensures) in
     let is = c.requires.system in
@@ -94,7 +94,7 @@ returns c =
     let early : w.early ≤ length rs = omega arith in
     let same : ss ≡ sources_of b w rs = c.in_ok-sources.ensures ∙ ap (sources_of b w) c.as_slice-2.ensures.value in
     let u : IsUnrolled one two y.gates.items ss nodes s = subst (λ l. IsUnrolled one two l ss nodes s) c.as_slice-3.ensures.value
-    (subst (λ l. IsUnrolled one two c.as_slice-3.result.now l nodes s) c.as_slice-4.ensures.value c.in_ok-nodes.ensures) in
+    (subst (λ l. IsUnrolled one two c.as_slice-3.result.now l nodes s) c.as_slice-4.ensures.value c.in_ok-nodes.ensures.made) in
     let taken : copies ≡ take (length g.wires.items) nodes = c.in_ok-copies.ensures
     ∙ ap (λ l. take (length c.wires.result.now) l) c.as_slice-5.ensures.value ∙ ap (λ n. take n nodes) (ap length c.wires.ensures) in
     let all : c.len-all.result ≡ length w.rows.items = omega (arith, c.len-all.ensures, w.rows.ok.0) in

@@ -37,7 +37,7 @@ check_around-requires c =
     c.in_ok-alarm.alarm.0)
     c.deref-2.ensures.value
     (subst (λ xs. IsAlarm c.args.drawn.gates c.raise_alarm.new.gates xs c.deref-2.result.now c.args.schedule.now c.deref-3.result.now c.in_ok-alarm.alarm.0)
-    c.deref.ensures.value c.in_ok-alarm.ensures))
+    c.deref.ensures.value c.in_ok-alarm.ensures.made))
 
 pub returns : goal.returns
 returns c =
@@ -53,7 +53,7 @@ returns c =
           c.deref-2.ensures.value
           (subst (λ xs. IsAlarm c.args.drawn.gates c.raise_alarm.new.gates xs c.deref-2.result.now c.args.schedule.now c.deref-3.result.now
           c.in_ok-alarm.alarm.0)
-          c.deref.ensures.value c.in_ok-alarm.ensures);
+          c.deref.ensures.value c.in_ok-alarm.ensures.made);
       watches = subst (WatchesAll (length y.gates.items)) (sym watched) (watches-all (length y.gates.items));
       check_around = is-check (netlist_of c.args.net.now) (netlist_of c.in_ok-check.check) c.raise_alarm.new.gates c.in_ok-alarm.alarm c.in_ok-check.ensures;
     }
