@@ -42,7 +42,8 @@ pub fn unroll(
     schedule: &[usize],
 ) -> Result<Vec<NetId>, GrowFault>
     requires can { CanUnroll gates.old system.now sources.now no schedule.now }
-    ensures made { IfOk result (λ copies. IsUnrolled gates.old gates.new system.now sources.now copies.items schedule.now) }
+    ensures made { IfOk result (λ copies.
+        IsUnrolled gates.old gates.new system.now sources.now copies.items schedule.now) }
     ensures full { IfErr result (λ fault. IsFull fault (next_number gates.old) (length schedule.now)) }
 {
     let mut copies = same_nets(alloc, no, system.len())?;
