@@ -8,7 +8,6 @@ ghost use Rattle.cec_prove_commands.specs.Words.{
   command_asked,
   command_of,
   comparison_asked,
-  file_asked,
   is_comparison,
   is_plain,
   job_asked,
@@ -24,6 +23,7 @@ ghost use Rattle.cec_prove_commands.specs.Words.{
   misuse_of_own,
   plain_job,
   request_by,
+  survey_asked,
   with_assumed,
   with_level,
   with_main,
@@ -49,8 +49,6 @@ pub(crate) enum Command {
     Asks(Claim),
     /// All outgoing signals.
     Surveys,
-    /// All points.
-    Covers,
     /// Two sources.
     Compares,
 }
@@ -62,8 +60,6 @@ pub(crate) enum Task<'a> {
     Ask(Claim, &'a [u8]),
     /// When each outgoing signal is present.
     Survey,
-    /// Which points are reached.
-    Cover,
     /// Whether the source in the file of this name does the same.
     Compare(&'a str),
 }
@@ -122,8 +118,7 @@ fn command_asked<'a>(command: Command, rest: &'a [String]) -> Option<Request<'a>
 {
     match command {
         Command::Asks(claim) => claim_asked(claim, rest),
-        Command::Surveys => file_asked(Task::Survey, rest),
-        Command::Covers => file_asked(Task::Cover, rest),
+        Command::Surveys => survey_asked(rest),
         Command::Compares => comparison_asked(rest),
     }
 }
@@ -141,14 +136,14 @@ fn claim_asked<'a>(claim: Claim, rest: &'a [String]) -> Option<Request<'a>>
 }
 
 // What a file and options ask for.
-fn file_asked<'a>(task: Task<'a>, rest: &'a [String]) -> Option<Request<'a>>
-    ensures { option_map request_is result ≡ file_asked (task_is task.entry) (map string_bytes rest.now) }
+fn survey_asked<'a>(rest: &'a [String]) -> Option<Request<'a>>
+    ensures { option_map request_is result ≡ survey_asked (map string_bytes rest.now) }
 {
     let (name, options) = rest.split_first()?;
     if !is_plain(name.as_bytes()) {
         return None;
     }
-    job_asked(task, name, options)
+    job_asked(Task::Survey, name, options)
 }
 
 // What two files and options ask for.
@@ -195,8 +190,6 @@ fn command_of(word: &[u8]) -> Option<Command>
         Some(Command::Asks(Claim::Always))
     } else if word == b"all".as_slice() {
         Some(Command::Surveys)
-    } else if word == b"cover".as_slice() {
-        Some(Command::Covers)
     } else if word == b"same".as_slice() {
         Some(Command::Compares)
     } else {
@@ -255,7 +248,7 @@ fn is_comparison(task: Task<'_>) -> bool
     ensures { result ≡ is_comparison (task_is task.entry) }
 {
     match task {
-        Task::Ask(_, _) | Task::Survey | Task::Cover => false,
+        Task::Ask(_, _) | Task::Survey => false,
         Task::Compare(_) => true,
     }
 }
@@ -360,7 +353,6 @@ fn misuse_of_command<'a>(command: Command, word: &'a [u8], rest: &'a [String]) -
     match command {
         Command::Asks(claim) => misuse_of_claim(claim, word, rest),
         Command::Surveys => misuse_of_file(Task::Survey, word, rest),
-        Command::Covers => misuse_of_file(Task::Cover, word, rest),
         Command::Compares => misuse_of_comparison(word, rest),
     }
 }

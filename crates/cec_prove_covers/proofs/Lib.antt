@@ -1,2 +1,0 @@
-mod CoveringLines
-mod Joint

@@ -1,5 +1,0 @@
-pub mod Coverings
-pub mod Findings
-pub mod Lines
-pub mod Portions
-pub mod Stages

@@ -1,6 +1,0 @@
-mod TestRows
-mod Rows
-mod Fitting
-mod CoveredFlats
-mod FreshNames
-pub mod Exports
