@@ -1,3 +1,3 @@
 mod Quiet
 mod Whole
-mod Deciding
+mod Alarms

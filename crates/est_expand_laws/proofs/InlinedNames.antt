@@ -281,10 +281,8 @@ module _ (inputs : ℕ) where
           on_ok-follows (λ a b. a ≡ b) (λ a b. a ≡ b) (tests scope es) (tests other (tests_by becomes es)) _ _ (tests-follow es) (λ a b is. ap flat.And is)
       test-follows (Or es) =
           on_ok-follows (λ a b. a ≡ b) (λ a b. a ≡ b) (tests scope es) (tests other (tests_by becomes es)) _ _ (tests-follow es) (λ a b is. ap flat.Or is)
-      test-follows (Round e) =
-          on_ok-follows (λ a b. a ≡ b) (λ a b. a ≡ b) (test scope e) (test other (test_by becomes e)) _ _ (test-follows e) (λ a b is. ap flat.Round is)
-      test-follows (Square e) =
-          on_ok-follows (λ a b. a ≡ b) (λ a b. a ≡ b) (test scope e) (test other (test_by becomes e)) _ _ (test-follows e) (λ a b is. ap flat.Square is)
+      test-follows (Round e) = test-follows e
+      test-follows (Square e) = test-follows e
 
       tests-follow : (es : Exprs) → Follows (λ a b. a ≡ b) (tests scope es) (tests other (tests_by becomes es))
       tests-follow NoExprs = refl

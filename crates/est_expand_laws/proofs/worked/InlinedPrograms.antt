@@ -368,8 +368,7 @@ flat_9 : flat_alone alone_9 ≡ Ok (made (codes "M") ((codes "A") ∷ (codes "O"
     (flat.At (at 381 404) (flat.WeakAbort (flat.At (at 518 531) (flat.Seq (flat.MoreStmts (flat.At (at 518 524) (flat.Emit 1))
     (flat.MoreStmts (flat.At (at 526 531) flat.Pause) flat.NoStmts)))) (flat.Plain (flat.Sig 0)))) (flat.MoreStmts (flat.At (at 406 460)
     (flat.Suspend (flat.At (at 518 531) (flat.Seq (flat.MoreStmts (flat.At (at 518 524) (flat.Emit 1)) (flat.MoreStmts (flat.At (at 526 531)
-    flat.Pause) flat.NoStmts)))) (flat.Immediate (flat.Square (flat.And (flat.MoreExprs (flat.Not (flat.Sig 0)) (flat.MoreExprs (flat.Round
-    (flat.Or (flat.MoreExprs (flat.Sig 0) (flat.MoreExprs (flat.Tick (at 454 458)) flat.NoExprs)))) flat.NoExprs))))))) (flat.MoreStmts
+    flat.Pause) flat.NoStmts)))) (flat.Immediate (flat.And (flat.MoreExprs (flat.Not (flat.Sig 0)) (flat.MoreExprs (flat.Or (flat.MoreExprs (flat.Sig 0) (flat.MoreExprs (flat.Tick (at 454 458)) flat.NoExprs))) flat.NoExprs)))))) (flat.MoreStmts
     (flat.At (at 462 471) (flat.Sustain 1)) (flat.MoreStmts (flat.At (at 473 477) flat.Halt) (flat.MoreStmts (flat.At (at 479 486)
     flat.Nothing) flat.NoStmts)))))))))) flat.NoStmts)))))))
 unfolding flattening
@@ -418,9 +417,9 @@ flat_10 : flat_alone alone_10 ≡ Ok (made (codes "M") ((codes "A") ∷ (codes "
     flat.Pause) (flat.MoreStmts (flat.At (at 259 264) flat.Pause) flat.NoStmts)))) (flat.Immediate (flat.Sig 2)))) (flat.MoreStmts (flat.At
     (at 365 383) (flat.LoopEach (flat.At (at 370 376) (flat.Emit 3)) (flat.Plain (flat.Sig 2)))) flat.NoStmts)))) (flat.MoreStmts (flat.At
     (at 70 163) (flat.Abort (flat.At (at 76 146) (flat.AwaitCase (flat.MoreCases (flat.And (flat.MoreExprs (flat.Sig 1) (flat.MoreExprs
-    (flat.Round (flat.Or (flat.MoreExprs (flat.Sig 1) (flat.MoreExprs (flat.Sig 3) flat.NoExprs)))) flat.NoExprs))) flat.Missing
+    (flat.Or (flat.MoreExprs (flat.Sig 1) (flat.MoreExprs (flat.Sig 3) flat.NoExprs))) flat.NoExprs))) flat.Missing
     (flat.MoreCases (flat.Sig 4) (flat.Written (flat.At (at 112 118) (flat.Emit 3))) (flat.MoreCases (flat.And (flat.MoreExprs (flat.Sig 1)
-    (flat.MoreExprs (flat.Round (flat.Sig 4)) flat.NoExprs))) (flat.Written (flat.At (at 137 142) flat.Pause)) flat.NoCases)))))
+    (flat.MoreExprs (flat.Sig 4) flat.NoExprs))) (flat.Written (flat.At (at 137 142) flat.Pause)) flat.NoCases)))))
     (flat.Immediate (flat.Sig 1)) flat.Missing)) flat.NoStmts)))))))
 unfolding flattening
 flat_10 = refl
@@ -516,10 +515,10 @@ flat_12 : flat_alone alone_12 ≡ Ok (made (codes "M") ((codes "A") ∷ (codes "
     (flat.WeakAbort (flat.At (at 75 143) (flat.Seq (flat.MoreStmts (flat.At (at 343 387) (flat.Present (flat.Or (flat.MoreExprs (flat.And
     (flat.MoreExprs (flat.Sig 0) (flat.MoreExprs (flat.Sig 2) flat.NoExprs))) (flat.MoreExprs (flat.Sig 4) flat.NoExprs))) (flat.Written
     (flat.At (at 369 375) (flat.Emit 3))) flat.Missing)) (flat.MoreStmts (flat.At (at 101 143) (flat.Present (flat.Or (flat.MoreExprs
-    (flat.And (flat.MoreExprs (flat.Not (flat.Round (flat.Sig 4))) (flat.MoreExprs (flat.Sig 2) flat.NoExprs))) (flat.MoreExprs (flat.Sig 3)
+    (flat.And (flat.MoreExprs (flat.Not (flat.Sig 4)) (flat.MoreExprs (flat.Sig 2) flat.NoExprs))) (flat.MoreExprs (flat.Sig 3)
     flat.NoExprs))) flat.Missing (flat.Written (flat.At (at 133 139) (flat.Emit 5))))) flat.NoStmts)))) (flat.Immediate (flat.Sig 0))))
-    (flat.Plain (flat.Square (flat.And (flat.MoreExprs (flat.Sig 2) (flat.MoreExprs (flat.Square (flat.Not (flat.Sig 0)))
-    flat.NoExprs))))))) (flat.MoreStmts (flat.At (at 185 269) (flat.Abort (flat.At (at 191 233) (flat.Abort (flat.At (at 343 387)
+    (flat.Plain (flat.And (flat.MoreExprs (flat.Sig 2) (flat.MoreExprs (flat.Not (flat.Sig 0))
+    flat.NoExprs)))))) (flat.MoreStmts (flat.At (at 185 269) (flat.Abort (flat.At (at 191 233) (flat.Abort (flat.At (at 343 387)
     (flat.Present (flat.Or (flat.MoreExprs (flat.And (flat.MoreExprs (flat.Sig 0) (flat.MoreExprs (flat.Sig 5) flat.NoExprs)))
     (flat.MoreExprs (flat.Sig 2) flat.NoExprs))) (flat.Written (flat.At (at 369 375) (flat.Emit 3))) flat.Missing)) (flat.Plain (flat.Sig
     1)) flat.Missing)) (flat.Plain (flat.Sig 5)) (flat.Written (flat.At (at 244 265) (flat.Signal (6 ∷ []) (flat.At (at 256 261)
@@ -610,8 +609,7 @@ inlined_14 = refl
 
 flat_14 : flat_alone alone_14 ≡ Ok (made (codes "M") ((codes "A") ∷ (codes "O") ∷ (codes "P") ∷ []) 1 0 2 [] (flat.At (at 32 263) (flat.Seq
     (flat.MoreStmts (flat.At (at 32 156) (flat.Repeat 3 (at 48 49) (flat.At (at 56 145) (flat.AbortCase (flat.At (at 302 328) (flat.Present
-    (flat.Sig 2) flat.Missing (flat.Written (flat.At (at 317 324) flat.Nothing)))) (flat.MoreCases (flat.Or (flat.MoreExprs (flat.Round
-    (flat.Not (flat.Square (flat.Sig 0)))) (flat.MoreExprs (flat.Sig 1) (flat.MoreExprs (flat.Sig 2) flat.NoExprs)))) (flat.Written (flat.At
+    (flat.Sig 2) flat.Missing (flat.Written (flat.At (at 317 324) flat.Nothing)))) (flat.MoreCases (flat.Or (flat.MoreExprs (flat.Not (flat.Sig 0)) (flat.MoreExprs (flat.Sig 1) (flat.MoreExprs (flat.Sig 2) flat.NoExprs)))) (flat.Written (flat.At
     (at 125 134) (flat.Sustain 2))) (flat.MoreCases (flat.Sig 1) flat.Missing flat.NoCases)))))) (flat.MoreStmts (flat.At (at 158 263)
     (flat.Trap (flat.At (at 168 259) (flat.Every (flat.Plain (flat.Sig 2)) (flat.At (at 179 249) (flat.Present (flat.Tick (at 187 191))
     (flat.Written (flat.At (at 197 212) (flat.Seq (flat.MoreStmts (flat.At (at 197 204) flat.Nothing) (flat.MoreStmts (flat.At (at 206 212)
@@ -674,9 +672,9 @@ flat_15 : flat_alone alone_15 ≡ Ok (made (codes "M") ((codes "A") ∷ (codes "
     2)) flat.Missing)) (flat.MoreStmts (flat.At (at 369 374) flat.Pause) flat.NoStmts)))) (flat.MoreStmts (flat.At (at 170 284)
     (flat.Suspend (flat.At (at 178 247) (flat.PresentCase (flat.MoreCases (flat.Not (flat.Sig 4)) (flat.Written (flat.At (at 200 207)
     flat.Nothing)) (flat.MoreCases (flat.Sig 2) flat.Missing (flat.MoreCases (flat.Sig 0) (flat.Written (flat.At (at 225 230) flat.Pause))
-    flat.NoCases))) (flat.Written (flat.At (at 236 243) flat.Nothing)))) (flat.Plain (flat.Square (flat.And (flat.MoreExprs (flat.Sig 2)
-    (flat.MoreExprs (flat.Not (flat.Square (flat.Or (flat.MoreExprs (flat.Sig 3) (flat.MoreExprs (flat.Sig 5) (flat.MoreExprs (flat.Sig 2)
-    flat.NoExprs)))))) (flat.MoreExprs (flat.Sig 4) flat.NoExprs)))))))) flat.NoStmts))))))
+    flat.NoCases))) (flat.Written (flat.At (at 236 243) flat.Nothing)))) (flat.Plain (flat.And (flat.MoreExprs (flat.Sig 2)
+    (flat.MoreExprs (flat.Not (flat.Or (flat.MoreExprs (flat.Sig 3) (flat.MoreExprs (flat.Sig 5) (flat.MoreExprs (flat.Sig 2)
+    flat.NoExprs))))) (flat.MoreExprs (flat.Sig 4) flat.NoExprs))))))) flat.NoStmts))))))
 unfolding flattening
 flat_15 = refl
 
@@ -812,10 +810,10 @@ flat_18 : flat_alone alone_18 ≡ Ok (made (codes "M") ((codes "A") ∷ (codes "
     (flat.WeakAbort (flat.At (at 76 97) (flat.Await (flat.Plain (flat.Sig 0)) (flat.Written (flat.At (at 87 93) (flat.Emit 3)))))
     (flat.Plain (flat.Sig 1)))) (flat.MoreStmts (flat.At (at 458 509) (flat.Abort (flat.At (at 338 360) (flat.Seq (flat.MoreStmts (flat.At
     (at 338 345) flat.Nothing) (flat.MoreStmts (flat.At (at 347 352) flat.Pause) (flat.MoreStmts (flat.At (at 354 360) (flat.Emit 2))
-    flat.NoStmts))))) (flat.Plain (flat.Square (flat.Not (flat.Sig 1)))) (flat.Written (flat.At (at 500 505) flat.Pause))))
+    flat.NoStmts))))) (flat.Plain (flat.Not (flat.Sig 1))) (flat.Written (flat.At (at 500 505) flat.Pause))))
     flat.NoStmts)))))) (flat.Written (flat.At (at 167 261) (flat.AbortCase (flat.At (at 458 509) (flat.Abort (flat.At (at 338 360) (flat.Seq
     (flat.MoreStmts (flat.At (at 338 345) flat.Nothing) (flat.MoreStmts (flat.At (at 347 352) flat.Pause) (flat.MoreStmts (flat.At (at 354
-    360) (flat.Emit 2)) flat.NoStmts))))) (flat.Plain (flat.Square (flat.Not (flat.Sig 1)))) (flat.Written (flat.At (at 500 505)
+    360) (flat.Emit 2)) flat.NoStmts))))) (flat.Plain (flat.Not (flat.Sig 1))) (flat.Written (flat.At (at 500 505)
     flat.Pause)))) (flat.MoreCases (flat.Sig 1) flat.Missing (flat.MoreCases (flat.Sig 2) (flat.Written (flat.At (at 240 244) flat.Halt))
     (flat.MoreCases (flat.And (flat.MoreExprs (flat.Sig 2) (flat.MoreExprs (flat.Sig 1) flat.NoExprs))) flat.Missing flat.NoCases)))))))))
 unfolding flattening

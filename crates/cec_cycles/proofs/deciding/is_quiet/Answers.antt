@@ -6,7 +6,7 @@ use Rattle.sat_kernel.specs.Clauses.{plain_assumed}
 use Rattle.net_never.specs.Never.{IsNever}
 use Rattle.net_search.specs.Decisions.{IsDecision}
 use Rattle.cec_prove_sources.proofs.Exports.{optimized-outputs}
-use Rattle.cec_cycles.proofs.Deciding.{never-alarms}
+use Rattle.cec_cycles.proofs.Alarms.{never-alarms}
 use Rattle.cec_cycles.proofs.deciding.is_quiet.Goals as goal
 
 pub alarm_literal-requires : goal.alarm_literal-requires
