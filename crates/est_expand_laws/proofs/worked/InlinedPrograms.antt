@@ -368,7 +368,11 @@ flat_9 : flat_alone alone_9 ≡ Ok (made (codes "M") ((codes "A") ∷ (codes "O"
     (flat.At (at 381 404) (flat.WeakAbort (flat.At (at 518 531) (flat.Seq (flat.MoreStmts (flat.At (at 518 524) (flat.Emit 1))
     (flat.MoreStmts (flat.At (at 526 531) flat.Pause) flat.NoStmts)))) (flat.Plain (flat.Sig 0)))) (flat.MoreStmts (flat.At (at 406 460)
     (flat.Suspend (flat.At (at 518 531) (flat.Seq (flat.MoreStmts (flat.At (at 518 524) (flat.Emit 1)) (flat.MoreStmts (flat.At (at 526 531)
-    flat.Pause) flat.NoStmts)))) (flat.Immediate (flat.And (flat.MoreExprs (flat.Not (flat.Sig 0)) (flat.MoreExprs (flat.Or (flat.MoreExprs (flat.Sig 0) (flat.MoreExprs (flat.Tick (at 454 458)) flat.NoExprs))) flat.NoExprs)))))) (flat.MoreStmts
+    flat.Pause) flat.NoStmts))))
+    (flat.Immediate
+    (flat.And
+    (flat.MoreExprs (flat.Not (flat.Sig 0))
+    (flat.MoreExprs (flat.Or (flat.MoreExprs (flat.Sig 0) (flat.MoreExprs (flat.Tick (at 454 458)) flat.NoExprs))) flat.NoExprs)))))) (flat.MoreStmts
     (flat.At (at 462 471) (flat.Sustain 1)) (flat.MoreStmts (flat.At (at 473 477) flat.Halt) (flat.MoreStmts (flat.At (at 479 486)
     flat.Nothing) flat.NoStmts)))))))))) flat.NoStmts)))))))
 unfolding flattening
@@ -609,7 +613,9 @@ inlined_14 = refl
 
 flat_14 : flat_alone alone_14 ≡ Ok (made (codes "M") ((codes "A") ∷ (codes "O") ∷ (codes "P") ∷ []) 1 0 2 [] (flat.At (at 32 263) (flat.Seq
     (flat.MoreStmts (flat.At (at 32 156) (flat.Repeat 3 (at 48 49) (flat.At (at 56 145) (flat.AbortCase (flat.At (at 302 328) (flat.Present
-    (flat.Sig 2) flat.Missing (flat.Written (flat.At (at 317 324) flat.Nothing)))) (flat.MoreCases (flat.Or (flat.MoreExprs (flat.Not (flat.Sig 0)) (flat.MoreExprs (flat.Sig 1) (flat.MoreExprs (flat.Sig 2) flat.NoExprs)))) (flat.Written (flat.At
+    (flat.Sig 2) flat.Missing (flat.Written (flat.At (at 317 324) flat.Nothing))))
+    (flat.MoreCases (flat.Or (flat.MoreExprs (flat.Not (flat.Sig 0)) (flat.MoreExprs (flat.Sig 1) (flat.MoreExprs (flat.Sig 2) flat.NoExprs))))
+    (flat.Written (flat.At
     (at 125 134) (flat.Sustain 2))) (flat.MoreCases (flat.Sig 1) flat.Missing flat.NoCases)))))) (flat.MoreStmts (flat.At (at 158 263)
     (flat.Trap (flat.At (at 168 259) (flat.Every (flat.Plain (flat.Sig 2)) (flat.At (at 179 249) (flat.Present (flat.Tick (at 187 191))
     (flat.Written (flat.At (at 197 212) (flat.Seq (flat.MoreStmts (flat.At (at 197 204) flat.Nothing) (flat.MoreStmts (flat.At (at 206 212)
