@@ -278,20 +278,42 @@ def observed(rng: random.Random, budget: int) -> tuple[bytes, list[str]]:
     return " ".join(words).encode(), both + outputs + ["WRONG"] * 4
 
 
+PROVE_LIST = "never always all same --help --version -x O f f f nofile - --main --effort 3 0 --assume t".split(" ") + [""]
+SMALL_CHANGES = (("await ", "await immediate "), ("||", ";"), ("present ", "present not "), ("emit", "sustain"))
+
+
+def changed(rng: random.Random, text: bytes) -> bytes:
+    """A source that does the same, or nearly so: another spelling, or one small change."""
+    if rng.random() < 0.4:
+        return text.replace(b"pause", rng.choice([b"[pause]", b"await tick", b"await 1 tick"]))
+    old, new = rng.choice(SMALL_CHANGES)
+    places = [match.start() for match in re.finditer(re.escape(old.encode()), text)]
+    if not places:
+        return text
+    at = rng.choice(places)
+    return text[:at] + new.encode() + text[at + len(old) :]
+
+
 def prove_case(rng: random.Random) -> Drawn:
-    """A claim about a small source."""
+    """A claim about a small source, a survey of one, or two sources that are compared."""
+    kind = rng.random()
+    if kind < 0.1:
+        return [word.encode() for word in rng.choices(PROVE_LIST, k=rng.randrange(6))], {b"f": source(rng, 2, 0)}
     if rng.random() < 0.7:
         text, outgoing = observed(rng, rng.choice([1, 2, 4, 6, 9]))
     else:
         text = source(rng, rng.choice([1, 2, 4, 6]), rng.choice([0, 0, 0, 0.05]))
         outgoing = ["O", "P", "V", "A"]
-    words = [rng.choice(["never", "never", "always"]), rng.choice(outgoing), "f"]
-    if rng.random() < 0.2:
+    files = {b"f": text}
+    words = ["all", "f"] if kind < 0.3 else [rng.choice(["never", "never", "always"]), rng.choice(outgoing), "f"]
+    if kind > 0.75:
+        words, files[b"g"] = ["same", "f", rng.choice(["g"] * 9 + ["nofile"])], changed(rng, text)
+    elif rng.random() < 0.2:
         words += ["--assume", rng.choice(outgoing)]
     words += ["--effort", rng.choice(["1", "2", "3"])]
     if rng.random() < 0.05:
         words += ["--main", rng.choice(["M", "N0", "ZZ"])]
-    return [word.encode() for word in words], {b"f": text}
+    return [word.encode() for word in words], files
 
 
 KINDS: dict[str, Callable[[random.Random], Drawn]] = {

@@ -3,30 +3,34 @@
 from __future__ import annotations
 
 import re
-from typing import Optional
+from typing import Optional, Sequence
 
 from fuzzing.cases import Case
 from rules.command import SourceRunner
 from rules.compiling import Compiled, compile_source
 from rules.outcomes import Outcome
 from rules.prover import (
+    FILE_FAULT,
     NO_SIGNAL,
+    OTHER,
     PROVED,
     REFUSED,
     REFUTED,
     UNDECIDED,
     USAGE,
-    FILE_FAULT,
     Asked,
+    Misuse,
     Question,
     asked_of,
     first_break,
+    first_difference,
     trace_of,
 )
 from rules.traces import TraceFault, TraceReader
 
 SEARCHED = re.compile(rb"cec-prove: undecided, instants searched: (\d+)\n")
 Answer = tuple[bytes, bytes, int]
+Found = tuple[str, int]
 
 
 def line(text: bytes) -> bytes:
@@ -52,75 +56,158 @@ def judge_source(outcome: Outcome, file: bytes, got: Answer) -> Optional[str]:
     return is_refused(got, REFUSED, None) or (None if is_shown else "stderr")
 
 
-def judge_trace(question: Question, text: bytes) -> Optional[str]:
-    """A trace is spelled in the one way, meets the relations, and breaks the claim in its last instant alone."""
-    done = question.done
-    reader, runner = TraceReader(text, done.in_names, done.relations), SourceRunner(done, "blif")
-    events, broken = [], False
+def events_of(done: Compiled, text: bytes, is_one_line: bool = False) -> tuple[list[list[bool]], Optional[str]]:
+    """The events of a trace that is spelled in the one way and meets the relations; and what is amiss."""
+    reader, events = TraceReader(text, done.in_names, done.relations), []
     while True:
         try:
             item = reader.next()
         except TraceFault as fault:
-            return "trace: %s" % fault.kind
+            return [], "trace: %s" % fault.kind
         if item is None:
             break
         if isinstance(item, str):
-            return "trace: a reset"
+            return [], "trace: a reset"
+        events.append(list(item))
+    if text != trace_of(done.in_names, events, is_one_line):
+        return [], "trace: another spelling"
+    return events, None if events else "trace: no instant"
+
+
+def judge_trace(question: Question, text: bytes, is_one_line: bool = False) -> Optional[str]:
+    """A trace breaks the claim in its last instant alone."""
+    events, note = events_of(question.done, text, is_one_line)
+    runner, broken = SourceRunner(question.done, "blif"), False
+    for number, event in enumerate(events):
         if broken:
             return "trace: the claim is broken before the last instant"
-        events.append(item)
-        runner.react(item)
+        runner.react(event)
         if not question.is_kept(runner.outputs):
-            return "trace: what is assumed is absent in instant %d" % len(events)
+            return "trace: what is assumed is absent in instant %d" % (number + 1)
         broken = question.is_broken(runner.outputs)
-    if text != trace_of(done.in_names, events):
-        return "trace: another spelling"
-    return None if broken else "trace: its last instant does not break the claim"
+    return note or (None if broken else "trace: its last instant does not break the claim")
 
 
-def judge_verdict(question: Question, got: Answer) -> tuple[str, Optional[str]]:
-    out, err, status = got
-    found, depth = first_break(question)
+def judge_difference(one: Compiled, two: Compiled, text: bytes) -> Optional[str]:
+    """A trace leads to reactions that are not the same, in its last instant alone."""
+    events, note = events_of(one, text)
+    runners, differs = [SourceRunner(done, "blif") for done in (one, two)], False
+    for event in events:
+        if differs:
+            return "trace: the programs differ before the last instant"
+        for runner in runners:
+            runner.react(event)
+        differs = (runners[0].outputs, runners[0].word) != (runners[1].outputs, runners[1].word)
+    return note or (None if differs else "trace: its last reactions are the same")
+
+
+def judge_verdict(found: Found, got: Answer, refutation: Optional[str]) -> tuple[str, Optional[str]]:
+    """A verdict against the first break that a search found; of a trace it is known what is amiss."""
+    (kind, depth), (out, err, status) = found, got
     if status == REFUTED:
         if err != line(b"refuted"):
             return "refuted", "stderr"
-        return "refuted", "refuted, and no state breaks the claim" if found == "never" else judge_trace(question, out)
+        return "refuted", "refuted, and no state breaks the claim" if kind == "never" else refutation
     if out:
-        return found, "stdout"
+        return kind, "stdout"
     if status == PROVED and err == line(b"proved"):
-        return "proved", "proved, and %d instants break the claim" % depth if found == "in" else None
+        return "proved", "proved, and %d instants break the claim" % depth if kind == "in" else None
     searched = SEARCHED.fullmatch(err)
     if status != UNDECIDED or searched is None:
-        return found, "status %r, err %r" % (status, err)
-    if found == "in" and depth <= int(searched[1]):
+        return kind, "status %r, err %r" % (status, err)
+    if kind == "in" and depth <= int(searched[1]):
         return "undecided", "%s instants searched, and %d break the claim" % (searched[1].decode(), depth)
     return "undecided", None
 
 
-def place_of(done: Compiled, name: bytes) -> Optional[int]:
-    return done.out_names.index(name) if name in done.out_names else None
-
-
 def judge_claim(asked: Asked, done: Compiled, got: Answer) -> tuple[str, Optional[str]]:
     for name in [asked.signal] + ([asked.assumed] if asked.assumed is not None else []):
-        if place_of(done, name) is None:
+        if name not in done.out_names:
             return "no signal", is_refused(got, NO_SIGNAL, line(b"no outgoing signal " + name))
-    place = place_of(done, asked.signal)
-    assert place is not None
-    assumed = place_of(done, asked.assumed) if asked.assumed is not None else None
-    return judge_verdict(Question(done, asked.claim == b"always", place, assumed), got)
+    question = question_of(done, asked.command == b"always", asked.signal, asked.assumed)
+    return judge_verdict(first_break(question), got, judge_trace(question, got[0]) if got[2] == REFUTED else None)
+
+
+def question_of(done: Compiled, is_always: bool, signal: bytes, assumed: Optional[bytes]) -> Question:
+    place = done.out_names.index(assumed) if assumed is not None else None
+    return Question(done, is_always, done.out_names.index(signal), place)
+
+
+def judge_presence(
+    done: Compiled, name: bytes, assumed: Optional[bytes], word: bytes, rest: Sequence[bytes]
+) -> Optional[str]:
+    """The lines of one signal in a survey: its word, and a trace to an instant with it and to one without it."""
+    shown = set()
+    for is_always, said in ((False, b" present:"), (True, b" absent:")):
+        question, told = question_of(done, is_always, name, assumed), [it for it in rest if it.startswith(name + said)]
+        kind, depth = first_break(question)
+        if word == (b"always" if is_always else b"never") and kind == "in":
+            return "%s of %s, and %d instants break it" % (word.decode(), name.decode(), depth)
+        if len(told) > 1 or (told and kind == "never"):
+            return "a trace of %s%s" % (name.decode(), said.decode())
+        if told:
+            shown.add(is_always)
+            note = judge_trace(question, told[0][len(name + said) : -1], True)
+            if note:
+                return "%s%s %s" % (name.decode(), said.decode(), note)
+    wanted = {b"never": (0,), b"always": (0,), b"sometimes": (2,), b"undecided": (0, 1)}.get(word, ())
+    return None if len(shown) in wanted and len(rest) == len(shown) else "the lines of %s" % name.decode()
+
+
+def judge_survey(asked: Asked, done: Compiled, got: Answer) -> tuple[str, Optional[str]]:
+    out, err, status = got
+    if asked.assumed is not None and asked.assumed not in done.out_names:
+        return "no signal", is_refused(got, NO_SIGNAL, line(b"no outgoing signal " + asked.assumed))
+    lines, is_whole = out.splitlines(keepends=True), True
+    for name in done.out_names:
+        word = re.fullmatch(re.escape(name) + rb" (never|always|sometimes|undecided)\n", lines[0]) if lines else None
+        if word is None:
+            return "survey", "no line of %s" % name.decode()
+        count = 1
+        while count < len(lines) and lines[count].startswith((name + b" present:", name + b" absent:")):
+            count += 1
+        note = judge_presence(done, name, asked.assumed, word[1], lines[1:count])
+        if note:
+            return "survey", note
+        is_whole &= word[1] != b"undecided"
+        lines = lines[count:]
+    said, ends = (b"all signals are decided", PROVED) if is_whole else (b"some signals are undecided", UNDECIDED)
+    return "survey", "stdout" if lines else None if (err, status) == (line(said), ends) else "stderr or status"
+
+
+def judge_comparison(one: Compiled, two: Compiled, got: Answer) -> tuple[str, Optional[str]]:
+    """Where several parts of the interfaces differ, the line may be that of any."""
+    differs = {
+        b"given signals": one.in_names != two.in_names,
+        b"outgoing signals": one.out_names != two.out_names,
+        b"relations": one.relations != two.relations,
+    }
+    lines = [line(b"the " + name + b" differ") for name in differs if differs[name]]
+    if lines:
+        return "other", None if not got[0] and got[1] in lines and got[2] == OTHER else "the interfaces differ"
+    refutation = judge_difference(one, two, got[0]) if got[2] == REFUTED else None
+    return judge_verdict(first_difference(one, two), got, refutation)
 
 
 def judge(case: Case, got: Answer) -> tuple[str, Optional[str]]:
-    """The outcome, and what is amiss."""
-    asked = asked_of(case.words)
-    if asked is None:
-        return "usage", is_refused(got, USAGE, None)
-    if asked.file not in case.files:
-        return "refused", is_refused(got, FILE_FAULT, line(b"cannot read " + asked.file))
+    """The outcome, and what is amiss. Where two files are at fault, the line may be that of either."""
     try:
-        done = compile_source(case.files[asked.file], asked.main)
-    except Outcome as outcome:
-        return "refused", judge_source(outcome, asked.file, got)
-    return judge_claim(asked, done, got)
-
+        asked = asked_of(case.words)
+    except Misuse as misuse:
+        return "usage", is_refused(got, USAGE, line(misuse.words + b", see cec-prove --help"))
+    if asked is None:
+        return "own", None if got[2] == PROVED and got[0] and not got[1] else "an answer about the program"
+    done, faults = [], []
+    for file in asked.files:
+        if file not in case.files:
+            faults.append(is_refused(got, FILE_FAULT, line(b"cannot read " + file)))
+            continue
+        try:
+            done.append(compile_source(case.files[file], asked.main))
+        except Outcome as outcome:
+            faults.append(judge_source(outcome, file, got))
+    if faults:
+        return "refused", None if None in faults else faults[0]
+    if asked.command == b"same":
+        return judge_comparison(done[0], done[1], got)
+    return judge_survey(asked, done[0], got) if asked.command == b"all" else judge_claim(asked, done[0], got)

@@ -1,8 +1,8 @@
 """The third program, `cec-prove`: what it may answer about a claim, by a search of all reachable states.
 
-Stands for `Words`, `Lines` and `Statuses` (crates/cec_prove_commands/specs/), and for `Claims`, `Verdicts` and
-`TraceTexts` (crates/cec_prove_sources/specs/). Whether an answer comes at all is free: `undecided` may come for any
-program.
+Stands for `Words`, `Lines` and `Statuses` (crates/cec_prove_commands/specs/), and for `Claims`, `Verdicts`, `Surveys`,
+`Sameness` and `TraceTexts` (crates/cec_prove_sources/specs/). Whether an answer comes at all is free: `undecided` may
+come for any program.
 """
 
 from __future__ import annotations
@@ -15,34 +15,81 @@ from rules.netlist import NetMachine
 from rules.traces import first_broken
 
 CLAIMS = (b"never", b"always")
-OPTIONS = (b"--assume", b"--main", b"--effort")
-EFFORTS = tuple(b"%d" % number for number in range(1, 10))
-PROVED, USAGE, FILE_FAULT, REFUSED, REFUTED, UNDECIDED, NO_SIGNAL = 0, 2, 3, 4, 20, 21, 22
+COMMANDS = CLAIMS + (b"all", b"same")
+OWN_WORDS = (b"--help", b"--version")
+LEVELS = tuple(b"%d" % number for number in range(1, 10))
+PROVED, USAGE, FILE_FAULT, REFUSED, REFUTED, UNDECIDED, NO_SIGNAL, OTHER = 0, 2, 3, 4, 20, 21, 22, 23
 # A search over more inputs or more reactions than this is given up.
 MOST_INPUTS, MOST_REACTIONS = 6, 6_000
 
 
-class Asked:
-    """A claim about a signal of a source, and the options."""
+class Misuse(Exception):
+    """Words without a meaning, and what is wrong with them."""
 
-    def __init__(self, claim: bytes, signal: bytes, file: bytes, options: dict[bytes, bytes]) -> None:
-        self.claim = claim
+    def __init__(self, words: bytes) -> None:
+        super().__init__(words)
+        self.words = words
+
+
+class Asked:
+    """A command about a source, or two, and the options."""
+
+    def __init__(self, command: bytes, signal: bytes, files: list[bytes], options: dict[bytes, bytes]) -> None:
+        self.command = command
         self.signal = signal
-        self.file = file
+        self.files = files
         self.assumed = options.get(b"--assume")
         self.main = options.get(b"--main")
 
 
+def is_plain(word: bytes) -> bool:
+    return word != b"" and word[:1] != b"-"
+
+
+def plain_word(what: bytes, word: bytes) -> bytes:
+    if not is_plain(word):
+        raise Misuse(b"not a %s: " % what + word)
+    return word
+
+
+def options_of(words: Sequence[bytes], takes_assumed: bool) -> dict[bytes, bytes]:
+    """Options, each at most once, each with its value."""
+    options: dict[bytes, bytes] = {}
+    for at in range(0, len(words), 2):
+        key = words[at]
+        if at + 1 == len(words):
+            raise Misuse(b"no value after " + key)
+        value = words[at + 1]
+        is_known = key == b"--main" or key == b"--effort" or (key == b"--assume" and takes_assumed)
+        is_fit = value in LEVELS if key == b"--effort" else is_plain(value)
+        if key in options or not is_known or not is_fit:
+            raise Misuse(b"bad option: " + key)
+        options[key] = value
+    return options
+
+
 def asked_of(words: Sequence[bytes]) -> Optional[Asked]:
-    """What is asked, or None where the words have no meaning, or are about the program."""
-    if len(words) < 3 or len(words) % 2 == 0 or words[0] not in CLAIMS:
+    """What is asked, or None where the words are about the program."""
+    if not words:
+        raise Misuse(b"no command")
+    command, rest = words[0], list(words[1:])
+    if command in OWN_WORDS:
+        if rest:
+            raise Misuse(b"one word too many: " + rest[0])
         return None
-    options = dict(zip(words[3::2], words[4::2]))
-    is_plain = all(word and word[:1] != b"-" for word in [*words[1:3], *options.values()])
-    is_known = all(name in OPTIONS for name in options) and len(options) == (len(words) - 3) // 2
-    if not is_plain or not is_known or options.get(b"--effort", b"5") not in EFFORTS:
-        return None
-    return Asked(words[0], words[1], words[2], options)
+    if command not in COMMANDS:
+        raise Misuse(b"unknown word: " + command)
+    last, signal, files = command, b"", []
+    if command in CLAIMS:
+        if not rest:
+            raise Misuse(b"no signal after " + command)
+        last = signal = plain_word(b"signal", rest.pop(0))
+    for _ in range(2 if command == b"same" else 1):
+        if not rest:
+            raise Misuse(b"no file after " + last)
+        last = plain_word(b"file", rest.pop(0))
+        files.append(last)
+    return Asked(command, signal, files, options_of(rest, command != b"same"))
 
 
 class Question:
@@ -97,7 +144,37 @@ def first_break(question: Question) -> tuple[str, int]:
     return "never", 0
 
 
-def trace_of(names: Sequence[bytes], events: Sequence[Sequence[bool]]) -> bytes:
-    """The one spelling of a trace: a line for each instant."""
+def first_difference(one: Compiled, two: Compiled) -> tuple[str, int]:
+    """The same about a shortest trace to reactions of two programs that are not the same."""
+    if len(one.in_names) > MOST_INPUTS:
+        return "unknown", 0
+    every = itertools.product((False, True), repeat=len(one.in_names))
+    events = [event for event in every if first_broken(one.relations, event) is None]
+    machines = [NetMachine(done.shape.generate()) for done in (one, two)]
+    start = tuple(tuple(machine.state) for machine in machines)
+    seen, level, reactions, depth = {start}, [start], 0, 0
+    while level:
+        depth += 1
+        following = []
+        for states, event in itertools.product(level, events):
+            reactions += 1
+            if reactions > MOST_REACTIONS:
+                return "unknown", depth - 1
+            answers = []
+            for machine, state in zip(machines, states):
+                machine.state = list(state)
+                answers.append(machine.react(event))
+            if answers[0] != answers[1]:
+                return "in", depth
+            after = tuple(tuple(machine.state) for machine in machines)
+            if after not in seen:
+                seen.add(after)
+                following.append(after)
+        level = following
+    return "never", 0
+
+
+def trace_of(names: Sequence[bytes], events: Sequence[Sequence[bool]], is_one_line: bool = False) -> bytes:
+    """The one spelling of a trace: a line for each instant, or all in one line."""
     words = [b"".join(name + b" " for name, bit in zip(names, event) if bit) for event in events]
-    return b"".join(word + b";\n" for word in words)
+    return b"".join(b" " + word + b";" if is_one_line else word + b";\n" for word in words)

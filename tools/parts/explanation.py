@@ -6,11 +6,13 @@ from typing import NamedTuple
 import lint
 from cycles import compared_kernels, cures_of, steps_of, wires_in
 from faults import why_bad_byte, why_bad_count, why_bad_renaming
+from habits import habit_note
+from limits import limit_notes
 from places import compared_places
 from porting import row_at
-from program import CYCLIC, DONE, STATIC, ask, main_words, read
+from program import CYCLIC, DONE, LIMIT, STATIC, ask, main_words, read
 from source import all_statements, modules_of
-from syntax import PLACE, fault_of, habit_note, in_words, tokens_that_could
+from syntax import PLACE, fault_of, in_words, tokens_that_could
 from tokens import Unread, byte_at, line_and_column, line_at
 
 NOTES = {
@@ -20,7 +22,11 @@ NOTES = {
     "recursive run": "a module cannot run itself, directly or through others",
     "input emitted": "an input comes from outside; declare a signal that is both as inputoutput",
     "instantaneous loop": "the body of this loop can end in the instant in which it starts; put a pause on each way through it",
-    "limit": "docs/formats.md lists the limits",
+}
+WHERE_DECLARED = {
+    "signal": "declare it: `input NAME;` or `output NAME;` before the body, or `signal NAME in p end` around its use",
+    "trap": "an `exit NAME` is inside of its block, `trap NAME in .. end`",
+    "module": "a file has all its modules: write `module NAME: .. end module` into it",
 }
 FIRST_IS = {"module declared twice": "module", "signal declared twice": "signal"}
 # Faults of tokens, which the program reports before any fault of the grammar.
@@ -87,6 +93,10 @@ def near_names(page, at, kind):
     near = difflib.get_close_matches(name.lower(), names, 3, 0.6)
     if near:
         page.add(at, "note", "did you mean %s?" % " or ".join(names[it] for it in near))
+    elif name in names.values() or name in names_of_kind(page.text, at, kind):
+        page.add(at, "note", "the %s %s is not visible here, outside of its body" % (kind, name))
+    else:
+        page.add(at, "note", WHERE_DECLARED[kind].replace("NAME", name))
 
 
 def earlier_name(page, at):
@@ -215,6 +225,14 @@ def explain_cycle(page, line, main, wants_cures):
             page.add(first.kernel.place[0], "note", "no single `pause;` breaks all cycles; docs/cycles.md has other cures")
 
 
+def explain_limit(page, line, main):
+    """The notes about a limit that the source passes."""
+    page.add(None, "error", line)
+    for at, words in limit_notes(page.text, main, line.removeprefix("limit: ")):
+        page.add(at, "note", words, at is not None)
+    page.add(None, "note", "docs/formats.md lists the limits")
+
+
 def explain_lint(page, file, main):
     """The warnings about a source that is accepted."""
     agrees = compared_places(file, page.text, main) is not None
@@ -227,15 +245,15 @@ def explained(file, main=None, wants_cures=True, wants_lint=False, shown=None):
     """The page of a file, and the status of `cec check`; the lines have the shown name where one is given."""
     answer = ask("check", *main_words(main), file)
     line = answer.err.decode("latin-1").strip()
-    page = Page(shown or file, read(file) if answer.status in (DONE, STATIC, CYCLIC) else "")
+    page = Page(shown or file, read(file) if answer.status in (DONE, STATIC, CYCLIC, LIMIT) else "")
     if answer.status == STATIC:
         explain_static(page, line)
     elif answer.status == CYCLIC:
         explain_cycle(page, line, main, wants_cures)
+    elif answer.status == LIMIT:
+        explain_limit(page, line.removeprefix("cec: "), main)
     elif answer.status != DONE:
         page.add(None, "error", line.removeprefix("cec: "))
-        if line.removeprefix("cec: ").startswith("limit"):
-            page.add(None, "note", NOTES["limit"])
     elif wants_lint:
         explain_lint(page, file, main)
     return page, answer.status

@@ -60,6 +60,7 @@ ROWS = {
     ),
     "copymodule": Row("copymodule M [signal A/X]", "run M [signal A/X]", "the older name"),
     "instance": Row("run N/M [signal A/X]", "run M [signal A/X]", "a run has no name of its own"),
+    "run signals": Row("run M [signal A/X; signal B/Y]", "run M [signal A/X, B/Y]", "one `signal` begins the list; `;` separates lists of other kinds"),
     "run constant": Row("run M [signal A/X; constant 5/LIMIT]", "run M [signal A/X]", "only signals are renamed"),
     "pre": Row(
         "present pre(S) then p end",
@@ -90,7 +91,7 @@ WORDS = {
 
 
 def row_of_do(text, at):
-    """The row of a `do` that begins a statement: the word that ends it says which."""
+    """The row of a `do` that begins a statement: the word that ends it says which; none where no such word follows."""
     depth, last = 0, None
     tokens = readable_tokens(text[at:])
     for token, after in zip(tokens, tokens[1:]):
@@ -101,7 +102,7 @@ def row_of_do(text, at):
             if depth == 0:
                 return ROWS["upto"] if token.text == "upto" else ROWS[row_of_watching(text[at + token.start :], after)]
         last = token.text
-    return ROWS["watching"]
+    return None
 
 
 def row_of_watching(rest, after):
@@ -155,12 +156,17 @@ def row_at(text, at, expected):
         return ROWS["pre"]
     if now.kind == "/" and len(before) > 1 and before[-2].kind == "run":
         return ROWS["instance"]
-    if re.match(r";?\s*constant\b", text[at:]) and is_in_run(before):
-        return ROWS["run constant"]
+    if is_in_run(before) and (now.kind == ";" or now.text in ("constant", "type", "function", "procedure", "task")):
+        is_other = re.match(r";?\s*(constant|type|function|procedure|task)\b", text[at:])
+        return ROWS["run constant" if is_other else "run signals"]
     if re.match(r"\w+\s*:=", text[at:]):
         return ROWS["var"]
     if now.kind == ":" and any(token.kind in ("input", "inputoutput") for token in before[-12:]):
         return ROWS["input value"]
-    if now.kind in ("(", ":") and last.kind == "name":
+    if now.kind in ("(", ":") and last.kind == "name" and not (len(before) > 1 and before[-2].kind == "run"):
         return ROWS["values"]
+    if now.text == "timeout":
+        return ROWS["timeout"]
+    if now.text == "if" and not ("halt" in expected and re.match(r"if\b[^;{]*?(\?|<|>|=)", text[at:])):
+        return None
     return ROWS[WORDS[now.text]] if now.text in WORDS else None

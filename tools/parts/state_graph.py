@@ -2,6 +2,7 @@
 import shutil
 import subprocess
 import tempfile
+from collections import Counter
 
 from automaton import Automaton, replay
 from blif import blif_of
@@ -27,7 +28,7 @@ class Graph:
         self.numbers = automaton.classes() if merges else own
         self.exact = automaton.edges(own)
         self.edges = automaton.edges(self.numbers) if merges else self.exact
-        self.members = {}
+        self.members, self.common = {}, None
         for state, number in enumerate(self.numbers):
             self.members.setdefault(number, []).append(state)
 
@@ -54,11 +55,18 @@ class Graph:
         """Whether the program waits in a state: some step into it says so."""
         return any(edge.pauses for edge in self.exact if edge.end == state)
 
+    def telling(self, waits):
+        """Of some places at which the program waits the few that are shown: those that the fewest states have, in order."""
+        if self.common is None:
+            self.common = Counter(wait for number in self.members for wait in self.waits(self.members[number][0]))
+        rare = sorted(waits, key=lambda it: self.common[it])[:SHOWN_WAITS]
+        return [wait for wait in waits if wait in rare]
+
     def label(self, number):
         """The lines of a state: its name, what it waits for, and how many states it stands for."""
         lines = [self.name(number)]
         waits = self.waits(self.members[number][0])
-        lines += waits[:SHOWN_WAITS] + (["and %d more" % (len(waits) - SHOWN_WAITS)] if len(waits) > SHOWN_WAITS else [])
+        lines += self.telling(waits) + (["and %d more" % (len(waits) - SHOWN_WAITS)] if len(waits) > SHOWN_WAITS else [])
         if len(self.members[number]) > 1:
             lines.append("%d states alike" % len(self.members[number]))
         return lines

@@ -1,47 +1,14 @@
 """What could stand at the place of a syntax fault: the program is asked, token by token, whether the fault moves on."""
-import difflib
 import os
 import re
 import tempfile
 from concurrent.futures import ThreadPoolExecutor
 
+from habits import STATEMENTS
 from program import DONE, ask, main_words
-from tokens import MARKS, WORDS, byte_at, readable_tokens
+from tokens import MARKS, WORDS, byte_at
 
-# Words that begin a statement, and those that begin a test.
-STATEMENTS = frozenset(
-    "abort await emit every exit halt loop nothing pause positive present repeat run signal suspend sustain trap weak [".split()
-)
 PLACE = re.compile(r"cec: (\d+):(\d+): (.*)")
-MARKS_OF_OTHERS = {
-    "//": "a comment is written `%` and the rest of the line",
-    "/*": "a comment is written `%{ .. }%`",
-    "||": "`||` runs two statements in parallel; a test has `or`",
-}
-TESTS = ("await", "when", "every", "each", "immediate")
-
-
-def habit_note(text, at, expected):
-    """What is written here in place of a habit from other languages, or of a word with a slip; none where nothing is known."""
-    before, now = readable_tokens(text[:at])[:-1], readable_tokens(text[at:])[0]
-    last = before[-1].kind if before else ""
-    for mark, note in MARKS_OF_OTHERS.items():
-        if text[at:].startswith(mark) or (mark != "||" and text[at - 1 :].startswith(mark)):
-            return note
-    if now.kind in ("and", "or") and last in ("name", "tick", "]"):
-        return "a test of several signals is put between brackets: `[A %s B]`" % now.kind
-    if now.kind == "not" and last in (*TESTS, "number"):
-        return "a negation is put between brackets: `[not A]`"
-    if now.kind == "," and len(before) > 1 and before[-2].kind in ("emit", "sustain", "exit", "await"):
-        return "`%s` takes one name; write one for each, with `;` between" % before[-2].kind
-    if now.kind == "immediate" and last == "each":
-        return "`loop .. each` starts at once by itself, so it has no `immediate`"
-    near = difflib.get_close_matches(now.text, [it for it in expected if it.isalpha()], 1, 0.7) if now.kind == "name" else []
-    if near:
-        return "did you mean `%s`?" % near[0]
-    if now.kind == "name" and "emit" in expected:
-        return "a statement begins with a word such as `emit` or `await`, and not with a name"
-    return None
 
 
 def asked(text, main=None, command="check"):

@@ -1,0 +1,88 @@
+"""What the reference says of answers of `cec-prove`, right ones and wrong ones, about sources of a few lines."""
+
+import unittest
+
+from fuzzing.cases import Case
+from fuzzing.claims import judge
+
+ABRO = b"module ABRO: input A, B, R; output O; loop [ await A || await B ]; emit O each R end module"
+BY_HAND = (
+    b"module ABRO: input A, B, R; output O; loop await [A or B]; present [A and B] else"
+    b" present A then await B else await A end end; emit O each R end module"
+)
+AT_ONCE = ABRO.replace(b"await A", b"await immediate A")
+FILES = {b"f": ABRO, b"g": BY_HAND, b"h": AT_ONCE, b"o": ABRO.replace(b"O", b"P"), b"x": b"module M"}
+PROVED, REFUTED = b"cec-prove: proved\n", b"cec-prove: refuted\n"
+ALL = b"cec-prove: all signals are decided\n"
+SOME = b"cec-prove: some signals are undecided\n"
+SEE = b", see cec-prove --help\n"
+# The words, standard output, standard error and the status of an answer that is right.
+RIGHT = [
+    (b"never O f", b";\nA B ;\n", REFUTED, 20),
+    (b"never O f", b";\nA ;\nB ;\n", REFUTED, 20),
+    (b"never O f", b"", b"cec-prove: undecided, instants searched: 1\n", 21),
+    (b"never P f", b"", b"cec-prove: no outgoing signal P\n", 22),
+    (b"always O f --assume Q", b"", b"cec-prove: no outgoing signal Q\n", 22),
+    (b"all f", b"O sometimes\nO present: ; A B ;\nO absent: ;\n", ALL, 0),
+    (b"all f", b"O undecided\nO absent: ;\n", SOME, 21),
+    (b"same f g", b"", PROVED, 0),
+    (b"same f g --effort 3", b"", b"cec-prove: undecided, instants searched: 9\n", 21),
+    (b"same f h", b"A ;\nB ;\n", REFUTED, 20),
+    (b"same f o", b"", b"cec-prove: the outgoing signals differ\n", 23),
+    (b"same f x", b"", b"cec: 1:9: syntax\n", 4),
+    (b"same f nofile", b"", b"cec-prove: cannot read nofile\n", 3),
+    (b"", b"", b"cec-prove: no command" + SEE, 2),
+    (b"never", b"", b"cec-prove: no signal after never" + SEE, 2),
+    (b"never O", b"", b"cec-prove: no file after O" + SEE, 2),
+    (b"same f", b"", b"cec-prove: no file after f" + SEE, 2),
+    (b"all -f", b"", b"cec-prove: not a file: -f" + SEE, 2),
+    (b"same f g --assume O", b"", b"cec-prove: bad option: --assume" + SEE, 2),
+    (b"all f --effort 0", b"", b"cec-prove: bad option: --effort" + SEE, 2),
+    (b"all f --main", b"", b"cec-prove: no value after --main" + SEE, 2),
+    (b"--help f", b"", b"cec-prove: one word too many: f" + SEE, 2),
+    (b"prove O f", b"", b"cec-prove: unknown word: prove" + SEE, 2),
+]
+# The same of answers that are wrong, each with a part of what is amiss.
+WRONG = [
+    (b"never O f", b"", PROVED, 0, "2 instants break the claim"),
+    (b"never O f", b";\nA ;\n", REFUTED, 20, "does not break the claim"),
+    (b"never O f", b";\nA B ;\nA ;\n", REFUTED, 20, "before the last instant"),
+    (b"never O f", b"; A B ;\n", REFUTED, 20, "another spelling"),
+    (b"never O f", b"", REFUTED, 20, "no instant"),
+    (b"never O f", b"", b"cec-prove: undecided, instants searched: 2\n", 21, "2 instants searched"),
+    (b"always O f", b"", PROVED, 0, "1 instants break the claim"),
+    (b"never P f", b"", PROVED, 0, "status"),
+    (b"all f", b"", ALL, 0, "no line of O"),
+    (b"all f", b"O never\n", ALL, 0, "never of O"),
+    (b"all f", b"O sometimes\n", ALL, 0, "the lines of O"),
+    (b"all f", b"O sometimes\nO present: ; A ;\nO absent: ;\n", ALL, 0, "does not break the claim"),
+    (b"all f", b"O undecided\nO absent: ;\n", ALL, 0, "stderr or status"),
+    (b"all f", b"O sometimes\nO present: ; A B ;\nO absent: ;\nP never\n", ALL, 0, "stdout"),
+    (b"same f h", b"", PROVED, 0, "2 instants break the claim"),
+    (b"same f h", b"A ;\n;\n", REFUTED, 20, "its last reactions are the same"),
+    (b"same f g", b"A ;\nB ;\n", REFUTED, 20, "no state breaks the claim"),
+    (b"same f o", b"", b"cec-prove: the given signals differ\n", 23, "the interfaces differ"),
+    (b"same f x", b"", PROVED, 0, "status"),
+    (b"same f", b"", b"cec-prove: no file after same" + SEE, 2, "stderr"),
+]
+
+
+def note_of(words: bytes, out: bytes, err: bytes, status: int) -> str:
+    """What is amiss with an answer, in words."""
+    return judge(Case("prove", "cec-prove", words.split(), FILES), (out, err, status))[1] or ""
+
+
+class TestClaims(unittest.TestCase):
+    def test_right_answers(self) -> None:
+        for words, out, err, status in RIGHT:
+            with self.subTest(words=words, out=out):
+                self.assertEqual(note_of(words, out, err, status), "")
+
+    def test_wrong_answers(self) -> None:
+        for words, out, err, status, part in WRONG:
+            with self.subTest(words=words, out=out, err=err):
+                self.assertIn(part, note_of(words, out, err, status))
+
+
+if __name__ == "__main__":
+    unittest.main()

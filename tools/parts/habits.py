@@ -1,0 +1,163 @@
+"""What people write from other languages, or by a slip, and what to write here: notes about a fault of syntax."""
+import difflib
+
+from indentation import NAMED_ENDS
+from source import Reader
+from tokens import Unread, line_and_column, readable_tokens
+
+# Words that begin a statement.
+STATEMENTS = frozenset(
+    "abort await emit every exit halt loop nothing pause positive present repeat run signal suspend sustain trap weak [".split()
+)
+
+MARKS_OF_OTHERS = {
+    "//": "a comment is written `%` and the rest of the line",
+    "/*": "a comment is written `%{ .. }%`",
+    "||": "`||` runs two statements in parallel; a test has `or`",
+}
+TESTS = ("await", "when", "every", "each", "immediate")
+# Words of other languages at the place of a statement.
+STATEMENTS_OF_OTHERS = {
+    ("if",): "a test of a signal is written `present A then p else q end`",
+    ("while", "until"): "a loop that ends at an event is written `abort loop p end when e`",
+    ("for", "foreach"): "`repeat 3 times p end` runs p three times, and `await 3 A` waits for the third A",
+    ("switch", "select", "match"): "tests in turn are written `present case A do p case B do q end`",
+    ("begin", "par", "fork", "parallel", "do"): "statements are grouped by `[ .. ]`, and `[ p || q ]` runs two in parallel",
+    ("goto", "break", "continue", "return", "leave"): "`exit T` leaves the block `trap T in .. end`",
+    ("throw", "raise"): "`exit T` leaves the block `trap T in .. end`",
+    ("set", "assign", "output", "send", "signals"): "`emit S` makes S present at this instant, `sustain S` at every instant",
+    ("delay", "sleep", "timer"): "`await 3 TICK` waits for the third TICK, an input that a timer gives",
+    ("when", "on"): "`every A do p end` runs p at each A, and `await A; p` at the next one",
+    ("always", "initial", "process"): "a module's body starts once; `every A do p end` runs p at each A",
+    ("local", "wire", "reg", "bool", "boolean", "int"): "a local signal is declared by `signal S in p end`, and has no value",
+    ("call", "start", "instance"): "the body of another module is run by `run M [signal A/X]`",
+}
+NOTE_OF_WORD = {word: note for words, note in STATEMENTS_OF_OTHERS.items() for word in words}
+# What to say where a single word could follow and another token does.
+IN_PLACE = {
+    "do": "`do` is missing here",
+    "times": "`times` is missing here: `repeat 3 times p end`",
+    "in": "`in` is missing here: `signal S in p end`, `trap T in p end`",
+    "then": "`then` is missing here",
+}
+
+
+def about_mark(text, at):
+    """A note about a mark of another language at a place."""
+    for mark, note in MARKS_OF_OTHERS.items():
+        if text[at:].startswith(mark) or (mark != "||" and text[at - 1 :].startswith(mark)):
+            return note
+    return None
+
+
+def about_renaming(before, now, expected):
+    """A note about the renamings of a `run`."""
+    if now.kind == "(" and len(before) > 1 and before[-2].kind == "run":
+        return "a module has no list of arguments: `run M [signal A/X]` gives A of this module as X of M"
+    if expected == ["signal"]:
+        return "a renaming begins with its kind: `run M [signal A/X]`, the name here first"
+    if now.kind == "signal" and [token.kind for token in before[-1:]] == [","]:
+        return "one `signal` begins the whole list: `run M [signal A/X, B/Y]`"
+    return None
+
+
+def about_test(before, now, last):
+    """A note about a test or a delay."""
+    if now.kind in ("and", "or") and last in ("name", "tick", "]"):
+        return "a test of several signals is put between brackets: `[A %s B]`" % now.kind
+    if now.kind == "not" and last in (*TESTS, "number"):
+        return "a negation is put between brackets: `[not A]`"
+    if now.kind == "immediate" and last == "each":
+        return "`loop .. each` starts at once by itself, so it has no `immediate`"
+    if last == "name" and before[-1].text in ("rising", "falling", "posedge", "negedge", "rise", "fall"):
+        return "a signal is present at single instants and has no edges: give the edge as an input of its own"
+    if now.kind == "name" and last == "repeat":
+        return "the number of turns is written as a number; a loop that ends at an event is `abort loop p end when e`"
+    return None
+
+
+class Opened(Reader):
+    """A reader of tokens that knows which statements are open where it stops, and which one ended last."""
+
+    def __init__(self, text):
+        super().__init__(text)
+        self.opened, self.ended = [], None
+
+    def item(self):
+        token = self.tokens[self.at]
+        self.opened.append(token)
+        statement = super().item()
+        self.opened.pop()
+        if self.tokens[self.at - 1].kind == "end":
+            self.ended = token
+        return statement
+
+
+def about_end(text, at, before, now):
+    """A note about an `end`, or the end of the text, where another statement is open than the one that is meant."""
+    if not before or now.kind not in ("", *NAMED_ENDS) or (now.kind == "" and text[at:].strip()):
+        return None
+    reader = Opened(text[:at])
+    try:
+        reader.program()
+    except Unread:
+        pass
+    if before[-1].kind == "end" and now.kind and reader.ended:
+        line = line_and_column(text, reader.ended.start)[0]
+        return "this `end` ends the `%s` of line %d: an `end` is missing before it" % (reader.ended.kind, line)
+    if now.kind == "" and reader.opened and reader.opened[-1].kind not in ("emit", "sustain", "exit", "run"):
+        line = line_and_column(text, reader.opened[-1].start)[0]
+        return "the text ends, and the `%s` of line %d is still open" % (reader.opened[-1].kind, line)
+    return "a module ends with `end module`" if now.kind == "" else None
+
+
+def about_missing(text, before, now, last, expected):
+    """A note about a mark or a word that is missing at a place, or that another stands for."""
+    if now.kind == ";" and last == ";":
+        return "one `;` separates two statements"
+    if now.kind in ("then", "do") and {"then", "do"} & set(expected):
+        return "write `%s` here" % ("do" if now.kind == "then" else "then")
+    if now.text in ("when", "for", "while", "until", "if") and [token.kind for token in before[-2:]] in (["emit", "name"], ["sustain", "name"]):
+        head, name = before[-2].kind, before[-1].text
+        if head == "emit" and now.text in ("when", "if"):
+            return "`present A then emit %s end` emits where A is present" % name
+        return "`abort sustain %s when 3 TICK` emits %s up to the third TICK, and not with it" % (name, name)
+    if now.kind in STATEMENTS and ";" in expected:
+        return "`;` is missing before this statement, or `||`"
+    only = [word for word in expected if word not in ("and", "or", "else", "end", ",")]
+    if len(only) == 1 and only[0] in IN_PLACE and now.kind not in ("name", "number"):
+        return IN_PLACE[only[0]]
+    return None
+
+
+def about_word(now, last, expected):
+    """A note about a word that begins no statement."""
+    near = difflib.get_close_matches(now.text, [it for it in expected if it.isalpha()], 1, 0.7) if now.kind == "name" else []
+    if near:
+        return "did you mean `%s`?" % near[0]
+    if "emit" not in expected:
+        return "`end` is followed by the word that began its statement, or by none" if last == "end" and "||" in expected else None
+    if now.text.lower() in NOTE_OF_WORD:
+        return NOTE_OF_WORD[now.text.lower()]
+    if now.kind == "name":
+        return "a statement begins with a word such as `emit` or `await`, and not with a name"
+    return None
+
+
+def habit_note(text, at, expected):
+    """What is written here in place of a habit from other languages, or of a slip; none where nothing is known."""
+    before, now = readable_tokens(text[:at])[:-1], readable_tokens(text[at:])[0]
+    last = before[-1].kind if before else ""
+    if now.kind == "," and len(before) > 1 and before[-2].kind in ("emit", "sustain", "exit", "await"):
+        return "`%s` takes one name; write one for each, with `;` between" % before[-2].kind
+    if now.kind == "module" and last == ".":
+        return None
+    looks = (
+        about_mark(text, at),
+        about_renaming(before, now, expected),
+        about_test(before, now, last),
+        about_end(text, at, before, now),
+        about_missing(text, before, now, last, expected),
+        about_word(now, last, expected),
+    )
+    return next((note for note in looks if note), None)

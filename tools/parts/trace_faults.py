@@ -1,0 +1,127 @@
+"""Why the program refuses a trace, as notes at places of it, and a warning about a first instant whose inputs change nothing."""
+import difflib
+import os
+import re
+import tempfile
+
+from explanation import Page
+from program import DONE, TRACE, ask, main_words, read, write_file
+from source import modules_of
+from tokens import Unread, line_and_column
+from traces import RESET
+
+FAULT = re.compile(r"cec: (?:instant (\d+)|byte (\d+)): (.*)")
+FIRST = "the inputs of the first instant change nothing: an `await` does not see the instant in which it starts"
+
+
+def groups_at(text):
+    """The places of the instants of a trace, resets not counted: where each begins and where it ends."""
+    plain = re.sub(r"%[^\n]*", lambda it: " " * len(it[0]), text)
+    found, start = [], 0
+    for part in re.findall(r"[^;]*;?", plain):
+        end = start + len(part)
+        if part.strip() and part.rstrip(";").strip() != RESET:
+            found.append((start + len(part) - len(part.lstrip()), end))
+        start = end
+    return found
+
+
+def main_module(source, main):
+    """The main module of a source; none where this reading does not follow it."""
+    try:
+        return next((it for it in modules_of(read(source)) if main in (None, it.name.name)), None)
+    except Unread:
+        return None
+
+
+def name_at(text, place, name, last=False):
+    """Where a name is in an instant, its first or its last occurrence."""
+    found = [it.start() for it in re.finditer(r"(?<!\w)%s(?!\w)" % re.escape(name), text[place[0] : place[1]])]
+    return place[0] + (found[-1 if last else 0] if found else 0)
+
+
+def unknown_input(page, at, name, module):
+    """What could be meant by a name that is no input."""
+    given = [it.name for kind in ("input", "inputoutput") for it in module.signals[kind]] if module else []
+    near = difflib.get_close_matches(name.lower(), {it.lower(): it for it in given}, 3, 0.6)
+    if "," in name:
+        page.add(at, "note", "names are separated by spaces, without commas")
+    elif module and name in [it.name for it in module.signals["output"]]:
+        page.add(at, "note", "%s is an output; a trace has the inputs of each instant" % name)
+    elif near:
+        page.add(at, "note", "did you mean %s?" % " or ".join(it for it in given if it.lower() in near))
+    else:
+        page.add(at, "note", "the inputs of the program: %s" % (", ".join(given) or "none"))
+
+
+def broken_relation(page, at, number, source, module):
+    """The words of a relation that an instant breaks."""
+    if module and number <= len(module.relations):
+        kind, names = module.relations[number - 1]
+        words = (" %s " % kind).join(it.name for it in names)
+        line = line_and_column(read(source), names[0].start)[0]
+        meant = "no two of these are present in one instant" if kind == "#" else "where the first is present, the second is too"
+        page.add(at, "note", "relation %d is `%s`, in line %d of %s: %s" % (number, words, line, source, meant))
+
+
+def trace_fault(page, line, source, main):
+    """The notes about a fault of a trace."""
+    match = FAULT.match(line)
+    if not match:
+        page.add(None, "error", line.removeprefix("cec: "))
+        return
+    words, groups, module = match[3], groups_at(page.text), main_module(source, main)
+    if match[2]:
+        page.add(int(match[2]), "error", words)
+        page.add(int(match[2]), "note", "a trace has names, spaces, `;`, and comments after `%`")
+        return
+    place = groups[int(match[1]) - 1] if int(match[1]) <= len(groups) else (len(page.text), len(page.text))
+    fault, _, name = words.rpartition(" ")
+    at = name_at(page.text, place, name, fault == "repeated") if fault in ("unknown input", "repeated") else place[0]
+    page.add(at, "error", "instant %s: %s" % (match[1], words))
+    if fault == "unknown input":
+        unknown_input(page, at, name, module)
+    elif fault == "breaks relation":
+        broken_relation(page, at, int(name), source, module)
+    elif fault == "repeated":
+        page.add(at, "note", "each input is given once in an instant")
+    elif words == "open":
+        page.add(at, "note", "each instant ends with `;`, the last one too")
+    elif words == "bad reset":
+        page.add(at, "note", "a reset is a group of its own: `%s;`" % RESET)
+
+
+def lines_of_run(source, main, text):
+    """The lines of a run over a trace; none where it is refused."""
+    with tempfile.TemporaryDirectory() as folder:
+        name = os.path.join(folder, "shown.trace")
+        write_file(name, text)
+        answer = ask("run", "--via", "blif", *main_words(main), source, name)
+    return answer.out if answer.status == DONE else None
+
+
+def first_instant(page, source, main):
+    """A warning about inputs of the first instant that change no line: the program is asked without them."""
+    groups = groups_at(page.text)
+    if not groups or page.text[: groups[0][0]].count(RESET) or not page.text[groups[0][0] : groups[0][1]].rstrip(";").strip():
+        return
+    start, end = groups[0]
+    without = page.text[:start] + re.sub(r"[^;\n]", " ", page.text[start:end]) + page.text[end:]
+    lines = lines_of_run(source, main, page.text)
+    if lines is not None and lines == lines_of_run(source, main, without):
+        page.add(start, "warning", FIRST)
+        page.add(start, "note", "begin the trace with an empty instant, `;`")
+
+
+def trace_explained(trace, source, main=None, wants_lint=False):
+    """The page of a trace, and the status of `cec run` over it."""
+    answer = ask("run", "--via", "blif", *main_words(main), source, trace)
+    page = Page(trace, read(trace) if answer.status in (DONE, TRACE) else "")
+    lines = answer.err.decode("latin-1").strip().splitlines()
+    if answer.status == TRACE:
+        trace_fault(page, lines[-1], source, main)
+    elif answer.status != DONE:
+        page.add(None, "error", lines[-1].removeprefix("cec: ") if lines else "status %d" % answer.status)
+    elif wants_lint:
+        first_instant(page, source, main)
+    return page, answer.status
