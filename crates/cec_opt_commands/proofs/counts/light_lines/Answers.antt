@@ -7,8 +7,7 @@ use Rattle.cec_opt_commands.proofs.counts.light_lines.Goals as goal
 pub returns : goal.returns
 returns c = λ p h.
     let before = counts_line (netlist_of c.args.compiled.net) in
-    let after = c.in_ok-after.ensures p h in
-    (
+    let after = c.in_ok-after.ensures p h in (
       after.0,
       after.1,
       c.in_ok-lines.ensures ∙ ap (λ l. l ++ (c.deref-2.result.now ++ [])) (c.deref.ensures.value ∙ c.in_ok-before.ensures)
