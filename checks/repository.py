@@ -400,8 +400,10 @@ PROOF_NAMES = re.compile(r"^(?:pub )?use Rattle\.(\w+)\.proofs\.([A-Z]\w*)\.\{(.
 PROOF_RULES = re.compile(r"\busing\((?:[^()]*\b)?(\w+)::proofs::(\w+)::(\w+)")
 
 
-# Laws that no other crate uses, for callers of a public call: what a flat program that `est_front::flat_program` gives keeps.
-FOR_CALLERS = {("est_front", "flattens-flat")}
+# Laws that no other crate uses, for callers of public calls: what a flat program keeps that `est_front::flat_program` gives, and what a
+# caller of `net_cycles::cycle_nets` needs of netlists that do what a program means.
+FOR_CALLERS = {("est_front", "flattens-flat"), ("net_gen", "leaves-false"), ("net_gen", "next-many")}
+FOR_CALLERS |= {("cec_prove_sources", name) for name in ["allowed", "each-event", "optimized-outputs", "replaced-keeps"]}
 
 
 def exports_are_listed():

@@ -135,12 +135,8 @@ fn none_of(values: &[bool]) -> bool
     true
 }
 
-/// The values of the given signals in an event.
-pub(crate) fn values_in(
-    alloc: Global,
-    program: &KernelProgram,
-    event: &str,
-) -> Result<Vec<bool>, AllocError> {
+// The values of the given signals in an event.
+fn values_in(alloc: Global, program: &KernelProgram, event: &str) -> Result<Vec<bool>, AllocError> {
     let count = program.inputs as usize + program.both as usize;
     let mut values = Vec::new(alloc);
     for signal in program.signals.iter().take(count) {
@@ -173,8 +169,8 @@ fn line(alloc: Global, program: &KernelProgram, reaction: &Reaction) -> Result<S
     Ok(emitted)
 }
 
-/// The values of a net's latches in the first instant.
-pub(crate) fn first_latches(alloc: Global, net: &Net) -> Result<Vec<bool>, AllocError> {
+// The values of a net's latches in the first instant.
+fn first_latches(alloc: Global, net: &Net) -> Result<Vec<bool>, AllocError> {
     let mut values = Vec::new(alloc);
     for latch in &net.latches {
         values.push(latch.init)?;
@@ -182,8 +178,8 @@ pub(crate) fn first_latches(alloc: Global, net: &Net) -> Result<Vec<bool>, Alloc
     Ok(values)
 }
 
-/// The values of all nets, from those of the inputs and of the latches.
-pub(crate) fn net_values(
+// The values of all nets, from those of the inputs and of the latches.
+fn net_values(
     alloc: Global,
     net: &Net,
     given: &[bool],
@@ -210,18 +206,14 @@ fn op_value(values: &[bool], op: Op) -> bool {
     }
 }
 
-/// The value of a net; false where it has none.
-pub(crate) fn value_of(values: &[bool], net: NetId) -> bool {
+// The value of a net; false where it has none.
+fn value_of(values: &[bool], net: NetId) -> bool {
     let at = net.0 as usize;
     at < values.len() && values[at]
 }
 
-/// The values that the latches have in the next instant.
-pub(crate) fn next_latches(
-    alloc: Global,
-    net: &Net,
-    values: &[bool],
-) -> Result<Vec<bool>, AllocError> {
+// The values that the latches have in the next instant.
+fn next_latches(alloc: Global, net: &Net, values: &[bool]) -> Result<Vec<bool>, AllocError> {
     let mut next = Vec::new(alloc);
     for latch in &net.latches {
         next.push(value_of(values, latch.from))?;

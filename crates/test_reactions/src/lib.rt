@@ -6,8 +6,6 @@
 #![tactic(auto)]
 
 #[cfg(test)]
-mod cycles;
-#[cfg(test)]
 mod graphs;
 #[cfg(test)]
 mod sharing;
