@@ -5,6 +5,3 @@ returns-in-Some-Do-clause-err g c = rw (← c.in-Some-Do.ensures, c.in-Some-Do.f
 
 pub returns-in-Some-Tell-clause-err : goal.returns-in-Some-Tell-clause-err
 returns-in-Some-Tell-clause-err g c = rw (← c.in-Some-Tell.ensures, c.in-Some-Tell.field-0-is) c.tell.ensures.err
-
-pub returns-in-Some-Make-clause-err : goal.returns-in-Some-Make-clause-err
-returns-in-Some-Make-clause-err g c = rw (← c.in-Some-Make.ensures, c.in-Some-Make.field-0-is) c.do_source.ensures.err

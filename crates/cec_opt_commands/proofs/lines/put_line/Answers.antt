@@ -14,6 +14,3 @@ returns-in-WriteFault g c = rw c.in-WriteFault.is c.put_said-in-WriteFault.ensur
 
 pub returns-in-NoMemory : goal.returns-in-NoMemory
 returns-in-NoMemory g c = rw c.in-NoMemory.is c.put_said-in-NoMemory.ensures
-
-pub returns-in-Refused : goal.returns-in-Refused
-returns-in-Refused g c = rw (c.in-Refused.is, ← c.refused_of.ensures.refused) c.put_refusal.ensures
