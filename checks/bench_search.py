@@ -1,7 +1,8 @@
 """The table of the SAT search: drawn questions, side by side with minisat and cadical of Debian.
 
 Every question is a text in DIMACS form, which test_dimacs, minisat and cadical read. test_dimacs checks each clause that it learns;
-cadical is measured without and with a proof, which nothing checks."""
+cadical is measured without and with a proof, which nothing checks. minisat is measured with and without the preprocessing that
+eliminates variables, which test_dimacs does not have."""
 import itertools
 import os
 import random
@@ -190,6 +191,7 @@ def answered(tool, path, folder):
     """Whether a tool finds a text satisfiable, with its processor time and its peak memory."""
     words = {
         "minisat": ["minisat", "-verb=0", path],
+        "minisat, plain": ["minisat", "-verb=0", "-no-pre", path],
         "cadical": ["cadical", "-q", "-n", path],
         "cadical, proof": ["cadical", "-q", "-n", path, folder / "proof"],
         "test_dimacs": [SEARCH],
@@ -206,7 +208,7 @@ def answered(tool, path, folder):
 
 def search_table(folder):
     """One row for each family: the sums of processor time, the greatest memory, and whether all tools agree."""
-    tools = [it for it in ("minisat", "cadical", "cadical, proof") if shutil.which(it.split(",")[0])] + ["test_dimacs"]
+    tools = [it for it in ("minisat", "minisat, plain", "cadical", "cadical, proof") if shutil.which(it.split(",")[0])] + ["test_dimacs"]
     rows = []
     for name, make in FAMILIES.items():
         times, memory, agree = dict.fromkeys(tools, 0.0), dict.fromkeys(tools, 0.0), True
