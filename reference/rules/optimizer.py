@@ -18,6 +18,9 @@ HELP = b"""cec-opt blif TEXT      writes the optimized circuit of TEXT, a BLIF f
 cec-opt c TEXT         the same as C
 cec-opt verilog TEXT   the same as structural Verilog
 cec-opt check TEXT     writes the sizes of the circuit and of the optimized one
+    --source FILE      in place of TEXT: compiles the source FILE, with its state plain and in a code,
+                       and takes the lighter circuit; a latch weighs as much as four gates
+    --main M           after --source: of the module M, not of the first one
 cec-opt --help         writes these lines
 cec-opt --version      writes the program's name and version
 """
