@@ -233,8 +233,18 @@ def gen_case(rng: random.Random) -> Drawn:
     return words, {}
 
 
-OPT_LIST = "blif c verilog check --help -x f f f nofile - -- --via blif= check f t".split(" ") + [""]
+OPT_LIST = "blif c verilog check --help -x f f f nofile - -- --via blif= check f t --source --main M".split(" ") + [""]
+SOURCE_LIST = "--source --main f f M N0 nofile -".split(" ")
 OPT_PATTERNS = ["blif f", "c f", "verilog f", "check f", "--help"]
+
+
+def source_words(rng: random.Random) -> list[bytes]:
+    """Words after a command that ask for a source, or nearly."""
+    if rng.random() < 0.3:
+        return [word.encode() for word in rng.choices(SOURCE_LIST, k=rng.randrange(2, 7))]
+    words = [["--source", "f"]] + [["--main", rng.choice(["M", "N0", "ZZ"])]] * (rng.random() < 0.3)
+    rng.shuffle(words)
+    return [word.encode() for pair in words for word in pair]
 
 
 def opt_case(rng: random.Random) -> Drawn:
@@ -246,6 +256,8 @@ def opt_case(rng: random.Random) -> Drawn:
             word.encode() for word in rng.choice([rng.choice(OPT_PATTERNS).split(" ")] + [rng.choices(OPT_LIST, k=2)])
         ]
         return words, {b"f": circuit_text(rng)}
+    if kind < 0.25:
+        return [command, *source_words(rng)], {b"f": source(rng, rng.choice([1, 2, 4, 6]), rng.choice([0, 0, 0, 0.05]))}
     text = circuit_text(rng) if kind < 0.6 else MAKERS["blif"](rng)
     if kind > 0.85:
         text = written_text(rng, "blif", rng.choice([2, 6, 12])) or text
@@ -278,7 +290,8 @@ def observed(rng: random.Random, budget: int) -> tuple[bytes, list[str]]:
     return " ".join(words).encode(), both + outputs + ["WRONG"] * 4
 
 
-PROVE_LIST = "never always all same --help --version -x O f f f nofile - --main --effort 3 0 --assume t".split(" ") + [""]
+PROVE_LIST = "never always all same --help --version -x O f f f nofile - --main --effort 3 0 --assume t".split(" ")
+PROVE_LIST.append("")
 SMALL_CHANGES = (("await ", "await immediate "), ("||", ";"), ("present ", "present not "), ("emit", "sustain"))
 
 

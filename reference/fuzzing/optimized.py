@@ -11,14 +11,29 @@ from typing import Optional
 from fuzzing.cases import Case
 from fuzzing.sources import event_items
 from fuzzing.written import Difference, need, net_of_text
-from rules.blif import read_blif
+from rules.blif import Blif, read_blif
+from rules.compiling import compile_source, text_of
 from rules.netlist import Net
-from rules.optimizer import ABOUT, FILE_FAULT, USAGE, Refused, asked_of, circuit_of, gates_at_most, misuse_of
+from rules.optimizer import (
+    ABOUT,
+    CYCLIC,
+    FILE_FAULT,
+    LIMIT,
+    STATIC,
+    Asked,
+    Refused,
+    asked_of,
+    circuit_of,
+    gates_at_most,
+)
+from rules.outcomes import Outcome
 from rules.simplification import simplified_violations
 from rules.text_faults import is_loop
 from rules.texts import open_text
 
 EVENTS = 40
+# What a latch weighs in gates where the lighter one of two circuits of a source is written.
+LATCH = 4
 COUNTS = re.compile(rb"(.*): (\d+) inputs, (\d+) outputs, (\d+) latches, (\d+) gates, depth (\d+)\n")
 Answer = tuple[bytes, bytes, int]
 
@@ -49,7 +64,17 @@ def depth(net: Net) -> int:
     return max(depths, default=0)
 
 
-def check_text(kind: str, text: bytes, written: bytes, seed: int = 1) -> None:
+def need_no_larger(blif: Blif, latches: int, gates: int, is_source: bool) -> None:
+    """No more latches and no more gates; for a source, whose state may be in a code, no more weight."""
+    if is_source:
+        most = LATCH * len(blif.latches) + gates_at_most(blif)
+        need(LATCH * latches + gates <= most, "%d latches and %d gates weigh over %d", latches, gates, most)
+        return
+    need(latches <= len(blif.latches), "%d latches of %d", latches, len(blif.latches))
+    need(gates <= gates_at_most(blif), "%d gates", gates)
+
+
+def check_text(kind: str, text: bytes, written: bytes, seed: int = 1, is_source: bool = False) -> None:
     """Raises Difference where a written text is none that may stand for the text."""
     blif, runner = circuit_of(text)
     net = net_of_text(kind, written, blif.name)
@@ -57,8 +82,7 @@ def check_text(kind: str, text: bytes, written: bytes, seed: int = 1) -> None:
     need(net.inputs == blif.inputs, "inputs %r, not %r", net.inputs, blif.inputs)
     names = [name[:-4] if name.endswith(b".out") else name for name in blif.outputs[:-1]]
     need([name for name, _ in net.outputs] == names, "outputs %r", net.outputs)
-    need(len(net.latches) <= len(blif.latches), "%d latches of %d", len(net.latches), len(blif.latches))
-    need(len(net.gates) <= gates_at_most(blif), "%d gates", len(net.gates))
+    need_no_larger(blif, len(net.latches), len(net.gates), is_source)
     need(all(wire is None for _, wire in net.gates), "a gate carries a wire")
     broken = simplified_violations(net)
     need(not broken, "not simplified: %s", broken[:1])
@@ -78,7 +102,7 @@ def check_text(kind: str, text: bytes, written: bytes, seed: int = 1) -> None:
         need(shown == (runner.outputs, bool(runner.word)), "event %d: other values are shown", instant)
 
 
-def check_counts(text: bytes, out: bytes) -> None:
+def check_counts(text: bytes, out: bytes, is_source: bool = False) -> None:
     blif, _ = circuit_of(text)
     lines = COUNTS.findall(out)
     need(len(lines) == 2 and b"".join(out.splitlines(True)) == out and out.count(b"\n") == 2, "not two lines of counts")
@@ -88,35 +112,59 @@ def check_counts(text: bytes, out: bytes) -> None:
     need(before[:3] == given, "the first line has %r, not %r", before[:3], given)
     need(before[3] <= gates_at_most(blif), "%d gates", before[3])
     need(after[:2] == before[:2], "the interface differs")
-    need(after[2] <= before[2] and after[3] <= before[3], "the second netlist is larger")
+    need_no_larger(blif, after[2], after[3], is_source)
+    need(is_source or after[2] <= before[2] and after[3] <= before[3], "the second netlist is larger")
+
+
+def text_asked(case: Case, asked: Asked) -> bytes:
+    """The text that is made smaller: the file, or what the source in it compiles to."""
+    assert asked.file is not None
+    if asked.file not in case.files:
+        raise Refused(FILE_FAULT, b"cannot read " + asked.file)
+    text = case.files[asked.file]
+    if asked.is_source:
+        return text_of(compile_source(text, asked.main), "blif")
+    circuit_of(text)
+    return text
 
 
 def judge(case: Case, got: Answer) -> tuple[str, Optional[str]]:
     """The outcome that is due, and what is amiss."""
     out, err, status = got
-    asked = asked_of(case.words)
     try:
-        if asked is None:
-            raise Refused(USAGE, misuse_of(case.words) + b", see cec-opt --help")
-        command, name = asked
-        if name is None:
-            return "Done", None if (out, err, status) == (ABOUT[command], b"", 0) else "what it writes about itself"
-        if name not in case.files:
-            raise Refused(FILE_FAULT, b"cannot read " + name)
-        text = case.files[name]
-        blif, _ = circuit_of(text)
+        asked = asked_of(case.words)
+        if asked.file is None:
+            told = (ABOUT[asked.command], b"", 0)
+            return "Done", None if got == told else "what it writes about itself"
+        text = text_asked(case, asked)
     except Refused as refused:
         return "Refused", judge_refusal(case, refused, got)
+    except Outcome as outcome:
+        return "Refused", judge_source(outcome, asked.file, got)
     if status != 0 or err:
         return "Done", "status %r, err %r" % (status, err)
     try:
-        if command == b"check":
-            check_counts(text, out)
+        if asked.command == b"check":
+            check_counts(text, out, asked.is_source)
         else:
-            check_text(command.decode(), text, out)
+            check_text(asked.command.decode(), text, out, is_source=asked.is_source)
     except Difference as difference:
         return "Done", "text: %s" % difference
     return "Done", None
+
+
+def judge_source(outcome: Outcome, file: bytes, got: Answer) -> Optional[str]:
+    """A source that does not compile; any cycle may be shown, which the kind `source` compares."""
+    out, err, status = got
+    due = {"Static": STATIC, "Limit": LIMIT}.get(outcome.kind, CYCLIC)
+    if status != due:
+        return "status %r, not %r" % (status, due)
+    if out:
+        return "stdout"
+    if due == CYCLIC:
+        return None if err.startswith(b"cec-opt: cyclic: ") else "stderr"
+    line = b"cec: " + outcome.line if due == STATIC else b"cec-opt: a limit is passed, see cec check " + file
+    return None if err == line + b"\n" else "stderr"
 
 
 def judge_refusal(case: Case, refused: Refused, got: Answer) -> Optional[str]:

@@ -7,6 +7,7 @@ Stands for `Words`, `Lines` and `Statuses` (crates/cec_opt_commands/specs/), `In
 from __future__ import annotations
 
 import re
+from dataclasses import dataclass
 from typing import Optional, Sequence
 
 from rules.blif import Blif, NetRunner, read_blif
@@ -27,7 +28,8 @@ cec-opt --version      writes the program's name and version
 # What the program writes about itself, by the word that asks for it.
 ABOUT = {b"--help": HELP, b"--version": b"cec-opt 0.1.0\n"}
 NAME = re.compile(rb"[A-Za-z][A-Za-z0-9_]*\Z")
-USAGE, FILE_FAULT, BAD_TEXT = 2, 3, 7
+SOURCE, MAIN = OPTIONS = (b"--source", b"--main")
+USAGE, FILE_FAULT, STATIC, CYCLIC, BAD_TEXT, LIMIT = 2, 3, 4, 5, 7, 8
 
 
 class Refused(Exception):
@@ -40,29 +42,63 @@ class Refused(Exception):
         self.names = list(names)
 
 
-def asked_of(words: Sequence[bytes]) -> Optional[tuple[bytes, Optional[bytes]]]:
-    """The command and its file, or None where the words have no meaning."""
-    if len(words) == 1 and words[0] in ABOUT:
-        return words[0], None
-    if len(words) == 2 and words[0] in COMMANDS and words[1] and words[1][:1] != b"-":
-        return words[0], words[1]
-    return None
+@dataclass
+class Asked:
+    """What the words ask for: a command on a file, which is a source or a text; none where it is about the program."""
+
+    command: bytes
+    file: Optional[bytes] = None
+    is_source: bool = False
+    main: Optional[bytes] = None
 
 
-def misuse_of(words: Sequence[bytes]) -> bytes:
-    """What is wrong with words that have no meaning."""
+def misuse(line: bytes) -> Refused:
+    return Refused(USAGE, line + b", see cec-opt --help")
+
+
+def is_plain(word: bytes) -> bool:
+    """Whether a word is a file or a name."""
+    return word[:1] not in (b"", b"-")
+
+
+def asked_of(words: Sequence[bytes]) -> Asked:
+    """What words ask for; raises Refused where they have no meaning."""
     if not words:
-        return b"no command"
+        raise misuse(b"no command")
     first, rest = words[0], words[1:]
     if first in ABOUT:
-        return b"one word too many: " + rest[0]
+        if rest:
+            raise misuse(b"one word too many: " + rest[0])
+        return Asked(first)
     if first not in COMMANDS:
-        return b"unknown word: " + first
+        raise misuse(b"unknown word: " + first)
     if not rest:
-        return b"no file after " + first
+        raise misuse(b"no file after " + first)
+    if is_plain(rest[0]):
+        if len(rest) > 1:
+            raise misuse(b"one word too many: " + rest[1])
+        return Asked(first, rest[0])
     if len(rest) == 1:
-        return b"not a file: " + rest[0]
-    return b"one word too many: " + rest[1]
+        raise misuse((b"no value after " if rest[0] in OPTIONS else b"not a file: ") + rest[0])
+    given = options_of(rest)
+    if SOURCE not in given:
+        raise misuse(b"no file after " + first)
+    return Asked(first, given[SOURCE], True, given.get(MAIN))
+
+
+def options_of(words: Sequence[bytes]) -> dict[bytes, bytes]:
+    """The two options, each at most once."""
+    given: dict[bytes, bytes] = {}
+    for at in range(0, min(len(words), 4), 2):
+        key = words[at]
+        if at + 1 == len(words):
+            raise misuse(b"no value after " + key)
+        if key not in OPTIONS or key in given or not is_plain(words[at + 1]):
+            raise misuse(b"bad option: " + key)
+        given[key] = words[at + 1]
+    if len(words) > 4:
+        raise misuse(b"one word too many: " + words[4])
+    return given
 
 
 def interface_fault(blif: Blif) -> Optional[bytes]:
