@@ -238,7 +238,7 @@ SOURCE_LIST = "--source --main f f M N0 nofile -".split(" ")
 OPT_PATTERNS = ["blif f", "c f", "verilog f", "check f", "--help"]
 
 
-def source_words(rng: random.Random) -> list[bytes]:
+def opt_source_words(rng: random.Random) -> list[bytes]:
     """Words after a command that ask for a source, or nearly."""
     if rng.random() < 0.3:
         return [word.encode() for word in rng.choices(SOURCE_LIST, k=rng.randrange(2, 7))]
@@ -257,7 +257,8 @@ def opt_case(rng: random.Random) -> Drawn:
         ]
         return words, {b"f": circuit_text(rng)}
     if kind < 0.25:
-        return [command, *source_words(rng)], {b"f": source(rng, rng.choice([1, 2, 4, 6]), rng.choice([0, 0, 0, 0.05]))}
+        text = source(rng, rng.choice([1, 2, 4, 6]), rng.choice([0, 0, 0, 0.05]))
+        return [command, *opt_source_words(rng)], {b"f": text}
     text = circuit_text(rng) if kind < 0.6 else MAKERS["blif"](rng)
     if kind > 0.85:
         text = written_text(rng, "blif", rng.choice([2, 6, 12])) or text
