@@ -17,7 +17,7 @@ from bench_tools import TOP
 sys.path.insert(0, str(TOP / "tools" / "parts"))
 from blif import blif_of  # noqa: E402
 
-RUNS, INSTANTS, ROUNDS = 512, 40, 200
+RUNS, INSTANTS, LATER, ROUNDS = 256, 100, 16, 60
 
 
 class Nets:
@@ -113,7 +113,7 @@ class Question:
         else:
             self.clauses += [[nets.inputs + k + 1 if start else -(nets.inputs + k + 1)] for k, start in enumerate(nets.starts)]
         self.late = nets.count if is_later else 0
-        self.clauses.append([self.broken(*claim) for claim in claims])
+        self.broken = [self.breaking(*claim) for claim in claims]
 
     def variable(self):
         self.count += 1
@@ -142,7 +142,7 @@ class Question:
             if cubes != [net]:
                 self.clauses += [[net, -cube] for cube in cubes] + [[-net, *cubes]]
 
-    def broken(self, net, other, turned):
+    def breaking(self, net, other, turned):
         """A literal that is true only where a claim is false in the instant asked about."""
         net = self.late + net + 1
         if other is None:
@@ -158,13 +158,14 @@ def text_of(count, clauses):
     return f"p cnf {count} {len(clauses)}\n" + "".join(" ".join(map(str, clause)) + " 0\n" for clause in clauses)
 
 
-def valuation(search, question):
-    """The values of the variables in an answer of test_dimacs; None where there is no valuation."""
-    given = text_of(question.count, question.clauses) + "v 0\n"
-    words = subprocess.run([search], input=given, capture_output=True, text=True, check=True).stdout.split("\n")[0].split()
-    if words[0] not in ("satisfiable", "unsatisfiable"):
-        raise SystemExit(f"test_dimacs answers {words[0]}")
-    return None if words[0] == "unsatisfiable" else [int(word) > 0 for word in words[1:]]
+def valuations(search, question):
+    """Valuations of the nets in the instant asked about that break claims, as test_dimacs answers claim by claim."""
+    asked = text_of(question.count, question.clauses) + "".join(f"v {literal} 0\n" for literal in question.broken)
+    told = subprocess.run([search], input=asked, capture_output=True, text=True, check=True).stdout.split("\n")
+    for line in told:
+        if line.startswith("satisfiable"):
+            words = line.split()[1 + question.late : 1 + question.late + question.nets.count]
+            yield "".join("0" if word.startswith("-") else "1" for word in words)
 
 
 def questions(text, search):
@@ -178,19 +179,16 @@ def questions(text, search):
             if not claims:
                 break
             question = Question(nets, claims, is_later)
-            yield question.count, question.clauses
-            values = valuation(search, question)
-            if values is None:
+            yield question.count, question.clauses + [question.broken]
+            found = list(valuations(search, question))
+            if not found:
                 break
-            classes.note([int(values[question.late + net]) for net in range(nets.count)], 1)
-            again(nets, classes, values[question.late : question.late + nets.count], draw)
+            again(nets, classes, [int("".join(column), 2) for column in zip(*found)], (1 << len(found)) - 1, draw)
 
 
-def again(nets, classes, values, draw):
-    """Splits classes by random runs from the instant that broke one."""
-    whole = (1 << RUNS) - 1
-    states = [whole if values[link] else 0 for link in nets.links]
-    for _ in range(4):
-        found = nets.values([draw.getrandbits(RUNS) for _ in range(nets.inputs)], states, whole)
-        classes.note(found, whole)
-        states = [found[link] for link in nets.links]
+def again(nets, classes, values, whole, draw):
+    """Splits classes by instants that broke some, and by random runs from them."""
+    for _ in range(LATER):
+        classes.note(values, whole)
+        inputs = [draw.getrandbits(whole.bit_length()) for _ in range(nets.inputs)]
+        values = nets.values(inputs, [values[link] for link in nets.links], whole)
