@@ -1,0 +1,3 @@
+mod Quiet
+mod Whole
+mod Alarms

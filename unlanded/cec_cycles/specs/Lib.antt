@@ -1,0 +1,2 @@
+pub mod LoopNets
+pub mod Around
