@@ -425,7 +425,7 @@ def exports_are_listed():
                 if module != "Exports":
                     found.append(f"{name}: takes from {other}/proofs/{module}, not from its Exports")
                 used |= {(other, word) for word in words}
-    found += [f"crates/{crate}/proofs/Exports.antt: no other crate uses {word}" for crate, word in sorted(listed - used - FOR_CALLERS)]
+    found += [f"crates/{crate}/proofs/Exports.antt: no other crate uses {word}" for crate, word in sorted(listed - used)]
     return found
 
 

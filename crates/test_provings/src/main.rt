@@ -3,7 +3,7 @@
 //!
 //! A search that always answers `undecided` is proved, so these rows are what refuses it: claims that need an invariant
 //! of two and of three literals, one that holds by a relation alone, one that is refuted after several instants,
-//! surveys, and comparisons.
+//! surveys, coverings, and comparisons.
 #![tactic(auto)]
 
 use base_types::{DiskFiles, NoMemory, WriterSink, write_pieces};

@@ -1,0 +1,2 @@
+mod CoveringLines
+mod Joint

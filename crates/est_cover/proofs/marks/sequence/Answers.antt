@@ -1,0 +1,11 @@
+use Rattle.std.proofs.Common.{◌∷◌, [], ◌++◌, ◌∙◌, ap, map}
+use Rattle.est_ast.specs.FlatTrees.{At, Seq, stmts}
+use Rattle.est_ast.specs.FlatViews.{flat_stmt_of}
+use Rattle.est_ast.proofs.Exports.{flat_form-Seq}
+use Rattle.est_cover.proofs.marks.sequence.Goals as goal
+
+pub returns : goal.returns
+returns c =
+    ap (At c.args.at) (flat_form-Seq c.push-2.new.self
+    ∙ ap (λ l. Seq (stmts (map flat_stmt_of l))) (c.in_ok-push-2.ensures.items
+    ∙ ap (λ l. l ++ c.args.second ∷ []) (c.in_ok-push.ensures.items ∙ ap (λ l. l ++ c.args.first ∷ []) c.in_ok-parts.ensures.items)))
