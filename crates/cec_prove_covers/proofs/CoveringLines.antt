@@ -48,7 +48,7 @@ part-more source flat assumed points number text new whole sure point r low at i
       ∙ sym (text-more source (take number points) part.reaches point r
       (omega (arith, part.count, length-take-le number points part.low)))
       ∙ ap (λ ps. covering_text source ps (part.reaches ++ r ∷ [])) (ap (λ p. take number points ++ p ∷ []) at ∙ sym (take_more points number point low));
-  each_decided = both ∙ ap (λ b. b && is_decided r) part.each_known ∙ ap (λ b. list_all is_decided part.reaches && b) (sym (and-true (is_decided r)))
+  each_decided = both ∙ ap (λ b. b && is_decided r) part.each_decided ∙ ap (λ b. list_all is_decided part.reaches && b) (sym (and-true (is_decided r)))
       ∙ sym (list_all-append is_decided part.reaches (r ∷ []));
 }
 
@@ -59,5 +59,5 @@ part-all source flat assumed points text whole is part = record {
   count = part.count ∙ ap length is;
   known = part.known;
   written = part.written ∙ ap (λ ps. covering_text source ps part.reaches) (take-length points ∙ is);
-  each_decided = part.each_known;
+  each_decided = part.each_decided;
 }

@@ -1,2 +1,3 @@
 mod CoveringLines
 mod Joint
+mod NewSignals

@@ -10,7 +10,8 @@ ghost use Rattle.est_cover.specs.Nodes.{list_points, more_points, node_covered, 
 ghost use Rattle.est_cover.specs.Nodes.{rest_covered, rest_points, stmt_covered, stmt_points, with_mark};
 
 use crate::forms as rows;
-use crate::marks::{is_in, mark, marked, moved};
+use crate::leaves;
+use crate::marks::{is_in, mark, marked};
 use crate::moving::moved_test;
 use crate::points::{Point, PointKind};
 use crate::portions::Portion;
@@ -58,23 +59,10 @@ fn cover_form(
     match form {
         FlatForm::Nothing => Ok(plain(at, FlatForm::Nothing)),
         FlatForm::Exit(between) => Ok(plain(at, FlatForm::Exit(*between))),
-        FlatForm::Pause => leaf(
-            alloc,
-            portion,
-            points,
-            PointKind::Pause,
-            at,
-            FlatForm::Pause,
-        ),
-        FlatForm::Halt => leaf(alloc, portion, points, PointKind::Halt, at, FlatForm::Halt),
-        FlatForm::Emit(signal) => {
-            let form = FlatForm::Emit(moved(portion, *signal));
-            leaf(alloc, portion, points, PointKind::Emit, at, form)
-        }
-        FlatForm::Sustain(signal) => {
-            let form = FlatForm::Sustain(moved(portion, *signal));
-            leaf(alloc, portion, points, PointKind::Sustain, at, form)
-        }
+        FlatForm::Pause => leaves::cover_pause(alloc, portion, points, at),
+        FlatForm::Halt => leaves::cover_halt(alloc, portion, points, at),
+        FlatForm::Emit(signal) => leaves::cover_emit(alloc, portion, points, at, *signal),
+        FlatForm::Sustain(signal) => leaves::cover_sustain(alloc, portion, points, at, *signal),
         FlatForm::Await(delay, rest) => rows::cover_await(alloc, portion, points, at, delay, rest),
         FlatForm::AwaitCase(cases) => rows::cover_await_case(alloc, portion, points, at, cases),
         FlatForm::Present(test, yes, no) => {
@@ -117,24 +105,6 @@ fn plain(span: Span, form: FlatForm) -> FlatStmt
     ensures { flat_stmt_of result ≡ flat_at span (flat_form_of form) }
 {
     FlatStmt { span, form }
-}
-
-// A statement without parts, which starts at a point.
-fn leaf(
-    alloc: Global,
-    portion: Portion,
-    points: &mut Vec<Point>,
-    kind: PointKind,
-    span: Span,
-    form: FlatForm,
-) -> Result<FlatStmt, NoMemory>
-    ensures covers { IfOk result (λ p. flat_stmt_of p
-        ≡ with_mark portion (length points.old.items) span (flat_at span (flat_form_of form))) }
-    ensures points { OnOk result (points.new.items ≡ more_points kind span points.old.items) }
-{
-    let number = points.len();
-    start(points, kind, span)?;
-    marked(alloc, portion, number, span, FlatStmt { span, form })
 }
 
 /// The covered statement in a box.

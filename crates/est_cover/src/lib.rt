@@ -8,6 +8,7 @@
 mod covering;
 mod forms;
 mod heads;
+mod leaves;
 mod marks;
 mod moving;
 mod names;

@@ -59,26 +59,27 @@ pub(crate) fn marked(
     if !is_in(portion, number) {
         return Ok(statement);
     }
-    let first = mark(portion, number, at);
-    sequence(alloc, at, first, statement)
+    after_emission(alloc, portion, number, at, statement)
 }
 
-// Two statements, one after the other.
+// The emission of the signal of a point, and then the statement. It waits in a box: a tree that is owned where memory
+// runs out is dropped by a call.
 #[tactic(auto, using(crate::proofs::Rows::mark_rows))]
-fn sequence(
+fn after_emission(
     alloc: Global,
+    portion: Portion,
+    number: usize,
     at: Span,
-    first: FlatStmt,
-    second: FlatStmt,
+    statement: FlatStmt,
 ) -> Result<FlatStmt, NoMemory>
-    ensures { IfOk result (λ p. flat_stmt_of p
-        ≡ At at (Seq (MoreStmts (flat_stmt_of first) (MoreStmts (flat_stmt_of second) NoStmts)))) }
+    requires { IsTrue (in_portion portion number) }
+    ensures { IfOk result (λ p. flat_stmt_of p ≡ At at (Seq (MoreStmts (emission (portion_of portion) number at)
+        (MoreStmts (flat_stmt_of statement) NoStmts)))) }
 {
+    let statement = Box::new(alloc, statement)?;
     let mut parts = Vec::with_capacity(alloc, 2)?;
-    parts.push(first)?;
-    parts.push(second)?;
-    Ok(FlatStmt {
-        span: at,
-        form: FlatForm::Seq(parts),
-    })
+    parts.push(mark(portion, number, at))?;
+    parts.push(Box::into_inner(statement))?;
+    let form = FlatForm::Seq(parts);
+    Ok(FlatStmt { span: at, form })
 }

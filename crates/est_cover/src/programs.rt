@@ -35,10 +35,10 @@ pub fn cover_program(
     let count = names.len() as u32;
     let seen = flat.inputs + (flat.both + flat.outputs);
     let portion = Portion { seen, first, count };
+    let head = Box::new(alloc, head_of(alloc, flat, names)?)?;
     let mut points = Vec::new(alloc);
     let body = cover(alloc, portion, &mut points, &flat.body)?;
-    let head = head_of(alloc, flat, names)?;
-    Ok(whole(head, body))
+    Ok(whole(Box::into_inner(head), body))
 }
 
 /// The points of a program, in order. Out of memory is the only error.

@@ -10,4 +10,4 @@ returns c = λ before.
     let asked = c.args.asked.now in
     part-more asked.source.now (flat_of asked.flat.now) (option_map (λ n. n.now) asked.assumed) asked.points.now c.args.number _ _ _ _ _
     (reach_of c.args.finding.now) c.requires.within refl c.requires.reach c.in_ok-push_point.ensures
-    (c.both.ensures ∙ ap (λ b. c.args.lines.now.whole && b) c.is_known.ensures) before
+    (c.both.ensures ∙ ap (λ b. c.args.lines.now.whole && b) c.is_decided.ensures) before
