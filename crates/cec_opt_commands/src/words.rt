@@ -81,15 +81,15 @@ struct Options<'a> {
 pub(crate) fn request_by(words: &[String]) -> Option<Request<'_>>
     ensures { option_map plain_request result ≡ request_by (map string_bytes words.now) }
 {
-    let (command, behind) = words.split_first()?;
-    match behind.split_first() {
+    let (command, rest) = words.split_first()?;
+    match rest.split_first() {
         None => word_asked(command.as_bytes()),
         Some((text, more)) => {
             if more.is_empty() {
                 return job_asked(command.as_bytes(), text);
             }
             let task = task_of(command.as_bytes())?;
-            options_asked(task, behind)
+            options_asked(task, rest)
         }
     }
 }

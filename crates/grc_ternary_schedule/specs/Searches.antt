@@ -3,7 +3,7 @@ use Rattle.std.specs.Prelude.{◌≡◌, ℕ, ◌<◌, Option, Some, None, lengt
 use Rattle.grc_ternary_schedule.specs.declared.parts.Marks.{Marks}
 use Rattle.grc_ternary_schedule.specs.declared.search.Search.{Search}
 
--- each table has an entry for each of so many nodes, and the lists have nodes alone
+-- each table has an entry for each node, and the lists have nodes alone
 pub record IsSearch (nodes : ℕ) (s : Search) : Type 0 where
   pub met : length s.met.items ≡ nodes
   pub low : length s.low.items ≡ nodes
@@ -18,7 +18,7 @@ abbrev pub IsNode : ℕ → Option ℕ → Type 0
 IsNode nodes None = ⊤
 IsNode nodes (Some n) = n < nodes
 
--- a mark for each of so many nodes
+-- a mark for each node
 pub record AreMarks (nodes : ℕ) (m : Marks) : Type 0 where
   pub place : length m.place.items ≡ nodes
   pub cut : length m.cut.items ≡ nodes

@@ -93,7 +93,7 @@ fn operands(gate: Gate) -> (usize, usize) {
     }
 }
 
-// A component's nodes, so many times.
+// A component's nodes, repeated.
 fn repeat(
     schedule: &mut Vec<usize>,
     list: &[usize],

@@ -78,7 +78,7 @@ module _ (g : Graph) (w : Words) (y : System) (is : IsSystemOf g w y) (b : Base)
       before b.given (let e = given in omega (arith, length-append t.event (t.boot ∷ t.bits)))
       ∙ ap (λ k. slice_index_or front k false) place ∙ get_or-append-add t.event (t.boot ∷ t.bits) 0 false
 
-  -- the place behind the first three
+  -- the place after the first three
   third : (k : ℕ) (n : NetId) → k < length (N ++ R) → slice_index_or (N ++ R) k (net_of 0) ≡ n
       → slice_index_or (values_at d (sources_of b w rs) front) (3 + k) false ≡ V n
   third k n low at =

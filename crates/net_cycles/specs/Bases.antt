@@ -63,7 +63,7 @@ row_op b wires rs (rows.Not a) = ops.Not (source_net b wires rs a)
 row_op b wires rs (rows.And a c) = ops.And (source_net b wires rs a) (source_net b wires rs c)
 row_op b wires rs (rows.Or a c) = ops.Or (source_net b wires rs a) (source_net b wires rs c)
 
--- what may be read, where there are so many nets of wires and of rows
+-- what may be read, with these numbers of nets of wires and of rows
 abbrev pub bounds_of : Base → (wires rows : ℕ) → Bounds
 bounds_of b wires rows = record { leaves = b.leaves; given = b.given; wires = wires; rows = rows }
 
@@ -94,7 +94,7 @@ abbrev pub RowsFit : Base → Words → (wires from to : ℕ) → Type 0
 RowsFit b w wires from to = (k : ℕ) (d : Row) → from ≤ k → k < to
     → IsTrue (row_fits (bounds_of b wires k) (slice_index_or w.rows.items k d))
 
--- so many rows have nets now
+-- rows up to this number have nets now
 pub record RowsAdded (g : Graph) (w : Words) (b : Base) (old new : Growing) (wires rows : List NetId) (to : ℕ) :
     Type 0 where
   pub ready : IsReady g w b wires rows new
@@ -130,7 +130,7 @@ pub record Lowers (n : Nets) (old new : Growing) (f : Formula) (net : ℕ) : Typ
   pub says : (t : Occasion n.graph.now) → CarryWires n.graph.now n.wires.now old t
       → value_in (values_of new (start_of n.graph.now t)) net ≡ form_value n.graph.now t f
 
--- a net says that one of so many wires is true, from this number on
+-- a net says that one of `count` wires is true, from this number on
 pub record RunSays (n : Nets) (old new : Growing) (first count : ℕ) (net : ℕ) : Type 0 where
   pub grew : GrowsOn old new
   pub low : net < next_number new

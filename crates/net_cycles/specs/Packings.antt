@@ -36,7 +36,7 @@ pub record IsCheckAround (net check : Netlist) (after : Growing) (alarm : NetId)
   pub gates : check.gates ≡ after.list.items
   pub alarm_out : map (λ o. o.net) check.outputs ≡ alarm ∷ []
 
--- where all watched nodes are known, all of so many are
+-- where all watched nodes are known, all nodes are
 abbrev pub WatchesAll : ℕ → List ℕ → Type 0
 WatchesAll nodes watched = (V : ℕ → Status) → are_known V watched ≡ true → (n : ℕ) → n < nodes → is_known (V n) ≡ true
 

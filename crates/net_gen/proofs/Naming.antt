@@ -9,7 +9,7 @@ pub take-found : {X : Type 0} (xs : List X) (k : ℕ) (x : X) → slice_get xs k
 take-found xs k x e =
     take_more xs k x (slice_get_within xs k x e) ∙ ap (λ y. take k xs ++ y ∷ []) (get_or_from_slice_get xs k x x e)
 
--- one more element behind some
+-- one more element after some
 pub take-found_behind : {X : Type 0} (xs : List X) (n k : ℕ) (x : X) → slice_get xs (n + k) ≡ Some x → take (k + 1) (drop n xs) ≡ take k (drop n xs) ++ x ∷ []
 take-found_behind xs n k x e =
     let within = slice_get_within xs (n + k) x e in

@@ -25,12 +25,12 @@ room-later g w old new more cost s t few room = omega (arith, s.first, t.first)
 pub next-small : (d : Drawing) (more : ℕ) → HasRoom d more → next_number d < 2 ^ 32
 next-small d more room = omega arith
 
--- behind a formula
+-- after a formula
 pub room-lowered : (g : Graph) (w : Words) (old new : Drawing) (op : Op) (m : Sense g) (cost most : ℕ) → Sound g w old → Lowers g w old new op m cost
     → cost ≤ most → HasRoom old most → next_number new < 2 ^ 32
 room-lowered g w old new op m cost most s l few room = next-small new 0 (room-later g w old new 0 most s l.grew.sound (omega (arith, l.within)) room)
 
--- behind the net of a formula, for another
+-- after the net of a formula, for another
 pub room-placed : (g : Graph) (w : Words) (old new : Drawing) (n : ℕ) (m : Sense g) (cost more most : ℕ) → Sound g w old → Places g w old new n m cost
     → cost + more ≤ most → HasRoom old most → HasRoom new more
 room-placed g w old new n m cost more most s p few room = room-later g w old new more most s p.grew.sound (omega (arith, p.within)) room

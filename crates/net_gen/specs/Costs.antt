@@ -18,6 +18,6 @@ abbrev pub gates_at_most : Graph → (rows : ℕ) → List WireId → ℕ
 gates_at_most g rows order =
     2 + length g.wires.items + rows + sum_by (wire_cost g) order + sum_by cost_of g.next.items
 
--- It is linear in what is counted of the program's own graph: so many gates for each wire and each live test node.
+-- It is linear in what is counted of the program's own graph: some gates for each wire and each live test node.
 abbrev pub linear_bound : Program → ℕ
 linear_bound p = 15 * graph_size p

@@ -19,7 +19,7 @@ spare (Some n) = 0
 abbrev pub spent : Drawing → ℕ
 spent d = length d.gates + sum_by spare d.ends
 
--- the numbers of these gates, and of so many more, are small
+-- the numbers of these gates, and of this many more, are small
 abbrev pub HasRoom : Drawing → ℕ → Type 0
 HasRoom d cost = d.first + spent d + cost < 2 ^ 32
 
@@ -31,19 +31,19 @@ pub record Grew (g : Graph) (w : Words) (old new : Drawing) : Type 0 where
   pub rows : new.rows ≡ old.rows
   pub carries : carried new.gates ≡ carried old.gates
 
--- a circuit grew, and an operator over its nets says this; a net of it costs at most so many gates in all
+-- a circuit grew, and an operator over its nets says this; a net of it costs at most this number of gates in all
 pub record Lowers (g : Graph) (w : Words) (old new : Drawing) (op : Op) (m : Sense g) (cost : ℕ) : Type 0 where
   pub grew : Grew g w old new
   pub stands : OpStands g new op m
   pub within : spent new + gates_for op ≤ spent old + cost
 
--- a circuit grew by at most so many gates, and a net says this
+-- a circuit grew by at most this number of gates, and a net says this
 pub record Places (g : Graph) (w : Words) (old new : Drawing) (n : ℕ) (m : Sense g) (cost : ℕ) : Type 0 where
   pub grew : Grew g w old new
   pub stands : Stands g new n m
   pub within : spent new ≤ spent old + cost
 
--- so many wires from a first one on have a net that says their or, or there are none of them
+-- a run of wires from a first one on has a net that says their or, or the run is empty
 abbrev pub RunStands : (g : Graph) → Drawing → Option NetId → (first count : ℕ) → Type 0
 RunStands g d None first count = count ≡ 0
 RunStands g d (Some n) first count = (0 < count) × Stands g d n.0 (run_sense g first count)

@@ -26,7 +26,7 @@ pub record RowsMade (g : Graph) (w : Words) (old new : Drawing) (from to : ℕ) 
   pub placed : RowsPlaced new to
   pub within : spent new + from ≤ spent old + to
 
--- so many wires of an order have their nets now, and the gates that carry them are in that order
+-- the first wires of an order have their nets now, and the gates that carry them are in that order
 pub record WiresMade (g : Graph) (w : Words) (old new : Drawing) (order : List WireId) (count : ℕ) : Type 0 where
   pub sound : Sound g w new
   pub stays : (n : ℕ) (m : Sense g) → Stands g old n m → Stands g new n m
@@ -35,7 +35,7 @@ pub record WiresMade (g : Graph) (w : Words) (old new : Drawing) (order : List W
   pub placed : (j : ℕ) → j < count → Placed new.wires (wire_at order j)
   pub within : spent new ≤ spent old + sum_by (wire_cost g) (take count order)
 
--- the nets of the next values of so many leaves
+-- the nets of the next values of the first leaves
 pub record NextMade (g : Graph) (w : Words) (old new : Drawing) (nets : List NetId) (count : ℕ) : Type 0 where
   pub grew : Grew g w old new
   pub many : length nets ≡ count

@@ -59,7 +59,7 @@ wire_sense g v = λ t. wire_value g t.occasion v
 unfoldable pub any_sense : (g : Graph) → List WireId → Sense g
 any_sense g list = λ t. list_any (λ v. wire_value g t.occasion v.0) list
 
--- one of so many wires is true, from this number on
+-- one wire of a run is true, from this number on
 unfoldable pub run_sense : (g : Graph) (first count : ℕ) → Sense g
 run_sense g first count = λ t. any_from (wire_value g t.occasion) first count
 

@@ -73,7 +73,7 @@ module _ (net : Netlist) (inputs latches : List Bool) (wide : length inputs ≡ 
   gates-hold = (clauses-solved (net_values net latches inputs) (first_gate net) net.gates).1
       (Solves-gate_values (first_gate net) (inputs ++ latches) net.gates front is.reads_lower)
 
--- the values of the latches behind an instant are those of the nets that they read
+-- the values of the latches after an instant are those of the nets that they read
 next-value : (net : Netlist) (values : List Bool) (n : ℕ) → length net.inputs ≤ n → n < first_gate net
     → value_in values (source_at (length net.inputs) net.latches n) ≡ latch_values (length net.inputs) (next_latches net values) n
 next-value net values n low high =
@@ -119,10 +119,10 @@ module _ (net : Netlist) (allowed invariant : List (List Literal)) (bad : Litera
       invariant holds.over model in
       let met : IsModel (value_in now) known = model-both (value_in now) (gate_clauses (first_gate net) net.gates) (allowed ++ invariant)
       (gates-hold net inputs latches wide.0 all is) (model-both (value_in now) allowed invariant allows.0 still) in
-      let behind : IsModel (latch_values first next) invariant = all-next (value_in now) (latch_values first next) first (first_gate net) net.latches known
+      let after : IsModel (latch_values first next) invariant = all-next (value_in now) (latch_values first next) first (first_gate net) net.latches known
       (next-value net now) met invariant holds.over holds.closes.keeps in (
         denied (value_in now) bad (holds.closes.rules_out (value_in now) met),
-        never-from items next (length-next net now) behind wide.1 allows.1,
+        never-from items next (length-next net now) after wide.1 allows.1,
       )
   never-from (Reset ∷ items) latches all model wide allows =
       never-from items (initial_latches net) (length-map net.latches (λ (l : Latch). l.init)) holds.initial wide allows

@@ -53,7 +53,7 @@ pub record IsGrowing (g : Growing) : Type 0 where
   pub reads : ReadsLower g.first g.list.items
   pub numbered : next_number g ≤ 2 ^ 32
 
--- so many gates more, none of which carries a wire
+-- `count` more gates, none of which carries a wire
 pub record Grows (old new : Growing) (count : ℕ) : Type 0 where
   pub first : new.first ≡ old.first
   pub more : (extra : List Gate) × (new.list.items ≡ old.list.items ++ extra)
@@ -61,7 +61,7 @@ pub record Grows (old new : Growing) (count : ℕ) : Type 0 where
   pub many : next_number new ≡ next_number old + count
   pub silent : carried new.list.items ≡ carried old.list.items
 
--- Why gates cannot grow by so many: the nets would pass their numbers. Running out of memory has no cause here.
+-- Why gates cannot grow by this number: the nets would pass their numbers. Running out of memory has no cause here.
 abbrev pub IsFull : GrowFault → (next count : ℕ) → Type 0
 IsFull TooManyNets next count = 2 ^ 32 ≤ next + count
 IsFull NoMemory next count = ⊤

@@ -24,7 +24,7 @@ fn truth_op(gate: Gate, sources: &[NetId], copies: &[NetId]) -> Op
     }
 }
 
-/// The same net for each of so many nodes. The error is out of memory.
+/// The same net for each of `count` nodes. The error is out of memory.
 pub(crate) fn same_nets(alloc: Global, net: NetId, count: usize) -> Result<Vec<NetId>, NoMemory>
     ensures { IfOk result (λ nets. nets.items ≡ replicate count net) }
 {

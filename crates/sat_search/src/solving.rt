@@ -412,8 +412,14 @@ impl Search {
             clause,
             &self.evidence.hints,
         )?;
-        self.count_refusal(is_unknown(&outcome));
-        Ok(outcome)
+        if !is_unknown(&outcome) {
+            return Ok(outcome);
+        }
+        if let Some(literal) = contradicting(assumptions) {
+            return Ok(SearchOutcome::Contradicting(literal));
+        }
+        self.count_refusal(true);
+        Ok(SearchOutcome::Unknown)
     }
 
     // Begins again after the assumptions, and forgets clauses now and then.
@@ -441,6 +447,25 @@ fn is_unknown(outcome: &SearchOutcome) -> bool {
         | SearchOutcome::Unsatisfiable(_)
         | SearchOutcome::Contradicting(_) => false,
     }
+}
+
+// An assumption whose negation is assumed too. The kernel refutes no assumptions that contain both.
+fn contradicting(assumptions: &[Literal]) -> Option<Literal> {
+    for assumption in assumptions {
+        if has(assumptions, assumption.opposite()) {
+            return Some(*assumption);
+        }
+    }
+    None
+}
+
+fn has(literals: &[Literal], literal: Literal) -> bool {
+    for other in literals {
+        if LiteralId::of(*other).0 == LiteralId::of(literal).0 {
+            return true;
+        }
+    }
+    false
 }
 
 // The number of literals that two lists begin with.
