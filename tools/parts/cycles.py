@@ -2,7 +2,7 @@
 import re
 from typing import NamedTuple
 
-from listing import parent, wire_of
+from listing import lies_in, parent, wire_of
 from places import agrees, by_paths, kernel_of
 from program import CYCLIC, DONE
 from source import all_statements, modules_of
@@ -19,10 +19,19 @@ class Step(NamedTuple):
 
 
 class Cure(NamedTuple):
-    """A place where a pause breaks the cycle: the statement behind it, and its module."""
+    """A place where a change breaks the cycle: the statement there, its module, and whether a weak abort, not a pause, does it."""
 
     statement: object
     module: str
+    is_weak: bool = False
+
+
+class Unknown(NamedTuple):
+    """What stays unknown of a signal in an instant that is not constructive: its name, its tests, and its emissions that may happen."""
+
+    signal: tuple
+    tests: list
+    emissions: list
 
 
 def without_emissions(text):
@@ -77,8 +86,25 @@ def steps_of(wires, kernels):
     return found if all(step.kernel is not None for step in found) else None
 
 
+def unknown_of(wires, kernels):
+    """What the unknown wires of an instant say of signals: each with its tests and its emissions that may happen."""
+    statuses = [wire for wire in wires if wire.kind in ("out", "st")]
+    starts = {wire.path for wire in wires if wire.kind == "go"}
+    found = []
+    for status in statuses:
+        scope = "." if status.kind == "out" else status.path
+        inside = [it for path, it in kernels.items() if lies_in(path, scope)]
+        named = [(it, signal) for it in inside for signal in it.signals if signal[1] == status.what and it.form in ("Emit", "Present", "Suspend")]
+        signal = next((signal for _, signal in named), (status.what, status.what, 0))
+        emissions = [it for path, it in kernels.items() if it.form == "Emit" and path in starts and lies_in(path, scope)
+                     and it.signals[0][1] == status.what]
+        tests = [it for it, _ in named if it.form != "Emit"]
+        found.append(Unknown(signal, tests, emissions))
+    return found
+
+
 def cures_of(text, main, modules_in_cycle):
-    """The places where one `pause;` makes the program accept the source, each of them asked."""
+    """The places where one `pause;`, or `weak abort` for `abort`, makes the program accept the source, each of them asked."""
     found = []
     for module in modules_of(text):
         if module.name.name not in modules_in_cycle:
@@ -86,6 +112,8 @@ def cures_of(text, main, modules_in_cycle):
         for statement in all_statements(module.body):
             if statement.form in ("sequence", "parallel"):
                 continue
+            if statement.form == "abort" and asked(text[: statement.start] + "weak " + text[statement.start :], main).status == DONE:
+                found.append(Cure(statement, module.name.name, True))
             answer = asked(text[: statement.start] + "pause; " + text[statement.start :], main)
             if answer.status == DONE:
                 found.append(Cure(statement, module.name.name))

@@ -203,6 +203,13 @@ def what_a_pause_changes(statement):
     return "the statement here starts one instant later"
 
 
+def what_changes(cure):
+    """What a cure changes."""
+    if cure.is_weak:
+        return "in the instant in which it is left, the body still runs"
+    return what_a_pause_changes(cure.statement)
+
+
 def explain_cycle(page, line, main, wants_cures):
     """The notes about a cycle."""
     wires = wires_in(line)
@@ -220,7 +227,8 @@ def explain_cycle(page, line, main, wants_cures):
     if wants_cures:
         cures = cures_of(page.text, main, {step.kernel.origin.module for step in steps})
         for cure in cures:
-            page.add(cure.statement.start, "note", "a `pause;` here breaks the cycle: %s" % what_a_pause_changes(cure.statement))
+            what = "a `pause;`" if not cure.is_weak else "`weak abort` in place of `abort`"
+            page.add(cure.statement.start, "note", "%s here breaks the cycle: %s" % (what, what_changes(cure)))
         if not cures:
             page.add(first.kernel.place[0], "note", "no single `pause;` breaks all cycles; docs/cycles.md has other cures")
 

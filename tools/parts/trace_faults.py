@@ -4,12 +4,17 @@ import os
 import re
 import tempfile
 
-from explanation import Page
+from cycles import compared_kernels, unknown_of
+from explanation import Page, signal_words
+from listing import wire_of
 from program import DONE, TRACE, ask, main_words, read, write_file
 from source import modules_of
 from tokens import Unread, line_and_column
 from traces import RESET
 
+# How `cec run --via tri` ends at an instant that is not constructive.
+STUCK = 12
+NOT_CONSTRUCTIVE = re.compile(r"cec: instant (\d+): not constructive: (.*)")
 FAULT = re.compile(r"cec: (?:instant (\d+)|byte (\d+)): (.*)")
 FIRST = "the inputs of the first instant change nothing: an `await` does not see the instant in which it starts"
 
@@ -111,6 +116,38 @@ def first_instant(page, source, main):
     if lines is not None and lines == lines_of_run(source, main, without):
         page.add(start, "warning", FIRST)
         page.add(start, "note", "begin the trace with an empty instant, `;`")
+
+
+def explain_unknown(page, unknown):
+    """A note for each test of an unknown signal, and for each emission that may happen."""
+    for it in unknown:
+        for kernel in it.tests:
+            page.add(kernel.place[0], "note", "%s is tested here, and stays unknown in this instant" % signal_words(it.signal), True)
+        for kernel in it.emissions:
+            page.add(kernel.place[0], "note", "whether %s is emitted here stays unknown" % signal_words(it.signal), True)
+
+
+def stuck_explained(trace, source, main=None):
+    """The pages of a trace and of its source whose dependencies form a cycle, and the status of `cec run --via tri` over the trace."""
+    answer = ask("run", "--via", "tri", *main_words(main), source, trace)
+    page, of_source = Page(trace, read(trace) if answer.status in (DONE, TRACE, STUCK) else ""), Page(source, read(source))
+    lines = answer.err.decode("latin-1").strip().splitlines()
+    if answer.status == TRACE:
+        trace_fault(page, lines[-1], source, main)
+    elif answer.status == STUCK and NOT_CONSTRUCTIVE.match(lines[-1]):
+        match, groups = NOT_CONSTRUCTIVE.match(lines[-1]), groups_at(page.text)
+        wires = [wire_of(text) for text in match[2].split(", ")]
+        kernels = compared_kernels(of_source.text, main)
+        page.add(groups[int(match[1]) - 1][0], "error", "instant %s: not constructive" % match[1])
+        if kernels and None not in wires:
+            explain_unknown(of_source, unknown_of(wires, kernels))
+        else:
+            page.add(None, "note", "the unknown wires: " + match[2])
+    elif answer.status == DONE:
+        page.add(None, "note", "each instant of this trace is constructive")
+    else:
+        page.add(None, "error", lines[-1].removeprefix("cec: ") if lines else "status %d" % answer.status)
+    return page, of_source, answer.status
 
 
 def trace_explained(trace, source, main=None, wants_lint=False):
