@@ -1,7 +1,7 @@
 -- Lines with one more point.
 use Rattle.std.proofs.Common.{◌≡◌, ◌<◌, ◌+◌, ◌≤◌, ℕ, Bool, true, ◌&&◌, List, [], ◌∷◌, ◌++◌, length, get_or, take, Option, refl, sym, ap, subst, ◌∙◌, arith}
 use Rattle.std.proofs.Math.Bool.{and-true}
-use Rattle.std.proofs.lemmas.List.{append-nil, append_assoc, length-append, take_more, take-length, length-take-le}
+use Rattle.std.proofs.lemmas.List.{append-nil, append_assoc, length-append, take_all, take_more, length-take-le}
 use Rattle.std.proofs.lemmas.List.Folds.{list_all-append}
 use Rattle.std.specs.List.{list_all}
 use Rattle.est_ast.specs.FlatTrees.{Flat}
@@ -61,7 +61,7 @@ part-all source flat assumed points text whole is part = record {
   reaches = part.reaches;
   count = part.count ∙ ap length is;
   known = part.known;
-  written = part.written ∙ ap (λ ps. covering_text source ps part.reaches) (take-length points ∙ is);
+  written = part.written ∙ ap (λ ps. covering_text source ps part.reaches) (take_all (length points) points (omega arith) ∙ is);
   each_decided = part.each_decided;
 }
 

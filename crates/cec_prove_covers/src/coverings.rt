@@ -48,7 +48,7 @@ pub fn covering_of<P: Picker>(
         Some(room) => room,
     };
     let lines = source_lines(alloc, text, main, picker, assumed, effort, room)?;
-    Ok(covering(lines))
+    Ok(whole_or_partly(lines))
 }
 
 // The lines of all points of a source, with at most this many new signals at a time.
@@ -73,7 +73,7 @@ fn source_lines<P: Picker>(
 }
 
 // What the lines say.
-fn covering(lines: Lines) -> Covering
+fn whole_or_partly(lines: Lines) -> Covering
     ensures { IsWritten lines.text.items lines.whole result }
 {
     if lines.whole {

@@ -1,6 +1,6 @@
 // The lines of all points, portion by portion.
 
-ghost use Rattle.std.specs.Prelude.{◌≡◌, ◌+◌, ◌-◌, ◌≤◌, ◌<◌, ◌&&◌, ◌^◌, IfOk, OnOk, length, map, option_map, take};
+ghost use Rattle.std.specs.Prelude.{◌≡◌, ◌+◌, ◌-◌, ◌≤◌, ◌<◌, ◌&&◌, ◌^◌, IfOk, OnOk, length, map, option_map, slice_index_or, take};
 ghost use Rattle.est_ast.specs.FlatPrograms.{IsFlat};
 ghost use Rattle.est_ast.specs.FlatViews.{flat_of};
 ghost use Rattle.est_cover.specs.Covered.{covered};
@@ -125,8 +125,8 @@ fn push_unknown(
     requires within { end ≤ length asked.now.points.now }
     ensures { HasLines asked.now first lines.old → OnOk result (HasLines asked.now end lines.new) }
 {
-    let unknown = Finding::Open(0);
     for number in first..end {
+        let unknown = Finding::Open(0);
         push_finding(asked, number, &unknown, lines)?;
     }
     Ok(())
@@ -168,9 +168,18 @@ fn push_finding(
         (reach_of finding.now) }
     ensures { HasLines asked.now number lines.old → OnOk result (HasLines asked.now (number + 1) lines.new) }
 {
-    push_point(&mut lines.text, asked.source, asked.points[number], finding)?;
+    let point = point_at(asked.points, number);
+    push_point(&mut lines.text, asked.source, point, finding)?;
     lines.whole = both(lines.whole, is_decided(finding));
     Ok(())
+}
+
+// The point with this number.
+fn point_at(points: &[Point], number: usize) -> Point
+    requires { number < length points.now }
+    ensures { result ≡ slice_index_or points.now number result }
+{
+    points[number]
 }
 
 // Whether both are so.

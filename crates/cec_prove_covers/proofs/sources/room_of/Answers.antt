@@ -5,9 +5,10 @@ use Rattle.cec_compile.specs.NetMeaning.{NetKeeps}
 use Rattle.cec_prove_sources.specs.Verdicts.{IsNone}
 use Rattle.cec_prove_covers.proofs.sources.room_of.Goals as goal
 
-pub room_beside-requires : goal.room_beside-requires
-room_beside-requires g c =
-    let s = c.in_ok-compiled.ensures.compiles in subst (NetKeeps (netlist_of c.in_ok-compiled.compiled.net)) (sym s.compiled.program) s.compiled.keeps
+pub room_beside-room-requires : goal.room_beside-room-requires
+room_beside-room-requires g c =
+    let s = c.in_ok-compiled.ensures.compiles in
+    record { keeps = subst (NetKeeps (netlist_of c.in_ok-compiled.compiled.net)) (sym s.compiled.program) s.compiled.keeps }
 
 pub returns-clause-room : goal.returns-clause-room
 returns-clause-room g c =
