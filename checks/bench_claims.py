@@ -17,7 +17,10 @@ from bench_tools import TOP
 sys.path.insert(0, str(TOP / "tools" / "parts"))
 from blif import blif_of  # noqa: E402
 
-RUNS, INSTANTS, ROUNDS = 512, 40, 200
+# Random runs in groups of 32, each with its own density of every input, and the instants of each run.
+GROUPS, RUNS, INSTANTS = 12, 32, 300
+# The claims that are asked one by one at a time, the instants of a run from a counterexample, and the most rounds.
+PART, LATER, ROUNDS = 200, 16, 100
 
 
 class Nets:
@@ -88,13 +91,23 @@ class Classes:
 
 def guessed(nets, draw):
     """The classes that random runs from the first instant leave."""
-    classes, whole = Classes(nets), (1 << RUNS) - 1
+    classes, whole = Classes(nets), (1 << GROUPS * RUNS) - 1
+    kinds = [[draw.randrange(4) for _ in range(GROUPS)] for _ in range(nets.inputs)]
     states = [whole if start else 0 for start in nets.starts]
     for _ in range(INSTANTS):
-        values = nets.values([draw.getrandbits(RUNS) & draw.getrandbits(RUNS) for _ in range(nets.inputs)], states, whole)
+        values = nets.values([mixed(groups, draw) for groups in kinds], states, whole)
         classes.note(values, whole)
         states = [values[link] for link in nets.links]
     return classes
+
+
+def mixed(groups, draw):
+    """An input's values in some groups of runs: rarely, sometimes, often or mostly present."""
+    value = 0
+    for kind in groups:
+        one, other, third = (draw.getrandbits(RUNS) for _ in range(3))
+        value = value << RUNS | (one & other & third, one & other, one, one | other | third)[kind]
+    return value
 
 
 class Question:
@@ -113,7 +126,7 @@ class Question:
         else:
             self.clauses += [[nets.inputs + k + 1 if start else -(nets.inputs + k + 1)] for k, start in enumerate(nets.starts)]
         self.late = nets.count if is_later else 0
-        self.clauses.append([self.broken(*claim) for claim in claims])
+        self.broken = [self.breaking(*claim) for claim in claims]
 
     def variable(self):
         self.count += 1
@@ -142,7 +155,7 @@ class Question:
             if cubes != [net]:
                 self.clauses += [[net, -cube] for cube in cubes] + [[-net, *cubes]]
 
-    def broken(self, net, other, turned):
+    def breaking(self, net, other, turned):
         """A literal that is true only where a claim is false in the instant asked about."""
         net = self.late + net + 1
         if other is None:
@@ -158,13 +171,23 @@ def text_of(count, clauses):
     return f"p cnf {count} {len(clauses)}\n" + "".join(" ".join(map(str, clause)) + " 0\n" for clause in clauses)
 
 
-def valuation(search, question):
-    """The values of the variables in an answer of test_dimacs; None where there is no valuation."""
-    given = text_of(question.count, question.clauses) + "v 0\n"
-    words = subprocess.run([search], input=given, capture_output=True, text=True, check=True).stdout.split("\n")[0].split()
-    if words[0] not in ("satisfiable", "unsatisfiable"):
-        raise SystemExit(f"test_dimacs answers {words[0]}")
-    return None if words[0] == "unsatisfiable" else [int(word) > 0 for word in words[1:]]
+def answers(search, question, lines):
+    """The answers of test_dimacs to some lines after the clauses of a question."""
+    asked = text_of(question.count, question.clauses) + "".join(lines)
+    return subprocess.run([search], input=asked, capture_output=True, text=True, check=True).stdout.splitlines()
+
+
+def valuations(search, question):
+    """Valuations of the nets in the instant asked about that break claims, as test_dimacs answers some claim by claim."""
+    any_one = " ".join(map(str, question.broken)) + " 0\n"
+    if answers(search, question, [any_one])[0] == "unsatisfiable":
+        return []
+    for start in range(0, len(question.broken), PART):
+        told = answers(search, question, [f"v {literal} 0\n" for literal in question.broken[start : start + PART]])
+        found = [line.split()[1 + question.late : 1 + question.late + question.nets.count] for line in told if line[0] == "s"]
+        if found:
+            return ["".join("0" if word.startswith("-") else "1" for word in words) for words in found]
+    raise SystemExit("test_dimacs answers a question in two ways")
 
 
 def questions(text, search):
@@ -178,19 +201,16 @@ def questions(text, search):
             if not claims:
                 break
             question = Question(nets, claims, is_later)
-            yield question.count, question.clauses
-            values = valuation(search, question)
-            if values is None:
+            yield question.count, question.clauses + [question.broken]
+            found = valuations(search, question)
+            if not found:
                 break
-            classes.note([int(values[question.late + net]) for net in range(nets.count)], 1)
-            again(nets, classes, values[question.late : question.late + nets.count], draw)
+            again(nets, classes, [int("".join(column), 2) for column in zip(*found)], (1 << len(found)) - 1, draw)
 
 
-def again(nets, classes, values, draw):
-    """Splits classes by random runs from the instant that broke one."""
-    whole = (1 << RUNS) - 1
-    states = [whole if values[link] else 0 for link in nets.links]
-    for _ in range(4):
-        found = nets.values([draw.getrandbits(RUNS) for _ in range(nets.inputs)], states, whole)
-        classes.note(found, whole)
-        states = [found[link] for link in nets.links]
+def again(nets, classes, values, whole, draw):
+    """Splits classes by instants that broke some, and by random runs from them."""
+    for _ in range(LATER):
+        classes.note(values, whole)
+        inputs = [draw.getrandbits(whole.bit_length()) for _ in range(nets.inputs)]
+        values = nets.values(inputs, [values[link] for link in nets.links], whole)

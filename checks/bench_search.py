@@ -1,4 +1,4 @@
-"""The table of the SAT search: drawn questions, side by side with minisat and cadical of Debian.
+"""The table of the SAT search: claims of cec-opt and random questions, side by side with minisat and cadical of Debian.
 
 Every question is a text in DIMACS form, which test_dimacs, minisat and cadical read. test_dimacs checks each clause that it learns;
 cadical is measured without and with a proof, which nothing checks. minisat is measured with and without the preprocessing that
@@ -6,10 +6,12 @@ eliminates variables, which test_dimacs does not have."""
 import itertools
 import os
 import random
+import shlex
 import shutil
 import subprocess
 
-from bench_tools import TOP, table
+from bench_claims import questions
+from bench_tools import PROGRAM, TOP, table
 
 SEARCH = os.environ.get("CEC_SEARCH") or TOP / "crates/test_dimacs/out/test_dimacs"
 
@@ -174,7 +176,22 @@ def pigeons(holes):
     return (holes + 1) * holes, clauses
 
 
+# Sources of checks/corpus/tune whose claims are asked, and examples.
+CLAIMED = [TOP / "checks/corpus/tune" / f"{name}.strl" for name in ("coffee", "counters", "lift", "vending", "watchdogs")]
+CLAIMED += [TOP / "examples" / f"{name}.strl" for name in ("bus", "elevator", "runner", "stopwatch", "traffic_light", "watch")]
+
+
+def claims(*options):
+    """The claims that cec-opt asks about the BLIF texts of some sources."""
+    program = shlex.split(os.environ.get("CEC", "")) or [PROGRAM]
+    for source in CLAIMED:
+        text = subprocess.run([*program, "blif", *options, source], capture_output=True, text=True, check=True).stdout
+        yield from questions(text, SEARCH)
+
+
 FAMILIES = {
+    "claims about 11 texts": claims,
+    "claims about 11 encoded texts": lambda: claims("--encode"),
     "10 random, 150 variables": lambda: [threshold(150, k) for k in range(10)],
     "10 random, 200 variables": lambda: [threshold(200, k) for k in range(10)],
     "10 random, 225 variables": lambda: [threshold(225, k) for k in range(10)],
@@ -212,7 +229,9 @@ def search_table(folder):
     rows = []
     for name, make in FAMILIES.items():
         times, memory, agree = dict.fromkeys(tools, 0.0), dict.fromkeys(tools, 0.0), True
+        asked = 0
         for count, clauses in make():
+            asked += 1
             path = folder / "question.cnf"
             path.write_text(f"p cnf {count} {len(clauses)}\n" + "".join(" ".join(map(str, it)) + " 0\n" for it in clauses))
             found = {tool: answered(tool, path, folder) for tool in tools}
@@ -220,6 +239,6 @@ def search_table(folder):
             for tool, (_, time, most) in found.items():
                 times[tool] += time
                 memory[tool] = max(memory[tool], most)
-        cells = [name] + ["%.2f" % times[it] for it in tools] + ["%.0f" % memory[it] for it in (tools[0], tools[-1])]
+        cells = [name, str(asked)] + ["%.2f" % times[it] for it in tools] + ["%.0f" % memory[it] for it in (tools[0], tools[-1])]
         rows.append(cells + ["yes" if agree else "NO"])
-    table(["Questions"] + [f"{it}, s" for it in tools] + [f"{tools[0]}, MB", f"{tools[-1]}, MB", "agree"], rows)
+    table(["Questions", "asked"] + [f"{it}, s" for it in tools] + [f"{tools[0]}, MB", f"{tools[-1]}, MB", "agree"], rows)

@@ -1,4 +1,5 @@
-"""Reads the types of lemmas, with names resolved and binders numbered, to find those that stand in more than one file.
+"""Reads the types of lemmas, with names resolved and binders numbered, to find those that several files have, and those that
+another lemma gives by one substitution.
 
 A lemma is a declaration of a file of `proofs/` that is no abbreviation; worked data in `proofs/worked/`, whose values may well
 agree, and a function's own folder are left out. A name is resolved by the file's `use` lines; one of the toolchain's library
@@ -98,9 +99,8 @@ class ProofFile:
         return " ".join(parts)
 
 
-def twice(top):
-    """Each type that lemmas of more than one file have, with these lemmas."""
-    found = collections.defaultdict(list)
+def all_lemmas(top):
+    """Each lemma, by its file and its name, with its type."""
     for path in sorted(top.glob("crates/*/proofs/**/*.antt")):
         inner = path.relative_to(top / "crates")
         if path.name in LEFT_OUT or "worked" in inner.parts:
@@ -108,5 +108,88 @@ def twice(top):
         read = ProofFile(path, "Rattle." + ".".join(inner.with_suffix("").parts))
         for name, (short, _, _) in read.declared.items():
             if not short:
-                found[read.type_of(name)].append(f"{inner}: {name}")
+                yield f"{inner}: {name}", read.type_of(name)
+
+
+def twice(lemmas):
+    """Each type that lemmas of more than one file have, with these lemmas."""
+    found = collections.defaultdict(list)
+    for lemma, its_type in lemmas:
+        found[its_type].append(lemma)
     return [them for them in found.values() if len({it.split(":")[0] for it in them}) > 1]
+
+
+# ---- lemmas that are instances of others
+
+OPENING, CLOSING = "({[", ")}]"
+VARIABLE = re.compile(r"v\d+")
+# A type with fewer words than this is an instance of too many others to mean anything.
+FEWEST_WORDS = 3
+
+
+def nested(tokens):
+    """Tokens as a tree, in which brackets with what they hold are a tuple; none where brackets do not match."""
+    stack = [[]]
+    for token in tokens:
+        if token in CLOSING:
+            if len(stack) == 1:
+                return None
+            inner = tuple(stack.pop())
+            stack[-1].append(inner)
+        elif token in OPENING:
+            stack.append([token])
+        else:
+            stack[-1].append(token)
+    return stack[0] if len(stack) == 1 else None
+
+
+def is_binder(node):
+    """Whether a node binds variables."""
+    return isinstance(node, tuple) and ":" in node
+
+
+def premises_and_conclusion(its_type):
+    """The premises of a lemma and its conclusion, without what binds variables."""
+    parts = [[]]
+    for node in nested(its_type.split(" ")) or []:
+        if node == "→":
+            parts.append([])
+        else:
+            parts[-1].append(node)
+    left = [tuple(it for it in part if not (is_binder(it) and it[0] == "{")) for part in parts if not all(map(is_binder, part))]
+    return left
+
+
+def becomes(pattern, tree, values):
+    """Whether a pattern becomes a tree where its variables have these values; the values of further ones are added."""
+    if isinstance(pattern, str):
+        return values.setdefault(pattern, tree) == tree if VARIABLE.fullmatch(pattern) else pattern == tree
+    return isinstance(tree, tuple) and len(pattern) == len(tree) and all(becomes(p, t, values) for p, t in zip(pattern, tree))
+
+
+def words_of(tree):
+    """The words of a tree that are neither marks nor variables."""
+    for node in tree:
+        if isinstance(node, tuple):
+            yield from words_of(node)
+        elif node not in MARKS and not VARIABLE.fullmatch(node):
+            yield node
+
+
+def instances(lemmas):
+    """Each lemma that another one gives by one substitution, after that other one: `GENERAL ~ INSTANCE`."""
+    shapes = collections.defaultdict(list)
+    for lemma, its_type in lemmas:
+        parts = premises_and_conclusion(its_type)
+        shapes[tuple(map(len, parts))].append((lemma, parts))
+    for them in shapes.values():
+        for general, pattern in them:
+            if len(list(words_of(pattern))) < FEWEST_WORDS:
+                continue
+            for instance, parts in them:
+                values = {}
+                if general == instance or not all(becomes(p, t, values) for p, t in zip(pattern, parts)):
+                    continue
+                names = [it for it in values.values() if isinstance(it, str) and VARIABLE.fullmatch(it)]
+                if len(set(names)) < len(values):
+                    yield f"{general} ~ {instance}"

@@ -315,8 +315,14 @@ def faults_have_messages():
 
 
 def lemmas_are_said_once():
-    """No two files of proofs have a lemma of the same type: see checks/lemmas.py."""
-    return [", ".join(them) for them in lemmas.twice(TOP)]
+    """No two files of proofs have a lemma of the same type, and no lemma is an instance of another one that is not listed in
+    checks/lemma_instances.txt: see checks/lemmas.py."""
+    found = list(lemmas.all_lemmas(TOP))
+    lines = (TOP / "checks" / "lemma_instances.txt").read_text().splitlines()
+    known, made = {it for it in lines if it and not it.startswith("#")}, set(lemmas.instances(found))
+    new = [f"{it}: the second is an instance of the first" for it in sorted(made - known)]
+    gone = [f"checks/lemma_instances.txt: {it}: no longer so, remove the line" for it in sorted(known - made)]
+    return [", ".join(them) for them in lemmas.twice(found)] + new + gone
 
 
 def edits_are_named():

@@ -7,12 +7,9 @@ use Rattle.std.specs.List.{list_all}
 use Rattle.est_ast.specs.FlatTrees.{Flat}
 use Rattle.est_cover.specs.declared.points.Point.{Point}
 use Rattle.est_cover.specs.Points.{points_of}
-use Rattle.est_kernel.specs.Plain.{Program}
-use Rattle.cec_prove_covers.specs.declared.coverings.Covering.{Covering}
-use Rattle.cec_prove_covers.specs.declared.coverings.Covering.TheVariants.{Whole, Partly, NoAssumed}
-use Rattle.cec_prove_covers.specs.Coverings.{AreReaches, IsCovering, IsCoveringText, IsReach, SaysCovering}
+use Rattle.cec_prove_covers.specs.Coverings.{AreReaches, IsCoveringText, IsReach}
 use Rattle.cec_prove_covers.specs.Lines.{Reach, covering_text, is_decided, point_text}
-use Rattle.cec_prove_covers.specs.Stages.{IsCoveringPart, IsWritten}
+use Rattle.cec_prove_covers.specs.Stages.{IsCoveringPart}
 
 reaches-more : (flat : Flat) (assumed : Option (List ℕ)) (number : ℕ) (reaches : List Reach) (r : Reach) → AreReaches flat assumed number reaches
     → IsReach flat assumed (number + length reaches) r → AreReaches flat assumed number (reaches ++ r ∷ [])
@@ -64,12 +61,3 @@ part-all source flat assumed points text whole is part = record {
   written = part.written ∙ ap (λ ps. covering_text source ps part.reaches) (take_all (length points) points (omega arith) ∙ is);
   each_decided = part.each_decided;
 }
-
--- what lines of all points say
-pub says-written : (source : List ℕ) (main assumed : Option (List ℕ)) (p : Program) (text : List ℕ) (whole : Bool) (covering : Covering)
-    → IsCovering source main assumed text whole → IsWritten text whole covering → SaysCovering source main assumed p covering
-says-written source main assumed p text whole (Whole lines) is written =
-    subst (λ b. IsCovering source main assumed lines.items b) written.1 (subst (λ t. IsCovering source main assumed t whole) (sym written.0) is)
-says-written source main assumed p text whole (Partly lines) is written =
-    subst (λ b. IsCovering source main assumed lines.items b) written.1 (subst (λ t. IsCovering source main assumed t whole) (sym written.0) is)
-says-written source main assumed p text whole NoAssumed is written = absurd written

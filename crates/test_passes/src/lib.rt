@@ -8,8 +8,6 @@
 #[cfg(test)]
 mod digraphs;
 #[cfg(test)]
-mod guarded;
-#[cfg(test)]
 mod outside;
 #[cfg(test)]
 mod pickers;
