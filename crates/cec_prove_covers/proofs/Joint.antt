@@ -13,9 +13,31 @@ pub reach-shown : (flat : Flat) (first : ℕ) (names : List (List ℕ)) (number 
     → IsCoveredProgram (covered flat first names) p → first ≤ number → HasPlace names signal (number - first) → IsSignalReach p signal assumed r
     → IsReach flat assumed number r
 reach-shown flat first names number p signal assumed Never is from named h =
-    record { program = p; signal = signal; shows = record { first = first; names = names; expands = is.expands; from = from; named = named; differ =
-        is.names }; never = h }
+    record {
+      program = p;
+      signal = signal;
+      shows = record {
+        first = first;
+        names = names;
+        expands = is.expands;
+        from = from;
+        named = named;
+        differ = is.names;
+      };
+      never = h;
+    }
 reach-shown flat first names number p signal assumed (Reached trace) is from named h =
-    record { program = p; signal = signal; shows = record { first = first; names = names; expands = is.expands; from = from; named = named; differ =
-        is.names }; starts = h }
+    record {
+      program = p;
+      signal = signal;
+      shows = record {
+        first = first;
+        names = names;
+        expands = is.expands;
+        from = from;
+        named = named;
+        differ = is.names;
+      };
+      starts = h;
+    }
 reach-shown flat first names number p signal assumed Unknown is from named h = tt

@@ -1,6 +1,7 @@
 // The lines of all points, portion by portion.
 
-ghost use Rattle.std.specs.Prelude.{◌≡◌, ◌+◌, ◌-◌, ◌≤◌, ◌<◌, ◌&&◌, ◌^◌, IfOk, OnOk, length, map, option_map, slice_index_or, take};
+ghost use Rattle.std.specs.Prelude.{◌≡◌, ◌+◌, ◌-◌, ◌≤◌, ◌<◌, ◌&&◌, ◌^◌, IfOk, OnOk, length, map, option_map};
+ghost use Rattle.std.specs.Prelude.{slice_index_or, take};
 ghost use Rattle.est_ast.specs.FlatPrograms.{IsFlat};
 ghost use Rattle.est_ast.specs.FlatViews.{flat_of};
 ghost use Rattle.est_cover.specs.Covered.{covered};

@@ -1,5 +1,5 @@
 -- Inner: the covered program keeps what a flat program keeps.
-use Rattle.std.proofs.Common.{◌≡◌, ℕ, ◌+◌, ◌<◌, ◌≤◌, ◌^◌, Bool, nat_lt, List, [], ◌∷◌, ◌++◌, length, map, take, drop, refl, sym, ap, subst, ◌∙◌, arith, All}
+use Rattle.std.proofs.Common.{◌≡◌, ℕ, ◌+◌, ◌≤◌, nat_lt, List, ◌++◌, length, take, drop, refl, sym, ap, subst, ◌∙◌, arith, All}
 use Rattle.std.proofs.Common.{IsTrue, append_assoc}
 use Rattle.std.proofs.lemmas.List.{length-append, length-take-le, take-append-drop, take_at}
 use Rattle.std.proofs.lemmas.List.Elements.{All-append}
@@ -7,10 +7,10 @@ use Rattle.base_types.specs.declared.bounds.TheConstants.Limits.{SIGNALS}
 use Rattle.base_types.specs.Distinct.{all_differ}
 use Rattle.base_types.specs.Names.{is_name, is_same_name}
 use Rattle.est_ast.specs.FlatTrees.{Flat}
-use Rattle.est_ast.specs.FlatFits.{Scope, Fits}
+use Rattle.est_ast.specs.FlatFits.{Fits}
 use Rattle.est_ast.specs.FlatPrograms.{IsFlat, IsNamed, whole_scope}
 use Rattle.est_ast.specs.NewSignals.{new_in}
-use Rattle.est_cover.specs.Covered.{covered, covered_stmt, visible_count}
+use Rattle.est_cover.specs.Covered.{covered, visible_count}
 use Rattle.est_cover.specs.NewNames.{AreNew}
 use Rattle.est_cover.proofs.Fitting.{body-fits}
 

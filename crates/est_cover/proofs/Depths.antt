@@ -1,5 +1,5 @@
 -- Inner: what is in a flat statement is less deep, by the measure that the walk falls in.
-use Rattle.std.proofs.Common.{◌≡◌, ℕ, ◌+◌, ◌*◌, ◌<◌, zero, suc, List, [], ◌∷◌, length, get_or, Some, None, ap, arith, sym}
+use Rattle.std.proofs.Common.{◌≡◌, ℕ, ◌+◌, ◌*◌, ◌<◌, zero, suc, List, [], ◌∷◌, length, get_or, Some, ap, arith}
 use denote.Hole.Weighs.{depth-Weighs}
 use denote.Param.Weighed.{most}
 use Rattle.est_ast.proofs.flat.FlatCase.TheLaws.{the_size as case_size}

@@ -1,6 +1,6 @@
 -- Inner: names of new signals.
-use Rattle.std.proofs.Common.{◌≡◌, ℕ, ◌<◌, ◌≤◌, ◌^◌, ◌==◌, ◌&&◌, ◌||◌, Bool, true, false, not, List, [], ◌∷◌, ◌++◌, length, map, take, refl, sym}
-use Rattle.std.proofs.Common.{ap, subst, ◌∙◌, arith, All}
+use Rattle.std.proofs.Common.{◌≡◌, ℕ, ◌<◌, ◌≤◌, ◌^◌, ◌==◌, ◌||◌, Bool, true, false, not, List, [], ◌∷◌, ◌++◌, length, map, refl, sym}
+use Rattle.std.proofs.Common.{ap, ◌∙◌, arith, All}
 use Rattle.std.proofs.Common.{IsTrue, append_assoc, append-nil, decimal, nat_le, get_or, drop, ◌+◌}
 use Rattle.std.specs.List.{list_any, list_all}
 use Rattle.std.specs.Str.Parse.{AllDigits}

@@ -1,5 +1,5 @@
 -- Inner: the points and the covered statement of each node of the code.
-use Rattle.std.proofs.Common.{◌≡◌, ℕ, ◌+◌, ◌<◌, ◌≤◌, List, [], ◌∷◌, length, map, drop, get_or, Option, Some, None, refl, sym, ◌∙◌, ap, arith}
+use Rattle.std.proofs.Common.{◌≡◌, ℕ, ◌+◌, ◌<◌, ◌≤◌, List, [], ◌∷◌, length, map, drop, get_or, Option, Some, None, refl, sym, ◌∙◌, ap}
 use Rattle.std.proofs.Common.{true, false, ◌++◌, append_assoc, append-nil, nat_le, nat_lt}
 use Rattle.std.proofs.lemmas.Bool.{and_parts, leb-true, ltb-true}
 use Rattle.std.proofs.Math.ListN.{drop_of_length-le}
@@ -12,12 +12,11 @@ use Rattle.base_types.specs.declared.place.Span.{Span}
 use Rattle.est_ast.specs.declared.flat.FlatCase.{FlatCase, FlatCase', FlatCase-body-None', FlatCase-body-Some', out-FlatCase}
 use Rattle.est_ast.specs.declared.flat.FlatDelay.{FlatDelay}
 use Rattle.est_ast.specs.declared.flat.FlatExpr.{FlatExpr}
-use Rattle.est_ast.specs.declared.flat.FlatForm.{FlatForm}
 use Rattle.est_ast.specs.declared.flat.FlatForm.TheVariants as forms
 use Rattle.est_ast.specs.declared.flat.FlatStmt.{FlatStmt}
 use Rattle.est_ast.specs.FlatTrees as trees
 use Rattle.est_ast.specs.FlatTrees.{At, Expr, Stmt, Part, Missing, Written, stmts, cases}
-use Rattle.est_ast.specs.FlatViews.{flat_case_of, flat_stmt_of, flat_part_of}
+use Rattle.est_ast.specs.FlatViews.{flat_case_of, flat_stmt_of}
 use Rattle.est_ast.proofs.Exports.{flat_form-Seq, flat_form-Par, flat_form-AwaitCase, flat_form-PresentCase, flat_form-AbortCase}
 use Rattle.est_cover.specs.declared.points.Point.{Point}
 use Rattle.est_cover.specs.declared.points.PointKind.{PointKind}

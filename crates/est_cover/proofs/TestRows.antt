@@ -5,7 +5,6 @@ use Rattle.std.specs.declared.boxed.Box.{Box}
 use Rattle.std.specs.declared.vec.Vec.{Vec}
 use Rattle.base_types.specs.declared.indices.SigId.{SigId}
 use Rattle.base_types.specs.declared.place.Span.{Span}
-use Rattle.est_ast.specs.declared.flat.FlatDelay.{FlatDelay}
 use Rattle.est_ast.specs.declared.flat.FlatDelay.TheVariants as delays
 use Rattle.est_ast.specs.declared.flat.FlatExpr.{FlatExpr}
 use Rattle.est_ast.specs.declared.flat.FlatExpr.TheVariants as nodes

@@ -9,12 +9,11 @@ ghost use Rattle.est_cover.specs.Nodes.{list_covered};
 ghost use Rattle.est_cover.specs.Nodes.{list_points, more_points, node_covered, node_points, part_covered, part_points};
 ghost use Rattle.est_cover.specs.Nodes.{rest_covered, rest_points, stmt_covered, stmt_points, with_mark};
 
-use crate::forms as rows;
-use crate::leaves;
 use crate::marks::{is_in, mark, marked};
 use crate::moving::moved_test;
 use crate::points::{Point, PointKind};
 use crate::portions::Portion;
+use crate::{forms as rows, leaves};
 use base_types::{NoMemory, Span};
 use est_ast::{FlatCase, FlatExpr, FlatForm, FlatStmt};
 use std::alloc::Global;

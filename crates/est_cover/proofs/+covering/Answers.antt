@@ -1,4 +1,4 @@
-use Rattle.std.proofs.Common.{◌≡◌, ◌∷◌, [], ◌++◌, ◌+◌, ◌*◌, ◌<◌, map, sym, ap, ◌∙◌, arith, rules}
+use Rattle.std.proofs.Common.{◌≡◌, ◌+◌, ◌*◌, ◌<◌, map, ap, ◌∙◌, arith}
 use Rattle.std.proofs.lemmas.List.{map-append}
 use Rattle.est_ast.specs.FlatViews.{flat_stmt_of, flat_case_of}
 use Rattle.est_cover.proofs.Rows.{list-step, list-points_step, list-end, list-points_end, choices-step, choice-points_step, choices-end, choice-points_end}

@@ -19,7 +19,7 @@ returns-then-len-le-SIGNALS c =
     let expands = subst (λ f. expansion (flat_of f) ≡ Expanded p) same c.in-Ok.ensures.expands in
     let count = expansion-signals flat p expands in
     let room : length flat.signals + new_in flat.body ≤ SIGNALS =
-        omega (arith, count, length-map c.in-Ok.program.signals.items (λ (s : SignalInfo). s.name)) in
+    omega (arith, count, length-map c.in-Ok.program.signals.items (λ (s : SignalInfo). s.name)) in
     let whole = subst (λ f. IsFlat (flat_of f)) (sym same) (c.requires.flat room) in
     let named = subst (λ f. IsNamed (flat_of f)) (sym same) c.requires.named in
     record { expands = expands; formed = c.in-Ok.ensures.well_formed whole; names = c.in-Ok.ensures.names whole named }

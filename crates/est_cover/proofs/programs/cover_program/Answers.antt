@@ -1,4 +1,4 @@
-use Rattle.std.proofs.Common.{◌∙◌, map, sym, refl, arith, rules, length, subst}
+use Rattle.std.proofs.Common.{◌∙◌, map, sym, refl, length, subst}
 use Rattle.std.proofs.lemmas.List.{length-map}
 use Rattle.base_types.specs.declared.interface.SignalInfo.{SignalInfo}
 use Rattle.est_ast.specs.FlatViews.{flat_of}
