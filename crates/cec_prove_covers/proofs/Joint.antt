@@ -1,10 +1,10 @@
 -- From the signal of a point to the point.
-use Rattle.std.proofs.Common.{◌≡◌, ◌≤◌, ◌-◌, ℕ, List, Option}
+use Rattle.std.proofs.Common.{◌≤◌, ◌-◌, ℕ, List, Option}
 use Rattle.est_ast.specs.FlatTrees.{Flat}
 use Rattle.est_cover.specs.Covered.{covered}
 use Rattle.est_kernel.specs.Plain.{Program}
 use Rattle.cec_prove_sources.specs.Verdicts.{HasPlace}
-use Rattle.cec_prove_covers.specs.Coverings.{IsReach, ShowsPoint}
+use Rattle.cec_prove_covers.specs.Coverings.{IsReach}
 use Rattle.cec_prove_covers.specs.Findings.{IsSignalReach}
 use Rattle.cec_prove_covers.specs.Lines.{Reach, Never, Reached, Unknown}
 use Rattle.cec_prove_covers.specs.Stages.{IsCoveredProgram}

@@ -1,5 +1,5 @@
 -- How many signals the program of a flat one has.
-use Rattle.std.proofs.Common.{◌≡◌, ◌+◌, ℕ, Bool, true, false, List, [], ◌∷◌, ◌++◌, length, sym, ap, ◌∙◌, cond, nat_lt}
+use Rattle.std.proofs.Common.{◌≡◌, ◌+◌, Bool, true, false, List, [], ◌∷◌, length, sym, ap, ◌∙◌, cond, nat_lt}
 use Rattle.std.specs.Prelude.{codes, replicate}
 use Rattle.std.proofs.lemmas.List.{length-append, length-replicate}
 use Rattle.base_types.specs.declared.bounds.TheConstants.Limits.{KERNEL_NODES, KERNEL_HEIGHT, TRAPS}
@@ -7,7 +7,7 @@ use Rattle.base_types.specs.declared.place.Span.{Span}
 use Rattle.est_ast.specs.FlatTrees.{Flat}
 use Rattle.est_ast.specs.NewSignals.{new_in}
 use Rattle.est_dismantle.specs.Counts.{bad_in}
-use Rattle.est_dismantle.specs.Expansions.{Expansion, Expanded, TooHigh, TooLarge, TooManyTraps, counted, expansion, kernel_body, limited, program_in}
+use Rattle.est_dismantle.specs.Expansions.{Expanded, TooHigh, TooLarge, TooManyTraps, counted, expansion, kernel_body, program_in}
 use Rattle.est_kernel.specs.Plain.{Program}
 use Rattle.est_kernel.specs.Sizes.{height_of, size_of, trap_depth}
 

@@ -1,5 +1,5 @@
 -- To believe: what a covering says of the points of a source.
-use Rattle.std.specs.Prelude.{◌≡◌, ◌≤◌, ◌+◌, ◌-◌, ℕ, Bool, true, false, List, [], ◌∷◌, length, Option, Some, ⊤}
+use Rattle.std.specs.Prelude.{◌≡◌, ◌≤◌, ◌+◌, ◌-◌, ℕ, Bool, true, false, List, [], ◌∷◌, length, Option, ⊤}
 use Rattle.std.specs.List.{list_all}
 use Rattle.est_kernel.specs.Plain.{Program}
 use Rattle.est_kernel.specs.WellFormed.{HasNames}

@@ -1,8 +1,7 @@
 -- Contract: what is known between the steps of a covering.
-use Rattle.std.specs.Prelude.{◌≡◌, ◌≤◌, ◌<◌, ℕ, Bool, true, false, List, length, map, take, Option, None}
+use Rattle.std.specs.Prelude.{◌≡◌, ◌≤◌, ℕ, Bool, true, false, List, length, take, Option, None}
 use Rattle.std.specs.List.{list_all}
 use Rattle.est_ast.specs.FlatTrees.{Flat}
-use Rattle.est_cover.specs.Covered.{covered}
 use Rattle.est_cover.specs.declared.points.Point.{Point}
 use Rattle.est_dismantle.specs.Expansions.{Expanded, expansion}
 use Rattle.est_front.specs.Sources.{StandsFor}

@@ -7,7 +7,6 @@ use Rattle.est_ast.specs.FlatViews.{flat_of}
 use Rattle.est_ast.specs.NewSignals.{new_in}
 use Rattle.est_dismantle.specs.Expansions.{Expanded, expansion}
 use Rattle.est_kernel.specs.Plain.{program_of}
-use Rattle.cec_prove_covers.specs.Stages.{IsCoveredProgram}
 use Rattle.cec_prove_covers.proofs.NewSignals.{expansion-signals}
 use Rattle.cec_prove_covers.proofs.nets.kernel_of.Goals as goal
 

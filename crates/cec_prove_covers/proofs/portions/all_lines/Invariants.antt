@@ -1,4 +1,4 @@
-use Rattle.std.proofs.Common.{◌≤◌, ◌-◌, length}
+use Rattle.std.proofs.Common.{◌-◌, length}
 use Rattle.cec_prove_covers.specs.Portions.{HasLines}
 use Rattle.cec_prove_covers.proofs.portions.all_lines.Given as goal
 

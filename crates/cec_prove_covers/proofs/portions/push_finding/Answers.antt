@@ -1,5 +1,5 @@
 use Rattle.std.specs.Prelude.{option_map}
-use Rattle.std.proofs.Common.{◌∙◌, ◌++◌, ◌&&◌, ap, refl, arith}
+use Rattle.std.proofs.Common.{◌∙◌, ◌&&◌, ap}
 use Rattle.est_ast.specs.FlatViews.{flat_of}
 use Rattle.cec_prove_covers.specs.Findings.{reach_of}
 use Rattle.cec_prove_covers.proofs.CoveringLines.{part-more}
