@@ -50,6 +50,18 @@ part_writes ends.Done job text lines is = (lines, is)
 part_writes ends.WriteFault job text lines is = (false, (lines, is))
 part_writes ends.NoMemory job text lines is = tt
 
+pub covering_writes : (ended : Written) (job : Job) (text lines : List ℕ) → IsCoveringOf job true text lines
+    → CoveringSays (written_outcome Covered ended) job text
+covering_writes ends.Done job text lines is = (lines, is)
+covering_writes ends.WriteFault job text lines is = (true, (lines, is))
+covering_writes ends.NoMemory job text lines is = tt
+
+pub covering_part_writes : (ended : Written) (job : Job) (text lines : List ℕ) → IsCoveringOf job false text lines
+    → CoveringSays (written_outcome PartlyCovered ended) job text
+covering_part_writes ends.Done job text lines is = (lines, is)
+covering_part_writes ends.WriteFault job text lines is = (false, (lines, is))
+covering_part_writes ends.NoMemory job text lines is = tt
+
 pub comparison_writes : (ended : Written) (job : Job) (first second trace : List ℕ) → IsDistinction job first second trace
     → ComparisonSays (written_outcome Refuted ended) job first second
 comparison_writes ends.Done job first second trace is = (trace, is)
