@@ -1,5 +1,5 @@
 -- What the answers of the steps say of the whole call.
-use Rattle.std.proofs.Common.{◌≡◌, ℕ, ◌≤◌, Bool, true, false, List, [], length, Option, Some, Err, refl, sym, subst, ◌∙◌}
+use Rattle.std.proofs.Common.{◌≡◌, ℕ, true, false, List, [], Option, Some, Err, refl, sym, subst}
 use Rattle.base_types.specs.declared.bounds.TheConstants.Limits.{SOURCE_BYTES}
 use Rattle.base_types.specs.declared.files.reading.FileFault as unread
 use Rattle.base_types.specs.declared.files.reading.FileFault.TheVariants as reading
