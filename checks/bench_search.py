@@ -200,7 +200,7 @@ FAMILIES = {
     "8 multipliers, 4 to 6 bits": lambda: [multipliers(bits, ("array", "columns")) for bits in (4, 5, 6)]
     + [multipliers(bits, ("array", "array")) for bits in (4, 5, 6)]
     + [multipliers(bits, ("columns", "columns")) for bits in (5, 6)],
-    "6 drawn pairs, 14 inputs": lambda: [drawn_pair(seed) for seed in range(6)],
+    "6 random pairs, 14 inputs": lambda: [drawn_pair(seed) for seed in range(6)],
 }
 
 

@@ -8,7 +8,6 @@ pub mod AskedRequests
 pub mod Unrefused
 pub mod Accepting
 pub mod Stopping
-pub mod MarkedWires
 pub mod ReactionFiles
 pub mod RunnerReactions
 pub mod TraceEnds

@@ -1,8 +1,6 @@
 -- A runner of a graph over the items of a trace: what one item brings, what all so far brought, and where it stops.
-use Rattle.std.proofs.Common.{◌≡◌, ℕ, ◌+◌, ◌<◌, ◌≤◌, Bool, true, false, List, [], ◌∷◌, ◌++◌, length, map, Option, Some, None, Ok, Err}
-use Rattle.std.proofs.Common.{if◌then◌else◌, refl, sym, ap, ◌∙◌, subst, append-nil, append_assoc, arith}
-use Rattle.std.specs.Prelude.{filter}
-use Rattle.std.specs.List.{list_any}
+use Rattle.std.proofs.Common.{◌≡◌, ℕ, ◌+◌, ◌<◌, ◌≤◌, Bool, List, [], ◌∷◌, ◌++◌, length, map, Option, Ok, Err}
+use Rattle.std.proofs.Common.{refl, sym, ap, ◌∙◌, subst, append-nil, arith}
 use Rattle.std.proofs.lemmas.List.{map-append}
 use Rattle.std.proofs.lemmas.List.FromFn.{length-map-range_with_len}
 use Rattle.base_types.specs.Items.{Item, Event, Reset}
@@ -11,18 +9,14 @@ use Rattle.base_types.specs.SinkChanges.{SinkChange, IsUntouched}
 use Rattle.base_types.specs.Writing.{Appends, Gains}
 use Rattle.base_types.proofs.Exports.{appends-nothing, appends-twice}
 use Rattle.est_kernel.specs.Plain.{Program, interface_of, outgoing_count, outgoing_names, program_of}
-use Rattle.est_kernel.specs.Reactions.{Answer, before, goes_on, run_from, run_of}
+use Rattle.est_kernel.specs.Reactions.{Answer, before, run_from}
 use Rattle.grc_graph.specs.declared.graph.Graph.{Graph}
 use Rattle.grc_graph.specs.BuiltGraphs.{IsGraphOf}
-use Rattle.grc_graph.specs.GraphRuns.{PlainGraph, graph_of, next_state, program_wires}
-use Rattle.grc_graph.specs.PlainGraphs.{names_of, plain_graph}
-use Rattle.grc_graph.specs.Walk.{State, Initial, remaining}
+use Rattle.grc_graph.specs.PlainGraphs.{names_of}
+use Rattle.grc_graph.specs.Walk.{Initial, remaining}
 use Rattle.grc_graph.specs.WireNames.{WireName, wire_name}
-use Rattle.grc_graph.specs.Wires.{Wire, Out}
-use Rattle.grc_ternary.specs.LeastSolutions.{IsLeast, true_wires}
-use Rattle.grc_ternary.specs.TriRuns.{is_unknown, state_behind, tri_machine}
-use Rattle.grc_formulas.specs.Occasions.{state_of}
-use Rattle.base_machines.specs.Machines.{Machine, IsRunFrom}
+use Rattle.grc_graph.specs.Wires.{Out}
+use Rattle.grc_ternary.specs.LeastSolutions.{true_wires}
 use Rattle.run_trace_io.specs.Lines.{line}
 use Rattle.run_trace_io.specs.Traces.{Reading, next_group}
 use Rattle.run_trace_io.specs.Traces as groups
@@ -31,109 +25,15 @@ use Rattle.run_over_traces.specs.Machines as machines
 use Rattle.run_over_traces.specs.Machines.{Answered, Brings, answer_lines}
 use Rattle.run_over_traces.specs.Steps.{Led, Leads, LineCame}
 use Rattle.run_over_traces.proofs.Exports.{Fits, fits-next, front-leads, leads-more, SoFar, over, run-stops, step-event, lines-of}
-use Rattle.grc_ternary_run.specs.Runners.{IsFresh, Resets, Runner, Steps, program_in, state_in, unknown_wires}
-use Rattle.cec_commands.specs.MarkedWires.{marked_of}
+use Rattle.grc_ternary_run.specs.Runners.{Resets, Runner, Steps, program_in, state_in}
+use Rattle.grc_ternary_stops.specs.MarkedWires.{marked_of}
+use Rattle.grc_ternary_stops.specs.Reaches.{Reacted, Reaches, Stuck, all_before}
+use Rattle.grc_ternary_stops.proofs.Exports.{before_some, reaches_event, reaches_more, reaches_nowhere, reaches_reset, stopped}
 use Rattle.cec_commands.specs.declared.reactions.ReactionFault.{ReactionFault}
 use Rattle.cec_commands.specs.declared.reactions.ReactionFault.TheVariants.{Run, NotConstructive}
-use Rattle.cec_commands.specs.ReactionSteps.{IsReaction, IsReactionStep, OneItem, Reacted, Reaches, RunnerShows, RunsReactions, StopsRunner, Stuck}
-use Rattle.cec_commands.specs.ReactionSteps.{all_before, answers_from, machine_of}
+use Rattle.cec_commands.specs.ReactionSteps.{IsReaction, IsReactionStep, OneItem, RunnerShows, RunsReactions, StopsRunner}
 use Rattle.cec_commands.specs.Runs.{ShowsRun, line_answer}
 use Rattle.cec_commands.specs.TriRuns.{StopsTrace, event_count}
-
--- ---- runs of machines, one behind another
-
-run_behind : {X : Type 0} (M : Machine X) (s : M.State) (items : List Item) (xs : List X) (more : List Item) (ys : List X) → IsRunFrom M s items xs
-    → IsRunFrom M (state_behind M s items xs) more ys → IsRunFrom M s (items ++ more) (xs ++ ys)
-run_behind M s [] [] more ys a b = b
-run_behind M s [] (x ∷ xs) more ys a b = absurd a
-run_behind M s (Event event ∷ items) [] more ys a b = absurd a
-run_behind M s (Event event ∷ items) (x ∷ xs) more ys a b = (a.0, run_behind M (M.next s event x) items xs more ys a.1 b)
-run_behind M s (Reset ∷ items) xs more ys a b = run_behind M M.start items xs more ys a b
-
-state_twice : {X : Type 0} (M : Machine X) (s : M.State) (items : List Item) (xs : List X) (more : List Item) (ys : List X) → IsRunFrom M s items xs
-    → state_behind M (state_behind M s items xs) more ys ≡ state_behind M s (items ++ more) (xs ++ ys)
-state_twice M s [] [] more ys a = refl
-state_twice M s [] (x ∷ xs) more ys a = absurd a
-state_twice M s (Event event ∷ items) [] more ys a = absurd a
-state_twice M s (Event event ∷ items) (x ∷ xs) more ys a = state_twice M (M.next s event x) items xs more ys a.1
-state_twice M s (Reset ∷ items) xs more ys a = state_twice M M.start items xs more ys a
-
--- ---- answers, some before others
-
-before_all : (some others : List Answer) (later : Option (List Answer)) → all_before (some ++ others) later ≡ all_before some (all_before others later)
-before_all [] others later = refl
-before_all (a ∷ some) others later = ap (before a) (before_all some others later)
-
-before_none : (some : List Answer) → all_before some None ≡ None
-before_none [] = refl
-before_none (a ∷ some) = ap (before a) (before_none some)
-
-before_some : (some others : List Answer) → all_before some (Some others) ≡ Some (some ++ others)
-before_some [] others = refl
-before_some (a ∷ some) others = ap (before a) (before_some some others)
-
--- ---- where items lead
-
-pub reaches_nowhere : (r : Runner) → Reaches r [] [] r
-reaches_nowhere r = record { graph = refl; told = λ more. refl; instants = []; run = tt; state = refl }
-
-reaches_more : (r s t : Runner) (items more : List Item) (first others : List Answer) → Reaches r items first s → Reaches s more others t
-    → Reaches r (items ++ more) (first ++ others) t
-reaches_more r s t items more first others a b =
-    let M = machine_of r in
-    let q = state_behind M (state_in r) items a.instants in
-    let run = subst (λ x. IsRunFrom M x more b.instants) a.state
-    (subst (λ (g : Graph). IsRunFrom (tri_machine (plain_graph g)) (state_in s) more b.instants) a.graph b.run) in
-    record {
-      graph = b.graph ∙ a.graph;
-      told = λ rest.
-          ap (answers_from r) (append_assoc items more rest) ∙ a.told (more ++ rest) ∙ ap (all_before first) (b.told rest)
-          ∙ sym (before_all first others (answers_from t rest));
-      instants = a.instants ++ b.instants;
-      run = run_behind M (state_in r) items a.instants more b.instants a.run run;
-      state =
-          b.state ∙ ap (λ (g : Graph). state_behind (tri_machine (plain_graph g)) (state_in s) more b.instants) a.graph
-          ∙ ap (λ x. state_behind M x more b.instants) a.state
-          ∙ state_twice M (state_in r) items a.instants more b.instants a.run;
-    }
-
--- the first state
-pub fresh_state : (r : Runner) → IsFresh r → state_in r ≡ Initial
-fresh_state r fresh = ap (λ b. state_of (plain_graph r.graph).leaves b r.selected) fresh.boot
-
-reaches_reset : (old new : Runner) → Resets old new → Reaches old (Reset ∷ []) [] new
-reaches_reset old new back =
-    let first = fresh_state new back.fresh in
-    record {
-      graph = back.same;
-      told = λ more.
-          sym (ap (λ q. run_from (interface_of (program_in new)) (program_in new).body (remaining q (program_in new).body) more) first
-          ∙ ap (λ (g : Graph).
-          run_from (interface_of (program_of g.program)) (program_of g.program).body (program_of g.program).body more) back.same);
-      instants = [];
-      run = tt;
-      state = first;
-    }
-
--- the state behind a step
-step_state : (old new : Runner) (event : List Bool) (paused : Bool) (s : Steps old event paused new)
-    → state_in new ≡ next_state (plain_graph old.graph) (state_in old) event (true_wires s.statuses)
-step_state old new event paused s = λ i. state_of (plain_graph (s.graph i)).leaves (s.later i) (s.next i)
-
-reaches_event : (old new : Runner) (event : List Bool) (paused : Bool) (re : Reacted old event paused new)
-    → Reaches old (Event event ∷ []) (re.reacts.reaction.answer ∷ []) new
-reaches_event old new event paused re =
-    let x = re.reacts.reaction in
-    let back = sym re.reacts.graph in
-    record {
-      graph = re.reacts.graph;
-      told = λ more.
-          ap (λ o. goes_on o (λ r. run_from (interface_of (program_in old)) (program_in old).body r more)) re.reacts.is
-          ∙ (λ i. before x.answer (run_from (interface_of (program_of (back i).program)) (program_of (back i).program).body (re.reacts.residual i) more));
-      instants = re.steps.statuses ∷ [];
-      run = ((re.steps.least, re.steps.known), tt);
-      state = step_state old new event paused re.steps;
-    }
 
 -- ---- what is shown
 
@@ -313,39 +213,6 @@ shows_program r p items text whose first b = record {
   lines = b.lines ∙ ap (answer_lines (outgoing_names p)) b.shown.told;
 }
 
--- the wires at the marks of those that pass a test
-marked_filtered : (test : Wire → Bool) (wires : List Wire) → marked_of (map test wires) wires ≡ filter test wires
-marked_filtered test [] = refl
-marked_filtered test (w ∷ wires) = by (test w) (marked_filtered test wires)
-  where
-    by : (b : Bool) → marked_of (map test wires) wires ≡ filter test wires
-        → marked_of (b ∷ map test wires) (w ∷ wires) ≡ (if b then w ∷ filter test wires else filter test wires)
-    by true h = ap (λ l. w ∷ l) h
-    by false h = h
-
-some_filtered : (test : Wire → Bool) (wires : List Wire) → list_any (λ b. b) (map test wires) ≡ true → 0 < length (filter test wires)
-some_filtered test [] e = cc
-some_filtered test (w ∷ wires) e = by (test w) (some_filtered test wires) e
-  where
-    by : (b : Bool) → (list_any (λ x. x) (map test wires) ≡ true → 0 < length (filter test wires)) → list_any (λ x. x) (b ∷ map test wires) ≡ true
-        → 0 < length (if b then w ∷ filter test wires else filter test wires)
-    by true more e = omega arith
-    by false more e = more e
-
--- what a program's run answers, over the items that led its runner from the beginning
-run_reached : (g : Graph) (old last : Runner) (items : List Item) (answers : List Answer) → old.graph ≡ g → state_in old ≡ Initial
-    → Reaches old items answers last
-    → (more : List Item) → run_of (program_of g.program) (items ++ more) ≡ all_before answers (answers_from last more)
-run_reached g old last items answers same first reaches more =
-    (λ i. run_from (interface_of (program_of (sym same i).program)) (program_of (sym same i).program).body
-    (remaining (sym first i) (program_of (sym same i).program).body) (items ++ more)) ∙ reaches.told more
-
-pub answers_reached : (g : Graph) (old last : Runner) (items : List Item) (answers : List Answer) → old.graph ≡ g → state_in old ≡ Initial
-    → Reaches old items answers last → run_of (program_of g.program) items ≡ Some answers
-answers_reached g old last items answers same first reaches =
-    ap (run_of (program_of g.program)) (sym (append-nil items)) ∙ run_reached g old last items answers same first reaches [] ∙ before_some answers []
-    ∙ ap Some (append-nil answers)
-
 -- a runner of a program's graph that stops at an event
 pub stops_program : (g : Graph) (old new : Runner) (trace : Reading) (s : SinkChange) (number : ℕ) (shown : List WireName) → IsGraphOf g (program_of g.program)
     → old.graph ≡ g → state_in old ≡ Initial → StopsRunner (outgoing_names (program_of g.program)) trace old new s number
@@ -353,37 +220,15 @@ pub stops_program : (g : Graph) (old new : Runner) (trace : Reading) (s : SinkCh
     → StopsTrace (program_of g.program) trace s number shown
 stops_program g old new trace s number shown is same first o named =
     let p = program_of g.program in
-    let reaches = o.reaches in
-    let T = o.stuck.stays.statuses in
-    let whose : o.last.graph ≡ g = reaches.graph ∙ same in
-    let marks : new.unknown ≡ map (λ w. is_unknown (T w)) (names_of g) = o.stuck.stays.marks ∙ ap (λ x. unknown_wires x T) whose in
-    let plain : plain_graph old.graph ≡ graph_of p = ap plain_graph same ∙ is.graph in
-    let none : answers_from o.last (Event o.event ∷ []) ≡ None =
-    ap (λ x. goes_on x (λ r. run_from (interface_of (program_in o.last)) (program_in o.last).body r [])) o.stuck.none.none in
-    let state : state_in o.last ≡ state_behind (tri_machine (graph_of p)) Initial o.items reaches.instants =
-    reaches.state ∙ ap (λ (G : PlainGraph). state_behind (tri_machine G) (state_in old) o.items reaches.instants) plain
-    ∙ ap (λ (q : State). state_behind (tri_machine (graph_of p)) q o.items reaches.instants) first in
+    let stop = stopped g old o.last new o.items o.answers o.event is same first o.reaches o.stuck in
     record {
       items = o.items;
       event = o.event;
       front = o.front;
       number = o.counted;
-      unknown = filter (λ w. is_unknown (T w)) (program_wires p);
-      stops = record {
-        answers = o.answers;
-        constructive = answers_reached g old o.last o.items o.answers same first reaches;
-        stops = run_reached g old o.last o.items o.answers same first reaches (Event o.event ∷ []) ∙ ap (all_before o.answers) none ∙ before_none o.answers;
-        instants = reaches.instants;
-        run = subst (λ (G : PlainGraph). IsRunFrom (tri_machine G) Initial o.items reaches.instants) plain
-            (subst (λ (q : State). IsRunFrom (machine_of old) q o.items reaches.instants) first reaches.run);
-        statuses = T;
-        least = subst (λ (q : State). IsLeast (graph_of p) q o.event T) state
-            (subst (λ (G : PlainGraph). IsLeast G (state_in o.last) o.event T) (ap plain_graph whose ∙ is.graph) o.stuck.stays.least);
-        left = refl;
-        some = subst (λ ws. 0 < length (filter (λ w. is_unknown (T w)) ws)) is.wires
-            (some_filtered (λ w. is_unknown (T w)) (names_of g) (sym (ap (list_any (λ b. b)) marks) ∙ o.stuck.stays.some));
-      };
-      named = named ∙ ap (map (wire_name p)) (ap (λ l. marked_of l (names_of g)) marks ∙ marked_filtered (λ w. is_unknown (T w)) (names_of g)
-          ∙ ap (filter (λ w. is_unknown (T w))) is.wires);
-      lines = o.came;
+      unknown = marked_of new.unknown (names_of g);
+      stops = stop.0;
+      named = named;
+      lines = subst (λ answers. Appends s.before s.after s.faults_before s.faults_now (answer_lines (outgoing_names p) (map line_answer answers)))
+          (sym stop.1) o.came;
     }

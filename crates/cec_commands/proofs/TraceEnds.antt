@@ -35,7 +35,8 @@ use Rattle.cec_commands.specs.ReactionSteps.{RunnerShows, RunsReactions, StopsRu
 use Rattle.cec_commands.specs.Runs.{ShowsRun, line_answer}
 use Rattle.cec_commands.specs.Subjects.{run_outcome}
 use Rattle.cec_commands.specs.TriRuns.{LeavesReactions, StopsTrace}
-use Rattle.cec_commands.proofs.RunnerReactions.{answers_reached, shows_program, stops_program}
+use Rattle.grc_ternary_stops.proofs.Exports.{answers_reached}
+use Rattle.cec_commands.proofs.RunnerReactions.{shows_program, stops_program}
 
 -- ---- the names of a program
 

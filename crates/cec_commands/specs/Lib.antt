@@ -1,4 +1,3 @@
-pub mod MarkedWires
 pub mod Statuses
 pub mod Jobs
 pub mod JobViews

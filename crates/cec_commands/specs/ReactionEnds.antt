@@ -14,7 +14,7 @@ use Rattle.cec_commands.specs.declared.outcome.Outcome.{Outcome}
 use Rattle.cec_commands.specs.declared.outcome.Outcome.TheVariants as outcomes
 use Rattle.cec_commands.specs.declared.reactions.ReactionFault.{ReactionFault}
 use Rattle.cec_commands.specs.declared.reactions.ReactionFault.TheVariants.{Run, NotConstructive}
-use Rattle.cec_commands.specs.MarkedWires.{marked_of}
+use Rattle.grc_ternary_stops.specs.MarkedWires.{marked_of}
 use Rattle.cec_commands.specs.Runs.{ShowsRun}
 use Rattle.cec_commands.specs.Subjects.{run_outcome}
 use Rattle.cec_commands.specs.TriRuns.{LeavesReactions, StopsTrace}

@@ -1,17 +1,17 @@
 // The wires that stay unknown in an instant, by their names.
 
-ghost use Rattle.std.specs.Prelude.{◌≡◌, ◌<◌, ◌^◌, All, codes, length, map, IfOk};
+ghost use Rattle.std.specs.Prelude.{◌≡◌, ◌<◌, ◌^◌, codes, length, map, IfOk};
 ghost use Rattle.est_kernel.specs.Plain.{program_of};
 ghost use Rattle.grc_graph.specs.PlainGraphs.{names_of};
 ghost use Rattle.grc_graph.specs.PlainWireNames.{wire_name_of};
 ghost use Rattle.grc_graph.specs.WireNames.{wire_name};
-ghost use Rattle.cec_commands.specs.MarkedWires.{marked_from, marked_of};
+ghost use Rattle.grc_ternary_stops.specs.MarkedWires.{marked_of};
 ghost use Rattle.cec_compile.specs.WireTexts.{joined_texts};
 
-use base_types::{NoMemory, WireId};
+use base_types::NoMemory;
 use cec_compile::joined_texts;
 use grc_graph::{Graph, WireName};
-use grc_list::names_of;
+use grc_ternary_stops::unknown_names;
 use std::alloc::Global;
 
 /// The wires that stay unknown in an instant in which the program is not constructive, in order.
@@ -39,27 +39,11 @@ pub(crate) fn unknown_wires(
     ensures names { IfOk result (λ u. map wire_name_of u.wires.items
         ≡ map (wire_name (program_of graph.now.program)) (marked_of marks.now (names_of graph.now))) }
 {
-    let numbers = marked_numbers(alloc, marks)?;
-    let wires = names_of(alloc, graph, &numbers)?;
+    let wires = unknown_names(alloc, graph, marks)?;
     let text = joined_texts(alloc, &wires, b", ")?;
     Ok(UnknownWires {
         instant,
         wires,
         text,
     })
-}
-
-// The numbers of the wires that are marked.
-fn marked_numbers(alloc: Global, marks: &[bool]) -> Result<Vec<WireId>, NoMemory>
-    requires { length marks.now < 2 ^ 32 }
-    ensures numbers { IfOk result (λ numbers. map (λ w. w.0) numbers.items ≡ marked_from 0 marks.now) }
-    ensures within { IfOk result (λ numbers. All (λ w. w.0 < length marks.now) numbers.items) }
-{
-    let mut numbers = Vec::new(alloc);
-    for (number, is_marked) in marks.iter().enumerate() {
-        if *is_marked {
-            numbers.push(WireId(number as u32))?;
-        }
-    }
-    Ok(numbers)
 }

@@ -24,6 +24,7 @@ pub use comparing::comparison_of;
 pub use findings::{PlacedQuestion, found};
 pub use places::place_of;
 pub use questions::{Claim, Comparison, Finding, Layout, PairRefusal, Question, Survey, Verdict};
+pub use reading::trace_of;
 pub use relations::relation_clauses;
 pub use surveys::survey_of;
 pub use verdicts::verdict_of;

@@ -78,7 +78,7 @@ fn is_read_as(
 
 /// The trace of events of a program, where `cec run` reads it as these events. None where the events do not meet the
 /// relations, where the trace is too long, and where it is read otherwise.
-pub(crate) fn trace_of(
+pub fn trace_of(
     alloc: Global,
     program: &KernelProgram,
     net: &Net,

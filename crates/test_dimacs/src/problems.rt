@@ -18,13 +18,18 @@ pub(crate) struct Problem {
 }
 
 impl Problem {
-    fn new(alloc: Global, variables: usize) -> Result<Problem, NoMemory> {
-        Ok(Problem {
-            clauses: Vec::new(alloc),
-            kernel: Kernel::new(alloc, variables, Vec::new(alloc))?,
-            search: Search::new(alloc),
-            is_asked: true,
-        })
+    // In a box, so that early returns drop it by a call.
+    fn new(alloc: Global, variables: usize) -> Result<Box<Problem>, NoMemory> {
+        let kernel = Kernel::new(alloc, variables, Vec::new(alloc))?;
+        Ok(Box::new(
+            alloc,
+            Problem {
+                clauses: Vec::new(alloc),
+                kernel,
+                search: Search::new(alloc),
+                is_asked: true,
+            },
+        )?)
     }
 
     fn add(&mut self, alloc: Global, clause: Clause) -> Result<(), NoMemory> {
@@ -53,19 +58,24 @@ impl Problem {
 /// The answers to all questions of a text.
 pub(crate) fn answers(alloc: Global, text: &str) -> Result<String, NoMemory> {
     let mut answers = String::new(alloc);
+    let refused = answer_all(alloc, text, &mut answers)?;
+    write!(answers, "refused {refused}\n")?;
+    Ok(answers)
+}
+
+// Answers the problems of a text one after another, and returns how many derivations the kernels refused.
+fn answer_all(alloc: Global, text: &str, answers: &mut String) -> Result<u64, NoMemory> {
     let mut problem = Problem::new(alloc, 0)?;
     let mut refused: u64 = 0;
     for line in text.lines() {
         if line.starts_with("p") {
-            refused = refused.saturating_add(problem.end(&mut answers)?);
+            refused = refused.saturating_add(problem.end(answers)?);
             problem = Problem::new(alloc, variables_of(line))?;
         } else {
-            take_line(alloc, &mut answers, &mut problem, line)?;
+            take_line(alloc, answers, &mut problem, line)?;
         }
     }
-    refused = refused.saturating_add(problem.end(&mut answers)?);
-    write!(answers, "refused {refused}\n")?;
-    Ok(answers)
+    Ok(refused.saturating_add(problem.end(answers)?))
 }
 
 fn take_line(

@@ -1,6 +1,6 @@
 use Rattle.est_kernel.specs.Plain.{program_of}
 use Rattle.cec_commands.proofs.ReactionFiles.{reactions_end}
-use Rattle.cec_commands.proofs.RunnerReactions.{fresh_state}
+use Rattle.grc_ternary_stops.proofs.Exports.{fresh_state}
 use Rattle.cec_commands.proofs.TraceEnds.{given_differ, reactions_left}
 use Rattle.cec_commands.proofs.commands.tri.interface_reactions.Goals as goal
 

@@ -5,14 +5,14 @@ use Rattle.est_kernel.specs.Plain.{program_of}
 use Rattle.grc_graph.specs.PlainGraphs.{instances_of, names_of, wire_at, wire_of}
 use Rattle.grc_graph.specs.PlainWireNames.{wire_name_of}
 use Rattle.grc_graph.specs.WireNames.{wire_name}
-use Rattle.cec_commands.proofs.MarkedWires.{marked_names}
-use Rattle.cec_commands.proofs.unknown_wires.unknown_wires.Goals as goal
+use Rattle.grc_ternary_stops.proofs.Marked.{marked_names}
+use Rattle.grc_ternary_stops.proofs.marks.unknown_names.Goals as goal
 
-pub returns-clause-names : goal.returns-clause-names
-returns-clause-names c =
+pub returns : goal.returns
+returns c =
     let g = c.args.graph.now in
     let name = wire_name (program_of g.program) in
-    marked_names name (names_of g) c.args.marks.now c.in_ok-numbers.numbers.items (map wire_name_of c.in_ok-wires.wires.items)
+    marked_names name (names_of g) c.args.marks.now c.in_ok-numbers.numbers.items (map wire_name_of c.in_ok-names.names.items)
     (c.requires.each ∙ sym (length-map g.wires.items (wire_of (instances_of g)))) c.in_ok-numbers.ensures.numbers
-    (subst (λ ns. map wire_name_of c.in_ok-wires.wires.items ≡ map (λ (w : WireId). name (wire_at (names_of g) w.0)) ns) c.deref.ensures.value
-    c.in_ok-wires.ensures)
+    (subst (λ ns. map wire_name_of c.in_ok-names.names.items ≡ map (λ (w : WireId). name (wire_at (names_of g) w.0)) ns) c.deref.ensures.value
+    c.in_ok-names.ensures)

@@ -7,7 +7,7 @@ use Rattle.grc_graph.specs.Layers.{Resumed}
 use Rattle.grc_graph.specs.PlainGraphs.{wire_at}
 use Rattle.grc_graph.specs.WireNames.{WireName}
 use Rattle.grc_graph.specs.Wires.{Wire, Go}
-use Rattle.cec_commands.specs.MarkedWires.{marked_from, marked_of}
+use Rattle.grc_ternary_stops.specs.MarkedWires.{marked_from, marked_of}
 
 marked_at : (wires : List Wire) (n : ℕ) (marks : List Bool) → n + length marks ≡ length wires
     → map (wire_at wires) (marked_from n marks) ≡ marked_of marks (drop n wires)

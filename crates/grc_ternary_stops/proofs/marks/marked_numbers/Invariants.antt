@@ -1,7 +1,7 @@
 use Rattle.std.proofs.Common.{◌≡◌, ◌<◌, ◌++◌, All, drop, length, map}
 use Rattle.base_types.specs.declared.indices.WireId.{WireId}
-use Rattle.cec_commands.specs.MarkedWires.{marked_from}
-use Rattle.cec_commands.proofs.unknown_wires.marked_numbers.Given as goal
+use Rattle.grc_ternary_stops.specs.MarkedWires.{marked_from}
+use Rattle.grc_ternary_stops.proofs.marks.marked_numbers.Given as goal
 
 -- the numbers so far, and those of the marks that are left
 abbrev pub invariant-loop-number : goal.invariant-loop-number

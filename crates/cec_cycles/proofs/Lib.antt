@@ -1,0 +1,5 @@
+mod Alarms
+mod Keeping
+mod Stopped
+mod Refused
+pub mod Exports

@@ -1,0 +1,4 @@
+pub mod Alarms
+pub mod Constructive
+pub mod Findings
+pub mod SourceFindings

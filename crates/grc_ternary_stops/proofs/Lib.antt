@@ -1,0 +1,3 @@
+mod Marked
+mod Reaching
+pub mod Exports

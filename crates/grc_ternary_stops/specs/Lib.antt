@@ -1,0 +1,3 @@
+pub mod MarkedWires
+pub mod Reaches
+pub mod Stops

@@ -1,0 +1,2 @@
+pub mod CheckedNets
+pub mod LoopNets
