@@ -27,7 +27,7 @@ ROWS = {
     "watching": Row("do p watching e", "abort p when e"),
     "watching immediate": Row("do p watching immediate e", "abort p when immediate e"),
     "timeout": Row("do p watching e timeout q end", "abort p when e do q end", "q runs where e came, and not where p ended"),
-    "upto": Row("do p upto e", "abort p; halt when e", "it ends at e alone"),
+    "upto": Row("do p upto e", "abort p; halt when e", "it ends only at e"),
     "weak do": Row(
         "weak abort p when e do q end",
         "trap OVER in trap LATE in [p]; exit OVER || await e; exit LATE end; q end",
