@@ -140,7 +140,7 @@ def judge(case: Case, got: Answer) -> tuple[str, Optional[str]]:
     except Refused as refused:
         return "Refused", judge_refusal(case, refused, got)
     except Outcome as outcome:
-        return "Refused", judge_source(outcome, asked.file, got)
+        return "Refused", judge_source(outcome, asked.file or b"", got)
     if status != 0 or err:
         return "Done", "status %r, err %r" % (status, err)
     try:
