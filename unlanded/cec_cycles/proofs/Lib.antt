@@ -1,3 +1,0 @@
-mod Quiet
-mod Whole
-mod Alarms

@@ -1,2 +1,0 @@
-pub mod LoopNets
-pub mod Around
