@@ -9,6 +9,9 @@ use std::alloc::Global;
 // How many nodes a set has at most.
 const LEAVES: usize = 5;
 
+// How many bits the summary of such a set has at most.
+const MOST_BITS: u32 = 5;
+
 // How many sets of a node are kept.
 const SETS: usize = 10;
 
@@ -159,7 +162,7 @@ fn is_same(one: LeafSet, other: LeafSet) -> bool {
 // The nodes of both sets. None where there are too many.
 fn joined(one: LeafSet, other: LeafSet) -> Option<LeafSet> {
     let summary = one.summary | other.summary;
-    if summary.count_ones() as usize > LEAVES {
+    if summary.count_ones() > MOST_BITS {
         return None;
     }
     let mut set = LeafSet {

@@ -54,9 +54,10 @@ impl Problem {
 
     // Gives the search the clauses that it has not.
     fn search_all(&mut self) -> Result<(), NoMemory> {
-        for place in self.searched..self.clauses.len() {
-            self.search
-                .add(&self.clauses[place], Premise::Assumed(place))?;
+        for (place, clause) in self.clauses.iter().enumerate() {
+            if place >= self.searched {
+                self.search.add(clause, Premise::Assumed(place))?;
+            }
         }
         self.searched = self.clauses.len();
         Ok(())
