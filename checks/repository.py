@@ -406,10 +406,8 @@ PROOF_NAMES = re.compile(r"^(?:pub )?use Rattle\.(\w+)\.proofs\.([A-Z]\w*)\.\{(.
 PROOF_RULES = re.compile(r"\busing\((?:[^()]*\b)?(\w+)::proofs::(\w+)::(\w+)")
 
 
-# Laws that no other crate uses, for callers of public calls: what a flat program keeps that `est_front::flat_program` gives, and what the
-# text of a constructive netlist keeps.
+# Laws that no other crate uses, for callers of a public call: what a flat program that `est_front::flat_program` gives keeps.
 FOR_CALLERS = {("est_front", "flattens-flat")}
-FOR_CALLERS |= {("cec_cycles", name) for name in ["constructive_blif", "constructive_c", "constructive_verilog"]}
 
 
 def exports_are_listed():
