@@ -291,7 +291,9 @@ def observed(rng: random.Random, budget: int) -> tuple[bytes, list[str]]:
     return " ".join(words).encode(), both + outputs + ["WRONG"] * 4
 
 
-PROVE_LIST = "never always all same --help --version -x O f f f nofile - --main --effort 3 0 --assume t".split(" ")
+PROVE_LIST = "never always all cover same --help --version -x O f f f nofile - --main --effort 3 0 --assume t".split(
+    " "
+)
 PROVE_LIST.append("")
 SMALL_CHANGES = (("await ", "await immediate "), ("||", ";"), ("present ", "present not "), ("emit", "sustain"))
 
@@ -319,7 +321,11 @@ def prove_case(rng: random.Random) -> Drawn:
         text = source(rng, rng.choice([1, 2, 4, 6]), rng.choice([0, 0, 0, 0.05]))
         outgoing = ["O", "P", "V", "A"]
     files = {b"f": text}
-    words = ["all", "f"] if kind < 0.3 else [rng.choice(["never", "never", "always"]), rng.choice(outgoing), "f"]
+    words = (
+        [rng.choice(["all", "cover"]), "f"]
+        if kind < 0.4
+        else [rng.choice(["never", "never", "always"]), rng.choice(outgoing), "f"]
+    )
     if kind > 0.75:
         words, files[b"g"] = ["same", "f", rng.choice(["g"] * 9 + ["nofile"])], changed(rng, text)
     elif rng.random() < 0.2:

@@ -8,7 +8,9 @@ from typing import Optional, Sequence
 from fuzzing.cases import Case
 from rules.command import SourceRunner
 from rules.compiling import Compiled, compile_source
-from rules.outcomes import Outcome
+from rules.front import flat_program
+from rules.outcomes import Outcome, line_column
+from rules.points import covered, points_of
 from rules.prover import (
     FILE_FAULT,
     NO_SIGNAL,
@@ -23,11 +25,13 @@ from rules.prover import (
     Question,
     asked_of,
     first_break,
+    first_breaks,
     first_difference,
     trace_of,
 )
 from rules.traces import TraceFault, TraceReader
 
+REACHED = re.compile(rb"(\d+:\d+: [a-z]+) (never|undecided|reached:(.*))\n", re.DOTALL)
 SEARCHED = re.compile(rb"cec-prove: undecided, instants searched: (\d+)\n")
 Answer = tuple[bytes, bytes, int]
 Found = tuple[str, int]
@@ -175,6 +179,45 @@ def judge_survey(asked: Asked, done: Compiled, got: Answer) -> tuple[str, Option
     return "survey", "stdout" if lines else None if (err, status) == (line(said), ends) else "stderr or status"
 
 
+def judge_point(question: Optional[Question], found: Found, said: bytes, trace: Optional[bytes]) -> Optional[str]:
+    """What is said of one point: its signal is the one of the question."""
+    kind, depth = found
+    if said == b"never" and kind == "in":
+        return "never, and %d instants reach it" % depth
+    if trace is None or question is None:
+        return None
+    return "reached, and no state does" if kind == "never" else judge_trace(question, trace, True)
+
+
+def judge_covering(asked: Asked, text: bytes, done: Compiled, got: Answer) -> tuple[str, Optional[str]]:
+    """The lines of all points, each against a search in the program that shows which points are reached."""
+    out, err, status = got
+    if asked.assumed is not None and asked.assumed not in done.out_names:
+        return "no signal", is_refused(got, NO_SIGNAL, line(b"no outgoing signal " + asked.assumed))
+    points, questions, is_whole = points_of(flat_program(text, asked.main)), [], True
+    lines = out.splitlines(keepends=True)
+    if len(lines) != len(points):
+        return "covering", "%d lines of %d points" % (len(lines), len(points))
+    try:
+        shown = Compiled(text, asked.main, change=covered)
+        place = done.out_names.index(asked.assumed) if asked.assumed is not None else None
+        questions = [Question(shown, False, len(done.out_names) + number, place) for number in range(len(points))]
+    except Outcome:
+        pass  # the signals of all points together pass a limit
+    breaks = first_breaks(questions)
+    for number, (kind, at) in enumerate(points):
+        told, head = REACHED.fullmatch(lines[number]), line_column(text, at) + b": " + kind
+        if told is None or told[1] != head:
+            return "covering", "the line of %s" % head.decode()
+        question, found = (questions[number], breaks[number]) if questions else (None, ("unknown", 0))
+        note = judge_point(question, found, told[2], told[3])
+        if note:
+            return "covering", "%s: %s" % (head.decode(), note)
+        is_whole &= told[2] != b"undecided"
+    said, ends = (b"all points are decided", PROVED) if is_whole else (b"some points are undecided", UNDECIDED)
+    return "covering", None if (err, status) == (line(said), ends) else "stderr or status"
+
+
 def judge_comparison(one: Compiled, two: Compiled, got: Answer) -> tuple[str, Optional[str]]:
     """Where several parts of the interfaces differ, the line may be that of any."""
     differs = {
@@ -210,4 +253,6 @@ def judge(case: Case, got: Answer) -> tuple[str, Optional[str]]:
         return "refused", None if None in faults else faults[0]
     if asked.command == b"same":
         return judge_comparison(done[0], done[1], got)
+    if asked.command == b"cover":
+        return judge_covering(asked, case.files[asked.files[0]], done[0], got)
     return judge_survey(asked, done[0], got) if asked.command == b"all" else judge_claim(asked, done[0], got)

@@ -142,7 +142,7 @@ def judge(case: Case, got: Answer) -> tuple[str, Optional[str]]:
     except Outcome as outcome:
         if outcome.kind == "Cyclic":
             return judge_cyclic(case, asked, got)
-        return "Refused", judge_source(outcome, asked.file, got)
+        return "Refused", judge_source(outcome, asked.file or b"", got)
     if status != 0 or err:
         return "Done", "status %r, err %r" % (status, err)
     try:

@@ -6,12 +6,14 @@ front, the limit on instances, instantaneous loops, the limit on wires, cycles o
 
 from __future__ import annotations
 
-from typing import Optional
+from typing import Callable, Optional
 
 from rules.circuit import Shape, TooMany
 from rules.circuit_sharing import Sharing
+from rules.dismantling import dismantle
 from rules.encoder import encode
-from rules.front import front
+from rules.expansion import Flat
+from rules.front import flat_program, front
 from rules.guarded_c import write_guarded
 from rules.blif import write_blif
 from rules.c_subset import write_c
@@ -24,13 +26,20 @@ from rules.text_faults import find_cycle
 from rules.traces import Relation
 from rules.verilog import write_verilog
 
+Change = Callable[[Flat], Flat]
+
 
 class Compiled:
-    """A source's kernel program, its graph, and the names and relations of its interface."""
+    """A source's kernel program, its graph, and the names and relations of its interface.
 
-    def __init__(self, source: bytes, main: Optional[bytes], cyclic_ok: bool = False) -> None:
+    `change` makes another flat program of that of the source, before anything else.
+    """
+
+    def __init__(
+        self, source: bytes, main: Optional[bytes], cyclic_ok: bool = False, change: Optional[Change] = None
+    ) -> None:
         try:
-            self.kp = front(source, main)
+            self.kp = dismantle(change(flat_program(source, main))) if change else front(source, main)
         except Refusal as refusal:
             raise refusal_outcome(refusal, source)
         try:

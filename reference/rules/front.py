@@ -17,13 +17,18 @@ from rules.refusals import limit
 
 if TYPE_CHECKING:
     from rules.dismantling import KernelProgram
+    from rules.expansion import Flat
 
 
-def front(text: bytes, main: Optional[bytes] = None) -> KernelProgram:
-    """The kernel program of a source; raises Refusal."""
+def flat_program(text: bytes, main: Optional[bytes] = None) -> Flat:
+    """The flat program of a source; raises Refusal."""
     if len(text) > MAX_SOURCE:
         raise limit("Source")
     program = parse(lex(text))
     table = check_modules(program, main)
-    flat = expand(program, table)
-    return dismantle(flat)
+    return expand(program, table)
+
+
+def front(text: bytes, main: Optional[bytes] = None) -> KernelProgram:
+    """The kernel program of a source; raises Refusal."""
+    return dismantle(flat_program(text, main))

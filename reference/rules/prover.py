@@ -1,8 +1,8 @@
 """The third program, `cec-prove`: what it may answer about a claim, by a search of all reachable states.
 
-Stands for `Words`, `Lines` and `Statuses` (crates/cec_prove_commands/specs/), and for `Claims`, `Verdicts`, `Surveys`,
-`Sameness` and `TraceTexts` (crates/cec_prove_sources/specs/). Whether an answer comes at all is free: `undecided` may
-come for any program.
+Stands for `Words`, `Lines` and `Statuses` (crates/cec_prove_commands/specs/), for `Claims`, `Verdicts`, `Surveys`,
+`Sameness` and `TraceTexts` (crates/cec_prove_sources/specs/), and for `Coverings` and `Lines`
+(crates/cec_prove_covers/specs/). Whether an answer comes at all is free: `undecided` may come for any program.
 """
 
 from __future__ import annotations
@@ -15,7 +15,7 @@ from rules.netlist import NetMachine
 from rules.traces import first_broken
 
 CLAIMS = (b"never", b"always")
-COMMANDS = CLAIMS + (b"all", b"same")
+COMMANDS = CLAIMS + (b"all", b"cover", b"same")
 OWN_WORDS = (b"--help", b"--version")
 LEVELS = tuple(b"%d" % number for number in range(1, 10))
 PROVED, USAGE, FILE_FAULT, REFUSED, REFUTED, UNDECIDED, NO_SIGNAL, OTHER = 0, 2, 3, 4, 20, 21, 22, 23
@@ -110,38 +110,49 @@ class Question:
         return bool(outputs[self.place]) != self.is_always
 
 
-def first_break(question: Question) -> tuple[str, int]:
-    """`never`, `in` and the number of instants of a shortest trace that breaks the claim, or `unknown`.
+def first_breaks(questions: Sequence[Question]) -> list[tuple[str, int]]:
+    """Of claims about one program, with the same signal assumed: `never`, `in` and the number of instants of a shortest
+    trace that breaks the claim, or `unknown`.
 
     A reset leads to a state that the search begins with, so resets add nothing.
     """
-    done = question.done
+    if not questions:
+        return []
+    done = questions[0].done
+    found = [("never", 0)] * len(questions)
     if len(done.in_names) > MOST_INPUTS:
-        return "unknown", 0
+        return [("unknown", 0)] * len(questions)
     every = itertools.product((False, True), repeat=len(done.in_names))
     events = [event for event in every if first_broken(done.relations, event) is None]
     machine = NetMachine(done.shape.generate())
     start = tuple(machine.state)
     seen, level, reactions, depth = {start}, [start], 0, 0
-    while level:
+    open_ones = set(range(len(questions)))
+    while level and open_ones:
         depth += 1
         following = []
         for state, event in itertools.product(level, events):
             reactions += 1
             if reactions > MOST_REACTIONS:
-                return "unknown", depth - 1
+                return [("unknown", depth - 1) if number in open_ones else it for number, it in enumerate(found)]
             machine.state = list(state)
             outputs, _ = machine.react(event)
-            if not question.is_kept(outputs):
+            if not questions[0].is_kept(outputs):
                 continue
-            if question.is_broken(outputs):
-                return "in", depth
+            for number in [number for number in open_ones if questions[number].is_broken(outputs)]:
+                found[number] = ("in", depth)
+                open_ones.remove(number)
             after = tuple(machine.state)
             if after not in seen:
                 seen.add(after)
                 following.append(after)
         level = following
-    return "never", 0
+    return found
+
+
+def first_break(question: Question) -> tuple[str, int]:
+    """The same of one claim."""
+    return first_breaks([question])[0]
 
 
 def first_difference(one: Compiled, two: Compiled) -> tuple[str, int]:

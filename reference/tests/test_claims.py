@@ -11,10 +11,18 @@ BY_HAND = (
     b" present A then await B else await A end end; emit O each R end module"
 )
 AT_ONCE = ABRO.replace(b"await A", b"await immediate A")
-FILES = {b"f": ABRO, b"g": BY_HAND, b"h": AT_ONCE, b"o": ABRO.replace(b"O", b"P"), b"x": b"module M"}
+BELL = b"""module BELL: input BUTTON, QUIET; output RING, SHORT;
+every BUTTON do abort
+present QUIET then emit SHORT else emit RING end; halt
+when immediate QUIET end every end module
+"""
+FILES = {b"b": BELL, b"f": ABRO, b"g": BY_HAND, b"h": AT_ONCE, b"o": ABRO.replace(b"O", b"P"), b"x": b"module M"}
 PROVED, REFUTED = b"cec-prove: proved\n", b"cec-prove: refuted\n"
 ALL = b"cec-prove: all signals are decided\n"
 SOME = b"cec-prove: some signals are undecided\n"
+POINTS, SOME_POINTS = b"cec-prove: all points are decided\n", b"cec-prove: some points are undecided\n"
+AWAITS = b"1:46: await reached: ;\n1:57: await reached: ;\n"
+RUNG = b"3:36: else reached: ; BUTTON ;\n3:36: emit reached: ; BUTTON ;\n3:51: halt reached: ; BUTTON ;\n"
 SEE = b", see cec-prove --help\n"
 # The words, standard output, standard error and the status of an answer that is right.
 RIGHT = [
@@ -25,6 +33,11 @@ RIGHT = [
     (b"always O f --assume Q", b"", b"cec-prove: no outgoing signal Q\n", 22),
     (b"all f", b"O sometimes\nO present: ; A B ;\nO absent: ;\n", ALL, 0),
     (b"all f", b"O undecided\nO absent: ;\n", SOME, 21),
+    (b"cover f", AWAITS + b"1:68: emit reached: ; A B ;\n", POINTS, 0),
+    (b"cover f", AWAITS + b"1:68: emit undecided\n", SOME_POINTS, 21),
+    (b"cover b", b"3:20: then never\n3:20: emit never\n" + RUNG, POINTS, 0),
+    (b"cover b --assume NONE", b"", b"cec-prove: no outgoing signal NONE\n", 22),
+    (b"cover", b"", b"cec-prove: no file after cover" + SEE, 2),
     (b"same f g", b"", PROVED, 0),
     (b"same f g --effort 3", b"", b"cec-prove: undecided, instants searched: 9\n", 21),
     (b"same f h", b"A ;\nB ;\n", REFUTED, 20),
@@ -58,6 +71,12 @@ WRONG = [
     (b"all f", b"O sometimes\nO present: ; A ;\nO absent: ;\n", ALL, 0, "does not break the claim"),
     (b"all f", b"O undecided\nO absent: ;\n", ALL, 0, "stderr or status"),
     (b"all f", b"O sometimes\nO present: ; A B ;\nO absent: ;\nP never\n", ALL, 0, "stdout"),
+    (b"cover f", AWAITS + b"1:68: emit never\n", POINTS, 0, "2 instants reach it"),
+    (b"cover f", AWAITS + b"1:68: emit reached: ; A ;\n", POINTS, 0, "does not break"),
+    (b"cover f", AWAITS + b"1:69: emit reached: ; A B ;\n", POINTS, 0, "the line of 1:68: emit"),
+    (b"cover f", AWAITS + b"1:68: emit undecided\n", POINTS, 0, "stderr or status"),
+    (b"cover f", AWAITS, POINTS, 0, "2 lines of 3 points"),
+    (b"cover b", b"3:20: then reached: ; BUTTON QUIET ;\n3:20: emit never\n" + RUNG, POINTS, 0, "no state does"),
     (b"same f h", b"", PROVED, 0, "2 instants break the claim"),
     (b"same f h", b"A ;\n;\n", REFUTED, 20, "its last reactions are the same"),
     (b"same f g", b"A ;\nB ;\n", REFUTED, 20, "no state breaks the claim"),

@@ -3,13 +3,13 @@ _cec_prove() {
     local now=${COMP_WORDS[COMP_CWORD]} file
     COMPREPLY=()
     if [ "$COMP_CWORD" -eq 1 ]; then
-        mapfile -t COMPREPLY < <(compgen -W "never always all same --help --version" -- "$now")
+        mapfile -t COMPREPLY < <(compgen -W "never always all cover same --help --version" -- "$now")
         return
     fi
     [[ ${COMP_WORDS[1]} != --help && ${COMP_WORDS[1]} != --version ]] || return
     local options="--assume --main --effort" first=3 last=3
     case ${COMP_WORDS[1]} in
-    all) first=2 last=2 ;;
+    all | cover) first=2 last=2 ;;
     same) options="--main --effort" first=2 ;;
     esac
     if [ "$COMP_CWORD" -gt "$last" ] && [ $(((COMP_CWORD - last) % 2)) -eq 1 ]; then

@@ -6,7 +6,8 @@ ghost use Rattle.base_types.specs.SinkChanges.{change};
 ghost use Rattle.cec_text_io.specs.ErrorLines.{GainsLine};
 ghost use Rattle.cec_opt_commands.specs.HelpTexts.{own_text};
 ghost use Rattle.cec_opt_commands.specs.Lines.{GainsErr, GainsSourceErr, line_of, named, source_subject};
-ghost use Rattle.cec_opt_commands.specs.Outcomes.{IsOptOutcomeOf, CountsFiles, GainsOut, LeavesSourceAnswer, SourceSays};
+ghost use Rattle.cec_opt_commands.specs.Outcomes.{IsOptOutcomeOf, CountsFiles, GainsOut, LeavesSourceAnswer};
+ghost use Rattle.cec_opt_commands.specs.Outcomes.{SourceSays};
 ghost use Rattle.cec_opt_commands.specs.Views.{plain_request, subject_is};
 ghost use Rattle.cec_opt_commands.specs.Words.{request_by, Do, Make, Tell};
 

@@ -1,5 +1,5 @@
 -- What the outcome of a comparison says.
-use Rattle.std.proofs.Common.{◌≡◌, ℕ, List, [], Option, Some, sym, subst}
+use Rattle.std.proofs.Common.{◌≡◌, ℕ, List, Option, Some, sym, subst}
 use Rattle.base_types.specs.SinkChanges.{SinkChange}
 use Rattle.base_types.proofs.Exports.{appends-nothing}
 use Rattle.est_kernel.specs.Plain.{Program}

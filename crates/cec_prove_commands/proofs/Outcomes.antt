@@ -1,5 +1,5 @@
 -- What the answers of the steps say of the whole call.
-use Rattle.std.proofs.Common.{◌≡◌, ℕ, ◌≤◌, Bool, true, false, List, [], length, Option, Some, Err, refl, sym, subst, ◌∙◌}
+use Rattle.std.proofs.Common.{◌≡◌, ℕ, true, false, List, [], Option, Some, Err, refl, sym, subst}
 use Rattle.base_types.specs.declared.bounds.TheConstants.Limits.{SOURCE_BYTES}
 use Rattle.base_types.specs.declared.files.reading.FileFault as unread
 use Rattle.base_types.specs.declared.files.reading.FileFault.TheVariants as reading
@@ -21,11 +21,13 @@ use Rattle.cec_prove_sources.specs.declared.questions.Claim.{Claim}
 use Rattle.cec_prove_commands.specs.Lines.{GainsJobErr, SpeaksOf, job_subject, line_of, second_of}
 use Rattle.cec_prove_commands.specs.Outcomes.{AgreesOnFile, AgreesOnFiles, AgreesOnTask, ClaimSays, ComparisonSays, CountsFiles, CountsJob, IsDistinction}
 use Rattle.cec_prove_commands.specs.Outcomes.{IsRefutation, IsSurveyBy, IsSurveyOf, IsTextOf, IsWriting, SurveySays, question_of}
+use Rattle.cec_prove_commands.specs.Outcomes.{CoveringSays, IsCoveringBy, IsCoveringOf}
 use Rattle.cec_prove_commands.specs.Statuses.{written_outcome, refusal_outcome, second_refusal_outcome, second_unread_outcome, unread_outcome, written_of}
 use Rattle.cec_prove_commands.specs.Views.{spoken_of}
-use Rattle.cec_prove_commands.specs.Words.{Job, Request, Task, Ask, Survey, Compare}
+use Rattle.cec_prove_commands.specs.Words.{Job, Request, Task, Ask, Survey, Cover, Compare}
 use Rattle.cec_prove_commands.specs.declared.outcome.ProveOutcome.{ProveOutcome}
-use Rattle.cec_prove_commands.specs.declared.outcome.ProveOutcome.TheVariants.{Told, Proved, Refuted, Surveyed, PartlySurveyed, Undecided, NoSignal, NoAssumed}
+use Rattle.cec_prove_commands.specs.declared.outcome.ProveOutcome.TheVariants.{Told, Proved, Refuted, Surveyed, PartlySurveyed, Covered, PartlyCovered}
+use Rattle.cec_prove_commands.specs.declared.outcome.ProveOutcome.TheVariants.{Undecided, NoSignal, NoAssumed}
 use Rattle.cec_prove_commands.specs.declared.outcome.ProveOutcome.TheVariants.{OtherGiven, OtherOutgoing, OtherRelations, Usage, FileFault, SecondFault}
 use Rattle.cec_prove_commands.specs.declared.outcome.ProveOutcome.TheVariants.{Refused, SecondRefused, WriteFault, NoMemory}
 
@@ -47,6 +49,18 @@ pub part_writes : (ended : Written) (job : Job) (text lines : List ℕ) → IsSu
 part_writes ends.Done job text lines is = (lines, is)
 part_writes ends.WriteFault job text lines is = (false, (lines, is))
 part_writes ends.NoMemory job text lines is = tt
+
+pub covering_writes : (ended : Written) (job : Job) (text lines : List ℕ) → IsCoveringOf job true text lines
+    → CoveringSays (written_outcome Covered ended) job text
+covering_writes ends.Done job text lines is = (lines, is)
+covering_writes ends.WriteFault job text lines is = (true, (lines, is))
+covering_writes ends.NoMemory job text lines is = tt
+
+pub covering_part_writes : (ended : Written) (job : Job) (text lines : List ℕ) → IsCoveringOf job false text lines
+    → CoveringSays (written_outcome PartlyCovered ended) job text
+covering_part_writes ends.Done job text lines is = (lines, is)
+covering_part_writes ends.WriteFault job text lines is = (false, (lines, is))
+covering_part_writes ends.NoMemory job text lines is = tt
 
 pub comparison_writes : (ended : Written) (job : Job) (first second trace : List ℕ) → IsDistinction job first second trace
     → ComparisonSays (written_outcome Refuted ended) job first second
@@ -148,6 +162,12 @@ survey_read outcome job text says = record {
   second = λ is. subst (λ o. SurveySays o job text) is says;
 }
 
+pub covering_read : (outcome : ProveOutcome) (job : Job) (text : List ℕ) → CoveringSays outcome job text → IsRead outcome
+covering_read outcome job text says = record {
+  first = λ is. subst (λ o. CoveringSays o job text) is says;
+  second = λ is. subst (λ o. CoveringSays o job text) is says;
+}
+
 pub comparison_read : (outcome : ProveOutcome) (job : Job) (first second : List ℕ) → ComparisonSays outcome job first second → IsRead outcome
 comparison_read outcome job first second says = record {
   first = λ is. subst (λ o. ComparisonSays o job first second) is says;
@@ -161,6 +181,8 @@ read_counts job Proved before now failed_before failed_now read k = k
 read_counts job Refuted before now failed_before failed_now read k = k
 read_counts job Surveyed before now failed_before failed_now read k = k
 read_counts job PartlySurveyed before now failed_before failed_now read k = k
+read_counts job Covered before now failed_before failed_now read k = k
+read_counts job PartlyCovered before now failed_before failed_now read k = k
 read_counts job (Undecided depth) before now failed_before failed_now read k = k
 read_counts job NoSignal before now failed_before failed_now read k = k
 read_counts job NoAssumed before now failed_before failed_now read k = k
@@ -182,6 +204,8 @@ file_agrees content name Says Proved text held says read = (text, held, says)
 file_agrees content name Says Refuted text held says read = (text, held, says)
 file_agrees content name Says Surveyed text held says read = (text, held, says)
 file_agrees content name Says PartlySurveyed text held says read = (text, held, says)
+file_agrees content name Says Covered text held says read = (text, held, says)
+file_agrees content name Says PartlyCovered text held says read = (text, held, says)
 file_agrees content name Says (Undecided depth) text held says read = (text, held, says)
 file_agrees content name Says NoSignal text held says read = (text, held, says)
 file_agrees content name Says NoAssumed text held says read = (text, held, says)
@@ -203,6 +227,8 @@ files_agree content job other Proved first second held held' says = (first, held
 files_agree content job other Refuted first second held held' says = (first, held, (second, held', says))
 files_agree content job other Surveyed first second held held' says = (first, held, (second, held', says))
 files_agree content job other PartlySurveyed first second held held' says = (first, held, (second, held', says))
+files_agree content job other Covered first second held held' says = (first, held, (second, held', says))
+files_agree content job other PartlyCovered first second held held' says = (first, held, (second, held', says))
 files_agree content job other (Undecided depth) first second held held' says = (first, held, (second, held', says))
 files_agree content job other NoSignal first second held held' says = (first, held, (second, held', says))
 files_agree content job other NoAssumed first second held held' says = (first, held, (second, held', says))
@@ -225,6 +251,8 @@ read_speaks content job Proved text held apart = tt
 read_speaks content job Refuted text held apart = tt
 read_speaks content job Surveyed text held apart = tt
 read_speaks content job PartlySurveyed text held apart = tt
+read_speaks content job Covered text held apart = tt
+read_speaks content job PartlyCovered text held apart = tt
 read_speaks content job (Undecided depth) text held apart = tt
 read_speaks content job NoSignal text held apart = tt
 read_speaks content job NoAssumed text held apart = tt
@@ -252,6 +280,8 @@ both_speak content job Proved first second held held' = tt
 both_speak content job Refuted first second held held' = tt
 both_speak content job Surveyed first second held held' = tt
 both_speak content job PartlySurveyed first second held held' = tt
+both_speak content job Covered first second held held' = tt
+both_speak content job PartlyCovered first second held held' = tt
 both_speak content job (Undecided depth) first second held held' = tt
 both_speak content job NoSignal first second held held' = tt
 both_speak content job NoAssumed first second held held' = tt
@@ -278,12 +308,15 @@ pub unread_agrees : (content : Content) (task : Task) (job : Job) (fault : unrea
     → AgreesOnTask task content job (unread_outcome fault)
 unread_agrees content (Ask claim signal) job reading.Failed read = tt
 unread_agrees content Survey job reading.Failed read = tt
+unread_agrees content Cover job reading.Failed read = tt
 unread_agrees content (Compare other) job reading.Failed read = tt
 unread_agrees content (Ask claim signal) job reading.TooLong read = long_unread content job.name SOURCE_BYTES read
 unread_agrees content Survey job reading.TooLong read = long_unread content job.name SOURCE_BYTES read
+unread_agrees content Cover job reading.TooLong read = long_unread content job.name SOURCE_BYTES read
 unread_agrees content (Compare other) job reading.TooLong read = long_unread content job.name SOURCE_BYTES read
 unread_agrees content (Ask claim signal) job reading.NoMemory read = some_bytes content job.name
 unread_agrees content Survey job reading.NoMemory read = some_bytes content job.name
+unread_agrees content Cover job reading.NoMemory read = some_bytes content job.name
 unread_agrees content (Compare other) job reading.NoMemory read =
     let some = some_bytes content job.name in (some.0, some.1, some_bytes content other)
 
@@ -368,6 +401,12 @@ survey_agrees content job outcome text is held says =
     subst (λ t. AgreesOnTask t content job outcome) (sym is)
     (file_agrees content job.name (λ o t. SurveySays o job t) outcome text held says (survey_read outcome job text says))
 
+pub covering_agrees : (content : Content) (job : Job) (outcome : ProveOutcome) (text : List ℕ) → job.task ≡ Cover → IsHeld content job.name text
+    → CoveringSays outcome job text → AgreesOnTask job.task content job outcome
+covering_agrees content job outcome text is held says =
+    subst (λ t. AgreesOnTask t content job outcome) (sym is)
+    (file_agrees content job.name (λ o t. CoveringSays o job t) outcome text held says (covering_read outcome job text says))
+
 pub survey_out : (content : Content) (job : Job) (outcome : ProveOutcome) (text : List ℕ) (s : SinkChange) → job.task ≡ Survey
     → IsHeld content job.name text → LeavesText (IsSurveyBy outcome job text) s (written_of outcome)
     → LeavesText (IsTextOf job.task job content outcome) s (written_of outcome)
@@ -375,12 +414,28 @@ survey_out content job outcome text s is held l =
     subst (λ t. LeavesText (IsTextOf t job content outcome) s (written_of outcome)) (sym is)
     (texts.text_as (IsSurveyBy outcome job text) (IsTextOf Survey job content outcome) s (written_of outcome) (λ lines of. (text, held, of)) l)
 
+pub covering_out : (content : Content) (job : Job) (outcome : ProveOutcome) (text : List ℕ) (s : SinkChange) → job.task ≡ Cover
+    → IsHeld content job.name text → LeavesText (IsCoveringBy outcome job text) s (written_of outcome)
+    → LeavesText (IsTextOf job.task job content outcome) s (written_of outcome)
+covering_out content job outcome text s is held l =
+    subst (λ t. LeavesText (IsTextOf t job content outcome) s (written_of outcome)) (sym is)
+    (texts.text_as (IsCoveringBy outcome job text) (IsTextOf Cover job content outcome) s (written_of outcome) (λ lines of. (text, held, of)) l)
+
 pub survey_err : (content : Content) (job : Job) (outcome : ProveOutcome) (text : List ℕ) (old new : Option (List ℕ)) (before now : ℕ)
     → IsHeld content job.name text → SurveySays outcome job text → GainsLine old new before now (line_of (job_subject job text) outcome)
     → GainsJobErr job content outcome old new before now
 survey_err content job outcome text old new before now held says gains = record {
   source = text;
   held = read_speaks content job outcome text held (λ refusal is. subst (λ o. SurveySays o job text) is says);
+  gains = gains;
+}
+
+pub covering_err : (content : Content) (job : Job) (outcome : ProveOutcome) (text : List ℕ) (old new : Option (List ℕ)) (before now : ℕ)
+    → IsHeld content job.name text → CoveringSays outcome job text → GainsLine old new before now (line_of (job_subject job text) outcome)
+    → GainsJobErr job content outcome old new before now
+covering_err content job outcome text old new before now held says gains = record {
+  source = text;
+  held = read_speaks content job outcome text held (λ refusal is. subst (λ o. CoveringSays o job text) is says);
   gains = gains;
 }
 

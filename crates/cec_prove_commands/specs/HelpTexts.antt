@@ -9,6 +9,7 @@ help_text =
     concat (codes "cec-prove never SIGNAL FILE    whether SIGNAL is never present\n"
     ∷ codes "cec-prove always SIGNAL FILE   whether SIGNAL is present in each instant\n"
     ∷ codes "cec-prove all FILE             when each outgoing signal is present\n"
+    ∷ codes "cec-prove cover FILE           which statements and branches are ever reached\n"
     ∷ codes "cec-prove same FILE FILE       whether two sources do the same\n"
     ∷ codes "    --assume SIGNAL            where this signal is present in each instant; not of same\n"
     ∷ codes "    --main M                   of the module M, not of the first one\n"

@@ -4,9 +4,10 @@ use Rattle.cec_compile.specs.declared.refusal.Refusal.TheVariants as refusing
 use Rattle.cec_refusals.specs.RefusalLines.{RefusalSubject, refusal_line}
 use Rattle.cec_text_io.specs.Contents.{Content, IsHeld}
 use Rattle.cec_text_io.specs.ErrorLines.{GainsLine}
-use Rattle.cec_prove_commands.specs.Words.{Job, Request, Tell, Do, Task, Ask, Survey, Compare, misuse_of}
+use Rattle.cec_prove_commands.specs.Words.{Job, Request, Tell, Do, Task, Ask, Survey, Cover, Compare, misuse_of}
 use Rattle.cec_prove_commands.specs.declared.outcome.ProveOutcome.{ProveOutcome}
 use Rattle.cec_prove_commands.specs.declared.outcome.ProveOutcome.TheVariants.{Told, Proved, Refuted, Surveyed}
+use Rattle.cec_prove_commands.specs.declared.outcome.ProveOutcome.TheVariants.{Covered, PartlyCovered}
 use Rattle.cec_prove_commands.specs.declared.outcome.ProveOutcome.TheVariants.{PartlySurveyed, Undecided, NoSignal}
 use Rattle.cec_prove_commands.specs.declared.outcome.ProveOutcome.TheVariants.{NoAssumed, OtherGiven, OtherOutgoing}
 use Rattle.cec_prove_commands.specs.declared.outcome.ProveOutcome.TheVariants.{OtherRelations, Usage, FileFault}
@@ -41,6 +42,8 @@ line_of s Proved = own_line (codes "proved")
 line_of s Refuted = own_line (codes "refuted")
 line_of s Surveyed = own_line (codes "all signals are decided")
 line_of s PartlySurveyed = own_line (codes "some signals are undecided")
+line_of s Covered = own_line (codes "all points are decided")
+line_of s PartlyCovered = own_line (codes "some points are undecided")
 line_of s (Undecided depth) = own_line (codes "undecided, instants searched: " ++ decimal depth)
 line_of s NoSignal = own_line (codes "no outgoing signal " ++ s.signal)
 line_of s NoAssumed = own_line (codes "no outgoing signal " ++ s.assumed)
@@ -59,12 +62,14 @@ line_of s NoMemory = own_line (codes "out of memory")
 abbrev pub asked_signal : Task → List ℕ
 asked_signal (Ask claim signal) = signal
 asked_signal Survey = []
+asked_signal Cover = []
 asked_signal (Compare other) = []
 
 -- the second file of a task
 abbrev pub second_of : Task → List ℕ
 second_of (Ask claim signal) = []
 second_of Survey = []
+second_of Cover = []
 second_of (Compare other) = other
 
 -- a line about a static fault speaks of the source that the file holds

@@ -11,6 +11,7 @@ use Rattle.cec_compile.specs.declared.refusal.Refusal.{Refusal}
 use Rattle.cec_compile.specs.declared.refusal.Refusal.TheVariants as refusing
 use Rattle.cec_text_io.specs.Contents.{Content, Holds}
 use Rattle.cec_text_io.specs.Writings.{LeavesText}
+use Rattle.cec_prove_covers.specs.Coverings.{IsCovering}
 use Rattle.cec_prove_sources.specs.Sameness.{AreDifferent, AreSame, SharesInterface}
 use Rattle.cec_prove_sources.specs.Surveys.{IsSurveyText}
 use Rattle.cec_prove_sources.specs.Verdicts.{AnswersBroken, AnswersHolds, HasSignals, IsNone, PlainQuestion}
@@ -19,9 +20,10 @@ use Rattle.cec_prove_sources.specs.declared.questions.Layout.TheVariants.{LinePe
 use Rattle.cec_prove_commands.specs.HelpTexts.{own_text}
 use Rattle.cec_prove_commands.specs.Lines.{second_of}
 use Rattle.cec_prove_commands.specs.Statuses.{written_of}
-use Rattle.cec_prove_commands.specs.Words.{Job, Request, Tell, Do, Task, Ask, Survey, Compare}
+use Rattle.cec_prove_commands.specs.Words.{Job, Request, Tell, Do, Task, Ask, Survey, Cover, Compare}
 use Rattle.cec_prove_commands.specs.declared.outcome.ProveOutcome.{ProveOutcome}
 use Rattle.cec_prove_commands.specs.declared.outcome.ProveOutcome.TheVariants.{Told, Proved, Refuted, Surveyed}
+use Rattle.cec_prove_commands.specs.declared.outcome.ProveOutcome.TheVariants.{Covered, PartlyCovered}
 use Rattle.cec_prove_commands.specs.declared.outcome.ProveOutcome.TheVariants.{PartlySurveyed, Undecided, NoSignal}
 use Rattle.cec_prove_commands.specs.declared.outcome.ProveOutcome.TheVariants.{NoAssumed, OtherGiven, OtherOutgoing}
 use Rattle.cec_prove_commands.specs.declared.outcome.ProveOutcome.TheVariants.{OtherRelations, Usage, FileFault}
@@ -81,6 +83,27 @@ SurveySays WriteFault job text = (whole : Bool) × ((lines : List ℕ) × IsSurv
 SurveySays NoMemory job text = ⊤
 SurveySays others job text = ⊥
 
+-- ---- coverings
+
+-- the lines are those of all points, and each of them is decided, or not
+abbrev pub IsCoveringOf : Job → Bool → List ℕ → List ℕ → Type 0
+IsCoveringOf job whole text lines = Answered text job (λ p. IsCovering text job.main job.assumed lines whole)
+
+-- the lines of a covering that ended with an outcome
+abbrev pub IsCoveringBy : ProveOutcome → Job → List ℕ → List ℕ → Type 0
+IsCoveringBy Covered job text lines = IsCoveringOf job true text lines
+IsCoveringBy PartlyCovered job text lines = IsCoveringOf job false text lines
+IsCoveringBy others job text lines = (whole : Bool) × IsCoveringOf job whole text lines
+
+abbrev pub CoveringSays : ProveOutcome → Job → List ℕ → Type 0
+CoveringSays Covered job text = (lines : List ℕ) × IsCoveringOf job true text lines
+CoveringSays PartlyCovered job text = (lines : List ℕ) × IsCoveringOf job false text lines
+CoveringSays NoAssumed job text = Answered text job (λ p. IsNone p job.assumed)
+CoveringSays (Refused refusal) job text = IsRefusedFor job refusal text
+CoveringSays WriteFault job text = (whole : Bool) × ((lines : List ℕ) × IsCoveringOf job whole text lines)
+CoveringSays NoMemory job text = ⊤
+CoveringSays others job text = ⊥
+
 -- ---- comparisons
 
 -- The bytes of each of two texts stand for a program that compiles, and this is so of the two programs.
@@ -133,6 +156,7 @@ abbrev pub AgreesOnTask : Task → Content → Job → ProveOutcome → Type 0
 AgreesOnTask (Ask claim signal) content job outcome =
     AgreesOnFile content job.name (λ o text. ClaimSays (question_of claim signal job) o job text) outcome
 AgreesOnTask Survey content job outcome = AgreesOnFile content job.name (λ o text. SurveySays o job text) outcome
+AgreesOnTask Cover content job outcome = AgreesOnFile content job.name (λ o text. CoveringSays o job text) outcome
 AgreesOnTask (Compare other) content job outcome = AgreesOnFiles content job other outcome
 
 -- how a command ends that reads no file
@@ -164,11 +188,12 @@ CountsFiles None outcome before now failed_before failed_now = KeepsFaults befor
 
 -- ---- what is written
 
--- what a task writes about the sources in the files, where it ends with an outcome: a trace or a survey
+-- what a task writes about the sources in the files, where it ends with an outcome: a trace, a survey or a covering
 abbrev pub IsTextOf : Task → Job → Content → ProveOutcome → List ℕ → Type 0
 IsTextOf (Ask claim signal) job content outcome written =
     Holds content job.name (λ text. IsRefutation (question_of claim signal job) job text written)
 IsTextOf Survey job content outcome written = Holds content job.name (λ text. IsSurveyBy outcome job text written)
+IsTextOf Cover job content outcome written = Holds content job.name (λ text. IsCoveringBy outcome job text written)
 IsTextOf (Compare other) job content outcome written =
     BothHold content job.name other (λ first second. IsDistinction job first second written)
 

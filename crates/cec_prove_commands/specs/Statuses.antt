@@ -9,6 +9,7 @@ use Rattle.cec_text_io.specs.declared.writing.Written.{Written}
 use Rattle.cec_text_io.specs.declared.writing.Written.TheVariants as ends
 use Rattle.cec_prove_commands.specs.declared.outcome.ProveOutcome.{ProveOutcome}
 use Rattle.cec_prove_commands.specs.declared.outcome.ProveOutcome.TheVariants.{Told, Proved, Refuted, Surveyed}
+use Rattle.cec_prove_commands.specs.declared.outcome.ProveOutcome.TheVariants.{Covered, PartlyCovered}
 use Rattle.cec_prove_commands.specs.declared.outcome.ProveOutcome.TheVariants.{PartlySurveyed, Undecided, NoSignal}
 use Rattle.cec_prove_commands.specs.declared.outcome.ProveOutcome.TheVariants.{NoAssumed, OtherGiven, OtherOutgoing}
 use Rattle.cec_prove_commands.specs.declared.outcome.ProveOutcome.TheVariants.{OtherRelations, Usage, FileFault}
@@ -19,8 +20,10 @@ abbrev pub status_of : ProveOutcome → ℕ
 status_of Told = 0
 status_of Proved = 0
 status_of Surveyed = 0
+status_of Covered = 0
 status_of Refuted = 20
 status_of PartlySurveyed = 21
+status_of PartlyCovered = 21
 status_of (Undecided depth) = 21
 status_of NoSignal = 22
 status_of NoAssumed = 22
@@ -35,13 +38,15 @@ status_of (SecondRefused refusal) = 4
 status_of WriteFault = 9
 status_of NoMemory = 10
 
--- how the writing of what the program writes about itself, of a trace or of a survey ended; after every other outcome
--- nothing was to be written
+-- how the writing of what the program writes about itself, of a trace, a survey or a covering ended; after every other
+-- outcome nothing was to be written
 abbrev pub written_of : ProveOutcome → Option Written
 written_of Told = Some ends.Done
 written_of Refuted = Some ends.Done
 written_of Surveyed = Some ends.Done
 written_of PartlySurveyed = Some ends.Done
+written_of Covered = Some ends.Done
+written_of PartlyCovered = Some ends.Done
 written_of WriteFault = Some ends.WriteFault
 written_of NoMemory = Some ends.NoMemory
 written_of others = None

@@ -11,17 +11,19 @@ use Rattle.cec_prove_commands.specs.declared.words.Task.TheVariants as doing
 use Rattle.cec_prove_commands.specs.declared.outcome.ProveOutcome.{ProveOutcome}
 use Rattle.cec_prove_commands.specs.declared.outcome.ProveOutcome.TheVariants.{SecondRefused}
 use Rattle.cec_prove_commands.specs.Lines.{Subject}
-use Rattle.cec_prove_commands.specs.Words.{Command, Asks, Surveys, Compares, Job, Request, Tell, Do, Task, Ask, Survey}
-use Rattle.cec_prove_commands.specs.Words.{Compare}
+use Rattle.cec_prove_commands.specs.Words.{Command, Asks, Surveys, Covers, Compares, Job, Request, Tell, Do, Task, Ask}
+use Rattle.cec_prove_commands.specs.Words.{Survey, Cover, Compare}
 
 abbrev pub command_is : commands.Command → Command
 command_is (commanded.Asks claim) = Asks claim
 command_is commanded.Surveys = Surveys
+command_is commanded.Covers = Covers
 command_is commanded.Compares = Compares
 
 abbrev pub task_is : tasks.Task → Task
 task_is (doing.Ask claim signal) = Ask claim signal.now
 task_is doing.Survey = Survey
+task_is doing.Cover = Cover
 task_is (doing.Compare other) = Compare other.now
 
 abbrev pub job_is : jobs.Job → Job

@@ -13,6 +13,8 @@ pub data Command : Type 0 where
   Asks : (claim : Claim) → Command
   -- all outgoing signals
   Surveys : Command
+  -- all points
+  Covers : Command
   -- two sources
   Compares : Command
 
@@ -22,6 +24,8 @@ pub data Task : Type 0 where
   Ask : (claim : Claim) (signal : List ℕ) → Task
   -- when each outgoing signal is present
   Survey : Task
+  -- which points are reached
+  Cover : Task
   -- whether the source in the file of this name does the same
   Compare : (other : List ℕ) → Task
 
@@ -50,6 +54,7 @@ command_of word =
     if is_same_name word (codes "never") then Some (Asks Never)
     else if is_same_name word (codes "always") then Some (Asks Always)
     else if is_same_name word (codes "all") then Some Surveys
+    else if is_same_name word (codes "cover") then Some Covers
     else if is_same_name word (codes "same") then Some Compares
     else None
 
@@ -66,6 +71,7 @@ word_asked word =
 abbrev pub is_comparison : Task → Bool
 is_comparison (Ask claim signal) = false
 is_comparison Survey = false
+is_comparison Cover = false
 is_comparison (Compare other) = true
 
 abbrev pub with_assumed : Job → List ℕ → Option Job
@@ -116,10 +122,10 @@ claim_asked claim (signal ∷ []) = None
 claim_asked claim (signal ∷ name ∷ options) =
     if not (is_plain signal) || not (is_plain name) then None else job_asked (Ask claim signal) name options
 
--- after `all` comes a file
-abbrev pub survey_asked : List (List ℕ) → Option Request
-survey_asked [] = None
-survey_asked (name ∷ options) = if not (is_plain name) then None else job_asked Survey name options
+-- after `all` and `cover` comes a file
+abbrev pub file_asked : Task → List (List ℕ) → Option Request
+file_asked task [] = None
+file_asked task (name ∷ options) = if not (is_plain name) then None else job_asked task name options
 
 -- after `same` come two files
 abbrev pub comparison_asked : List (List ℕ) → Option Request
@@ -130,7 +136,8 @@ comparison_asked (name ∷ other ∷ options) =
 
 abbrev pub command_asked : Command → List (List ℕ) → Option Request
 command_asked (Asks claim) rest = claim_asked claim rest
-command_asked Surveys rest = survey_asked rest
+command_asked Surveys rest = file_asked Survey rest
+command_asked Covers rest = file_asked Cover rest
 command_asked Compares rest = comparison_asked rest
 
 -- every other list of words has no meaning
@@ -179,6 +186,7 @@ misuse_of_comparison command (name ∷ other ∷ options) =
 abbrev pub misuse_of_command : Command → (command : List ℕ) → List (List ℕ) → List ℕ
 misuse_of_command (Asks claim) command rest = misuse_of_claim claim command rest
 misuse_of_command Surveys command rest = misuse_of_file Survey command rest
+misuse_of_command Covers command rest = misuse_of_file Cover command rest
 misuse_of_command Compares command rest = misuse_of_comparison command rest
 
 -- after a word that asks about the program comes none; such a word alone has a meaning

@@ -9,7 +9,8 @@ ghost use Rattle.cec_prove_commands.specs.HelpTexts.{own_text};
 ghost use Rattle.cec_prove_commands.specs.Lines.{GainsErr, GainsJobErr, job_subject, line_of, nothing, second_of};
 ghost use Rattle.cec_prove_commands.specs.Lines.{asked_signal};
 ghost use Rattle.cec_text_io.specs.Writings.{LeavesText};
-ghost use Rattle.cec_prove_commands.specs.Outcomes.{ClaimSays, ComparisonSays, CountsFiles, GainsOut, IsDistinction};
+ghost use Rattle.cec_prove_commands.specs.Outcomes.{ClaimSays, ComparisonSays, CountsFiles, CoveringSays, GainsOut};
+ghost use Rattle.cec_prove_commands.specs.Outcomes.{IsCoveringBy, IsDistinction};
 ghost use Rattle.cec_prove_commands.specs.Outcomes.{IsOutcomeOf, IsRefutation, IsSurveyBy, SurveySays, question_of};
 ghost use Rattle.cec_prove_commands.specs.Statuses.{written_of};
 ghost use Rattle.cec_prove_commands.specs.Views.{job_is, spoken_of, subject_is, task_is};
@@ -17,7 +18,7 @@ ghost use Rattle.cec_prove_commands.specs.Words.{request_by, Compare, Do, Tell};
 
 use crate::lines::{Subject, report, report_misuse};
 use crate::outcome::{ProveOutcome, second_unread_outcome, unread_outcome, written_outcome};
-use crate::sources::{do_claim, do_comparison, do_survey};
+use crate::sources::{do_claim, do_comparison, do_covering, do_survey};
 use crate::words::{About, Job, Request, Task, request_by};
 use base_types::{Files, Limits, Sink};
 use cec_prove_sources::Claim;
@@ -27,6 +28,7 @@ use std::alloc::Global;
 const HELP: &[u8] = b"cec-prove never SIGNAL FILE    whether SIGNAL is never present
 cec-prove always SIGNAL FILE   whether SIGNAL is present in each instant
 cec-prove all FILE             when each outgoing signal is present
+cec-prove cover FILE           which statements and branches are ever reached
 cec-prove same FILE FILE       whether two sources do the same
     --assume SIGNAL            where this signal is present in each instant; not of same
     --main M                   of the module M, not of the first one
@@ -43,9 +45,11 @@ const VERSION: &[u8] = b"cec-prove 0.1.0\n";
 ///   reaction, `always SIGNAL FILE` whether it is present in each.
 /// - `all FILE` writes when each outgoing signal is present: in no reaction, in each one, or in some, with a trace to
 ///   one in which it is present and a trace to one in which it is absent.
+/// - `cover FILE` writes for each emission, pause, wait and branch whether a reaction starts it: a trace whose last
+///   reaction does, or that none does.
 /// - `same FILE FILE` answers whether two sources do the same.
-/// - `--assume SIGNAL` asks `never`, `always` and `all` of the runs in each of whose reactions another outgoing signal
-///   is present, `--main M` asks of the module M, and `--effort N` says how long to search.
+/// - `--assume SIGNAL` asks `never`, `always`, `all` and `cover` of the runs in each of whose reactions another
+///   outgoing signal is present, `--main M` asks of the module M, and `--effort N` says how long to search.
 /// - `--help` writes the list of the commands, and `--version` the program's name and version.
 ///
 /// Every other list of words is `Usage`. For every outcome but `Told` one line goes to `err`, which for `Usage` names
@@ -126,7 +130,7 @@ fn asked_signal(task: Task<'_>) -> &[u8]
 {
     match task {
         Task::Ask(_, signal) => signal,
-        Task::Survey | Task::Compare(_) => b"",
+        Task::Survey | Task::Cover | Task::Compare(_) => b"",
     }
 }
 
@@ -135,7 +139,7 @@ fn second_of(task: Task<'_>) -> &str
     ensures { result.now ≡ second_of (task_is task.entry) }
 {
     match task {
-        Task::Ask(_, _) | Task::Survey => "",
+        Task::Ask(_, _) | Task::Survey | Task::Cover => "",
         Task::Compare(other) => other,
     }
 }
@@ -205,6 +209,7 @@ fn do_text<F: Files, O: Sink, E: Sink>(
     match job.task {
         Task::Ask(claim, signal) => told_claim(alloc, job, claim, signal, text, out, err),
         Task::Survey => told_survey(alloc, job, text, out, err),
+        Task::Cover => told_covering(alloc, job, text, out, err),
         Task::Compare(other) => do_second(alloc, job, other, text, files, out, err),
     }
 }
@@ -248,6 +253,26 @@ fn told_survey<O: Sink, E: Sink>(
         (line_of (job_subject (job_is job.entry) text.now) result) }
 {
     let outcome = do_survey(alloc, job, text, out);
+    report(err, subject_of(job, text), &outcome);
+    outcome
+}
+
+// Writes the covering of a text, and the line of the outcome.
+fn told_covering<O: Sink, E: Sink>(
+    alloc: Global,
+    job: Job<'_>,
+    text: &[u8],
+    out: &mut O,
+    err: &mut E,
+) -> ProveOutcome
+    requires { length text.now ≤ Limits.SOURCE_BYTES }
+    ensures says { CoveringSays result (job_is job.entry) text.now }
+    ensures out { LeavesText (IsCoveringBy result (job_is job.entry) text.now)
+        (change O.told O.faults out.old out.new) (written_of result) }
+    ensures err { GainsLine (E.told err.old) (E.told err.new) (E.faults err.old) (E.faults err.new)
+        (line_of (job_subject (job_is job.entry) text.now) result) }
+{
+    let outcome = do_covering(alloc, job, text, out);
     report(err, subject_of(job, text), &outcome);
     outcome
 }

@@ -86,6 +86,8 @@ fn put_line<E: Sink>(
         ProveOutcome::Refuted => put_said(err, b"refuted", b""),
         ProveOutcome::Surveyed => put_said(err, b"all signals are decided", b""),
         ProveOutcome::PartlySurveyed => put_said(err, b"some signals are undecided", b""),
+        ProveOutcome::Covered => put_said(err, b"all points are decided", b""),
+        ProveOutcome::PartlyCovered => put_said(err, b"some points are undecided", b""),
         ProveOutcome::Undecided(depth) => put_depth(err, *depth),
         ProveOutcome::NoSignal => put_said(err, b"no outgoing signal ", subject.signal),
         ProveOutcome::NoAssumed => put_said(err, b"no outgoing signal ", subject.assumed),

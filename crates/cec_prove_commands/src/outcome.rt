@@ -21,6 +21,10 @@ pub enum ProveOutcome {
     Surveyed,
     /// The survey was written, and a signal is undecided.
     PartlySurveyed,
+    /// The lines of all points were written, and each point is decided.
+    Covered,
+    /// The lines of all points were written, and a point is undecided.
+    PartlyCovered,
     /// Neither was found. No trace of at most this number of instants was found.
     Undecided(usize),
     /// No outgoing signal has the name.
@@ -108,14 +112,16 @@ impl ProveOutcome {
         ensures { result ≡ status_of self.now }
     {
         match self {
-            ProveOutcome::Told | ProveOutcome::Proved | ProveOutcome::Surveyed => 0,
+            ProveOutcome::Told | ProveOutcome::Proved => 0,
+            ProveOutcome::Surveyed | ProveOutcome::Covered => 0,
             ProveOutcome::Usage => 2,
             ProveOutcome::FileFault | ProveOutcome::SecondFault => 3,
             ProveOutcome::Refused(_) | ProveOutcome::SecondRefused(_) => 4,
             ProveOutcome::WriteFault => 9,
             ProveOutcome::NoMemory => 10,
             ProveOutcome::Refuted => 20,
-            ProveOutcome::PartlySurveyed | ProveOutcome::Undecided(_) => 21,
+            ProveOutcome::PartlySurveyed | ProveOutcome::PartlyCovered => 21,
+            ProveOutcome::Undecided(_) => 21,
             ProveOutcome::NoSignal | ProveOutcome::NoAssumed => 22,
             ProveOutcome::OtherGiven | ProveOutcome::OtherOutgoing | ProveOutcome::OtherRelations =>
                 23,

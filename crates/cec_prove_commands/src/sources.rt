@@ -4,11 +4,12 @@ ghost use Rattle.std.specs.Prelude.{◌≤◌, ℕ, List, Option, length, IfErr,
 ghost use Rattle.base_types.specs.SinkChanges.{change};
 ghost use Rattle.cec_compile.specs.Refusals.{IsRefused};
 ghost use Rattle.cec_text_io.specs.Writings.{LeavesText};
+ghost use Rattle.cec_prove_covers.specs.Coverings.{HasCovering};
 ghost use Rattle.cec_prove_sources.specs.Sameness.{HasComparison, IsPairRefused};
 ghost use Rattle.cec_prove_sources.specs.Surveys.{HasSurvey};
 ghost use Rattle.cec_prove_sources.specs.Verdicts.{HasVerdict};
 ghost use Rattle.cec_prove_commands.specs.Outcomes.{ClaimSays, ComparisonSays, IsDistinction, IsRefutation, IsSurveyBy};
-ghost use Rattle.cec_prove_commands.specs.Outcomes.{SurveySays, question_of};
+ghost use Rattle.cec_prove_commands.specs.Outcomes.{CoveringSays, IsCoveringBy, SurveySays, question_of};
 ghost use Rattle.cec_prove_commands.specs.Statuses.{written_of};
 ghost use Rattle.cec_prove_commands.specs.Views.{job_is};
 ghost use Rattle.cec_prove_commands.specs.Words.{Job as PlainJob};
@@ -17,6 +18,7 @@ use crate::outcome::{ProveOutcome, refusal_outcome, second_refusal_outcome, writ
 use crate::words::Job;
 use base_types::{Limits, Sink};
 use cec_compile::Refusal;
+use cec_prove_covers::{Covering, covering_of};
 use cec_prove_sources::{
     Claim, Comparison, PairRefusal, Question, Survey, Verdict, comparison_of, survey_of, verdict_of,
 };
@@ -129,6 +131,47 @@ pub(crate) fn do_survey<O: Sink>(
             written_outcome(ProveOutcome::PartlySurveyed, write_whole(&lines, out))
         }
         Ok(Survey::NoAssumed) => ProveOutcome::NoAssumed,
+        Err(refusal) => refusal_outcome(refusal),
+    }
+}
+
+// The covering of the text.
+fn covering(alloc: Global, job: Job<'_>, text: &[u8]) -> Result<Covering, Refusal>
+    requires { length text.now ≤ Limits.SOURCE_BYTES }
+    ensures covers { IfOk result (HasCovering text.now (job_is job.entry).main (job_is job.entry).assumed) }
+    ensures refuses { IfErr result (IsRefused text.now (job_is job.entry).main) }
+{
+    covering_of(
+        alloc,
+        text,
+        job.main,
+        &mut First,
+        job.assumed,
+        effort_of(job.level),
+    )
+}
+
+/// Writes the covering of a text to `out`.
+pub(crate) fn do_covering<O: Sink>(
+    alloc: Global,
+    job: Job<'_>,
+    text: &[u8],
+    out: &mut O,
+) -> ProveOutcome
+    requires { length text.now ≤ Limits.SOURCE_BYTES }
+    ensures says { CoveringSays result (job_is job.entry) text.now }
+    ensures out { LeavesText (IsCoveringBy result (job_is job.entry) text.now)
+        (change O.told O.faults out.old out.new) (written_of result) }
+{
+    match covering(alloc, job, text) {
+        Ok(Covering::Whole(lines)) => written_outcome(
+            ProveOutcome::Covered,
+            write_whole(&lines, out),
+        ),
+        Ok(Covering::Partly(lines)) => {
+            written_outcome(ProveOutcome::PartlyCovered, write_whole(&lines, out))
+        }
+        Ok(Covering::NoAssumed) => ProveOutcome::NoAssumed,
         Err(refusal) => refusal_outcome(refusal),
     }
 }

@@ -8,6 +8,7 @@ ghost use Rattle.cec_prove_commands.specs.Words.{
   command_asked,
   command_of,
   comparison_asked,
+  file_asked,
   is_comparison,
   is_plain,
   job_asked,
@@ -23,7 +24,6 @@ ghost use Rattle.cec_prove_commands.specs.Words.{
   misuse_of_own,
   plain_job,
   request_by,
-  survey_asked,
   with_assumed,
   with_level,
   with_main,
@@ -49,6 +49,8 @@ pub(crate) enum Command {
     Asks(Claim),
     /// All outgoing signals.
     Surveys,
+    /// All points.
+    Covers,
     /// Two sources.
     Compares,
 }
@@ -60,6 +62,8 @@ pub(crate) enum Task<'a> {
     Ask(Claim, &'a [u8]),
     /// When each outgoing signal is present.
     Survey,
+    /// Which points are reached.
+    Cover,
     /// Whether the source in the file of this name does the same.
     Compare(&'a str),
 }
@@ -118,7 +122,8 @@ fn command_asked<'a>(command: Command, rest: &'a [String]) -> Option<Request<'a>
 {
     match command {
         Command::Asks(claim) => claim_asked(claim, rest),
-        Command::Surveys => survey_asked(rest),
+        Command::Surveys => file_asked(Task::Survey, rest),
+        Command::Covers => file_asked(Task::Cover, rest),
         Command::Compares => comparison_asked(rest),
     }
 }
@@ -136,14 +141,14 @@ fn claim_asked<'a>(claim: Claim, rest: &'a [String]) -> Option<Request<'a>>
 }
 
 // What a file and options ask for.
-fn survey_asked<'a>(rest: &'a [String]) -> Option<Request<'a>>
-    ensures { option_map request_is result ≡ survey_asked (map string_bytes rest.now) }
+fn file_asked<'a>(task: Task<'a>, rest: &'a [String]) -> Option<Request<'a>>
+    ensures { option_map request_is result ≡ file_asked (task_is task.entry) (map string_bytes rest.now) }
 {
     let (name, options) = rest.split_first()?;
     if !is_plain(name.as_bytes()) {
         return None;
     }
-    job_asked(Task::Survey, name, options)
+    job_asked(task, name, options)
 }
 
 // What two files and options ask for.
@@ -190,6 +195,8 @@ fn command_of(word: &[u8]) -> Option<Command>
         Some(Command::Asks(Claim::Always))
     } else if word == b"all".as_slice() {
         Some(Command::Surveys)
+    } else if word == b"cover".as_slice() {
+        Some(Command::Covers)
     } else if word == b"same".as_slice() {
         Some(Command::Compares)
     } else {
@@ -248,7 +255,7 @@ fn is_comparison(task: Task<'_>) -> bool
     ensures { result ≡ is_comparison (task_is task.entry) }
 {
     match task {
-        Task::Ask(_, _) | Task::Survey => false,
+        Task::Ask(_, _) | Task::Survey | Task::Cover => false,
         Task::Compare(_) => true,
     }
 }
@@ -353,6 +360,7 @@ fn misuse_of_command<'a>(command: Command, word: &'a [u8], rest: &'a [String]) -
     match command {
         Command::Asks(claim) => misuse_of_claim(claim, word, rest),
         Command::Surveys => misuse_of_file(Task::Survey, word, rest),
+        Command::Covers => misuse_of_file(Task::Cover, word, rest),
         Command::Compares => misuse_of_comparison(word, rest),
     }
 }

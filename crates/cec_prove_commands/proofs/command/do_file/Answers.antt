@@ -1,11 +1,11 @@
-use Rattle.std.proofs.Common.{◌∙◌, subst, sym, Some}
+use Rattle.std.proofs.Common.{subst, sym, Some}
 use Rattle.base_types.proofs.Exports.{appends-nothing}
 use Rattle.base_types.specs.SinkChanges.{change}
 use Rattle.base_types.specs.declared.bounds.TheConstants.Limits.{SOURCE_BYTES}
 use Rattle.cec_text_io.proofs.Exports.{held_read}
 use Rattle.cec_text_io.specs.Contents.{Content, IsHeld}
 use Rattle.cec_prove_commands.specs.Lines.{GainsJobErr}
-use Rattle.cec_prove_commands.specs.Outcomes.{CountsFiles, GainsOut, IsOutcomeOf, IsTextOf}
+use Rattle.cec_prove_commands.specs.Outcomes.{GainsOut, IsOutcomeOf, IsTextOf}
 use Rattle.cec_prove_commands.specs.Statuses.{unread_outcome}
 use Rattle.cec_prove_commands.specs.Views.{job_is}
 use Rattle.cec_prove_commands.specs.Words.{Do}

@@ -3,6 +3,7 @@ use Rattle.base_types.specs.SinkChanges.{change}
 use Rattle.cec_prove_commands.specs.Outcomes.{question_of}
 use Rattle.cec_prove_commands.specs.Views.{job_is, task_is}
 use Rattle.cec_prove_commands.proofs.Outcomes.{claim_agrees, claim_err, claim_out, claim_read, kept, read_counts}
+use Rattle.cec_prove_commands.proofs.Outcomes.{covering_agrees, covering_err, covering_out, covering_read}
 use Rattle.cec_prove_commands.proofs.Outcomes.{survey_agrees, survey_err, survey_out, survey_read}
 use Rattle.cec_prove_commands.proofs.command.do_text.Goals as goal
 
@@ -47,3 +48,23 @@ pub returns-in-Survey-clause-err : goal.returns-in-Survey-clause-err
 returns-in-Survey-clause-err g c =
     survey_err (g.F.Files.content c.args.files.now) (job_is c.args.job) c.told_survey.result c.args.text.now _ _ _ _ c.requires.held
     c.told_survey.ensures.says c.told_survey.ensures.err
+
+pub returns-in-Cover-clause-agrees : goal.returns-in-Cover-clause-agrees
+returns-in-Cover-clause-agrees g c =
+    covering_agrees (g.F.Files.content c.args.files.now) (job_is c.args.job) c.told_covering.result c.args.text.now (ap task_is c.in-Cover.is) c.requires.held
+    c.told_covering.ensures.says
+
+pub returns-in-Cover-clause-files_counted : goal.returns-in-Cover-clause-files_counted
+returns-in-Cover-clause-files_counted g c =
+    let job = job_is c.args.job in
+    read_counts job c.told_covering.result _ _ _ _ (covering_read c.told_covering.result job c.args.text.now c.told_covering.ensures.says) (kept _ _)
+
+pub returns-in-Cover-clause-out : goal.returns-in-Cover-clause-out
+returns-in-Cover-clause-out g c =
+    covering_out (g.F.Files.content c.args.files.now) (job_is c.args.job) c.told_covering.result c.args.text.now
+    (change g.O.Sink.told g.O.Sink.faults c.args.out.now c.told_covering.new.out) (ap task_is c.in-Cover.is) c.requires.held c.told_covering.ensures.out
+
+pub returns-in-Cover-clause-err : goal.returns-in-Cover-clause-err
+returns-in-Cover-clause-err g c =
+    covering_err (g.F.Files.content c.args.files.now) (job_is c.args.job) c.told_covering.result c.args.text.now _ _ _ _ c.requires.held
+    c.told_covering.ensures.says c.told_covering.ensures.err

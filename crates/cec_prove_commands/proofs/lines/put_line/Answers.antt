@@ -45,3 +45,9 @@ returns-in-OtherRelations g c = rw c.in-OtherRelations.is c.put_said-in-OtherRel
 pub returns-in-SecondFault : goal.returns-in-SecondFault
 returns-in-SecondFault g c =
     rw (c.in-SecondFault.is, ← c.as_bytes-in-SecondFault.ensures.value) c.put_said-in-SecondFault.ensures
+
+pub returns-in-Covered : goal.returns-in-Covered
+returns-in-Covered g c = rw c.in-Covered.is c.put_said-in-Covered.ensures
+
+pub returns-in-PartlyCovered : goal.returns-in-PartlyCovered
+returns-in-PartlyCovered g c = rw c.in-PartlyCovered.is c.put_said-in-PartlyCovered.ensures

@@ -1,4 +1,4 @@
-use Rattle.std.proofs.Common.{◌≡◌, ℕ, List, [], sym, subst}
+use Rattle.std.proofs.Common.{◌≡◌, ℕ, List, sym, subst}
 use Rattle.std.specs.Prelude.{◌≢◌}
 use Rattle.std.specs.Prelude.{Some}
 use Rattle.base_types.specs.SinkChanges.{SinkChange, change}
@@ -7,7 +7,6 @@ use Rattle.est_kernel.specs.Plain.{given_names, outgoing_names}
 use Rattle.cec_prove_sources.specs.Sameness.{AreDifferent, AreSame, HasComparison, SharesInterface}
 use Rattle.cec_prove_commands.specs.Outcomes.{ComparisonSays, IsDistinction}
 use Rattle.cec_prove_commands.specs.Statuses.{written_of}
-use Rattle.cec_prove_commands.specs.Words.{Job}
 use Rattle.cec_prove_commands.specs.declared.outcome.ProveOutcome.{ProveOutcome}
 use Rattle.cec_text_io.specs.Writings.{LeavesText}
 use Rattle.cec_prove_commands.proofs.Comparisons.{compared, distinction_left, distinction_says}

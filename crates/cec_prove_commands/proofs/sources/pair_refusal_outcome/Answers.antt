@@ -1,4 +1,4 @@
-use Rattle.std.proofs.Common.{ℕ, List, sym, subst}
+use Rattle.std.proofs.Common.{sym, subst}
 use Rattle.cec_text_io.specs.Writings.{LeavesText}
 use Rattle.cec_prove_sources.specs.Sameness.{IsPairRefused}
 use Rattle.base_types.specs.SinkChanges.{SinkChange}

@@ -1,0 +1,3 @@
+mod CoveringLines
+mod Joint
+mod NewSignals
