@@ -13,6 +13,7 @@ use Rattle.cec_compile.specs.declared.passes.Compiled.{Compiled}
 use Rattle.cec_compile.specs.declared.cycles.Cycle.{Cycle}
 use Rattle.cec_cycles.specs.Constructive.{HasCycle, StandsForConstructiveBlif, StandsForConstructiveC}
 use Rattle.cec_cycles.specs.Constructive.{StandsForConstructiveNet, StandsForConstructiveVerilog}
+use Rattle.cec_cycles.specs.Counted.{HasCountedCycles}
 use Rattle.cec_opt_sources.specs.LightNets.{IsLightNetOf, IsLightSource}
 use Rattle.cec_opt_sources.specs.SmallTexts.{StandsForSmallBlif, StandsForSmallC, StandsForSmallVerilog}
 use Rattle.cec_opt_texts.specs.Alike.{BlifKeeps, CKeeps, VerilogKeeps}
@@ -86,9 +87,18 @@ pub record IsCyclicText (Stands : List ℕ → Option (List ℕ) → List ℕ �
   pub net : Netlist
   pub spelled : written ≡ write net
 
--- the line of a constructive source with a cycle, and that of its netlist
-abbrev pub constructive_lines : Netlist → List ℕ
-constructive_lines net = concat (net.name ∷ codes ": constructive, with a cycle\n" ∷ counts_line net ∷ [])
+-- The line of a constructive source with a cycle, with the numbers of the components in which the cycles lie and of the
+-- wires that cut them; and the line of its netlist.
+abbrev pub constructive_lines : (components cuts : ℕ) → Netlist → List ℕ
+constructive_lines components cuts net = concat (net.name ∷ codes ": constructive, " ∷ decimal components
+    ∷ codes " components, " ∷ decimal cuts ∷ codes " cuts\n" ∷ counts_line net ∷ [])
+
+-- the lines of a netlist, where the cycles of such a source are counted
+pub record IsCyclicLines (source : List ℕ) (main : Option (List ℕ)) (net : Netlist) (lines : List ℕ) : Type 0 where
+  pub components : ℕ
+  pub cuts : ℕ
+  pub counted : HasCountedCycles source main components cuts
+  pub is : lines ≡ constructive_lines components cuts net
 
 -- the lines of a netlist that keeps what the program of such a source means
 pub record TellsCyclic (source : List ℕ) (main : Option (List ℕ)) (lines : List ℕ) : Type 0 where
@@ -96,7 +106,7 @@ pub record TellsCyclic (source : List ℕ) (main : Option (List ℕ)) (lines : L
   pub stands : StandsForConstructiveNet source main net
   pub cycle : Cycle
   pub has_cycle : HasCycle source main cycle
-  pub is : lines ≡ constructive_lines net
+  pub is_lines : IsCyclicLines source main net lines
 
 abbrev pub TellsAny : List ℕ → Option (List ℕ) → List ℕ → Type 0
 TellsAny source main lines = TellsSource source main lines ⊎ TellsCyclic source main lines

@@ -9,5 +9,5 @@ returns-in-Ok-clause-lines c =
       stands = c.in_ok-net.ensures.compiles;
       cycle = c.args.cycle;
       has_cycle = c.requires.cyclic;
-      is = c.in-Ok.ensures;
+      is_lines = c.in-Ok.ensures.lines;
     })
