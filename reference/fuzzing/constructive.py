@@ -16,6 +16,7 @@ from fuzzing.written import Difference, need, net_of_text
 from rules.circuit_runs import TriMachine
 from rules.command import SourceRunner
 from rules.compiling import Compiled
+from rules.cycles import cycle_counts
 from rules.outcomes import Outcome
 from rules.simplification import simplified_violations
 from rules.texts import open_text
@@ -25,7 +26,7 @@ EVENTS = 60
 # A search over at most this number of states, and of events in each of them.
 STATES, CHOICES = 400, 64
 DONE, LIMIT, STUCK, UNDECIDED = 0, 8, 12, 21
-COUNTS = re.compile(rb"(.*): constructive, with a cycle\n\1: (\d+) inputs, (\d+) outputs, (\d+) latches, (\d+) gates, depth (\d+)\n")
+COUNTS = re.compile(rb"(.*): constructive, (\d+) components, (\d+) cuts\n\1: (\d+) inputs, (\d+) outputs, (\d+) latches, (\d+) gates, depth (\d+)\n")
 Answer = tuple[bytes, bytes, int]
 
 
@@ -98,6 +99,17 @@ def check_net(kind: str, done: Compiled, written: bytes, seed: int = 1) -> None:
         need(shown == (list(map(bool, runner.outputs)), bool(runner.word)), "item %d: other values are shown", instant)
 
 
+def check_counts(done: Compiled, out: bytes) -> None:
+    """The lines of `check`: the cycles, counted, and the interface of the netlist."""
+    lines = COUNTS.fullmatch(out)
+    need(lines is not None, "not the lines of counts")
+    assert lines is not None
+    due = cycle_counts(len(done.shape.wires), done.shape.edges)
+    need((int(lines[2]), int(lines[3])) == due, "%d components and %d cuts", *due)
+    given = (done.shape.name, len(done.in_names), len(done.out_names) + 1)
+    need((lines[1], int(lines[4]), int(lines[5])) == given, "another interface than %r", given)
+
+
 def check_answer(command: bytes, done: Compiled, got: Answer) -> None:
     """Raises Difference where the answer about a source with a cycle is none that may come."""
     out, err, status = got
@@ -109,7 +121,7 @@ def check_answer(command: bytes, done: Compiled, got: Answer) -> None:
         need(not err, "stderr %r", err)
         need(not stuck, "some events lead to an instant that is not constructive")
         if command == b"check":
-            need(COUNTS.fullmatch(out) is not None, "not the lines of counts")
+            check_counts(done, out)
         else:
             check_net(command.decode(), done, out)
     elif status == UNDECIDED:

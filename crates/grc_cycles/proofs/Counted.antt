@@ -17,7 +17,8 @@ top_at-push : (places : List ℕ) (es : List WireEdge) (e : WireEdge) (k : ℕ)
 top_at-push places [] e k = grind arith
 top_at-push places (d ∷ es) e k =
     ap (max (top_of (slice_index places d.0.0) (slice_index places d.1.0) k)) (top_at-push places es e k)
-    ∙ max-turned (top_of (slice_index places d.0.0) (slice_index places d.1.0) k) (top_at places es k) (top_of (slice_index places e.0.0) (slice_index places e.1.0) k)
+    ∙ max-turned (top_of (slice_index places d.0.0) (slice_index places d.1.0) k) (top_at places es k)
+    (top_of (slice_index places e.0.0) (slice_index places e.1.0) k)
 
 pub tops-more : (places old new : List ℕ) (es : List WireEdge) (e : WireEdge) → old ≡ map (top_at places es) (range_with_len 0 (length places))
     → length new ≡ length places
@@ -31,18 +32,18 @@ tops-more places old new es e is long raised =
     ∙ sym (top_at-push places es e k))
 
 is_cut-push : (places : List ℕ) (es : List WireEdge) (e : WireEdge) (k : ℕ)
-    → is_cut places (es ++ e ∷ []) k ≡ (is_cut places es k || (is_back places e && e.0.0 == k))
-is_cut-push places es e k = list_any-append (λ d. is_back places d && d.0.0 == k) es (e ∷ []) ∙ grind arith
+    → is_cut places (es ++ e ∷ []) k ≡ (is_cut places es k || (is_back places e && e.1.0 == k))
+is_cut-push places es e k = list_any-append (λ d. is_back places d && d.1.0 == k) es (e ∷ []) ∙ grind arith
 
 pub cuts-more : (places : List ℕ) (old new : List Bool) (es : List WireEdge) (e : WireEdge)
     → old ≡ map (is_cut places es) (range_with_len 0 (length places)) → length new ≡ length places
-    → ((k : ℕ) → k < length places → slice_index_or new k false ≡ (slice_index_or old k false || (is_back places e && e.0.0 == k)))
+    → ((k : ℕ) → k < length places → slice_index_or new k false ≡ (slice_index_or old k false || (is_back places e && e.1.0 == k)))
     → new ≡ map (is_cut places (es ++ e ∷ [])) (range_with_len 0 (length places))
 cuts-more places old new es e is long marked =
     fill_by_all (is_cut places (es ++ e ∷ [])) new (length places) false long (λ k low.
     let before : slice_index_or old k false ≡ is_cut places es k =
     ap (λ l. slice_index_or l k false) is ∙ get_or-map-range_with_len (is_cut places es) 0 (length places) k k false low (omega arith) in
-    marked k low ∙ ap (λ b. b || (is_back places e && e.0.0 == k)) before ∙ sym (is_cut-push places es e k))
+    marked k low ∙ ap (λ b. b || (is_back places e && e.1.0 == k)) before ∙ sym (is_cut-push places es e k))
 
 -- no edge
 pub no-tops : (places : List ℕ) (n : ℕ) → replicate n 0 ≡ map (top_at places []) (range_with_len 0 n)

@@ -9,9 +9,9 @@ use Rattle.grc_graph.specs.WireOrders.{WireEdge}
 abbrev pub is_back : (places : List ℕ) → WireEdge → Bool
 is_back places e = nat_le (slice_index places e.1.0) (slice_index places e.0.0)
 
--- A wire that a back edge leaves is a cut. So without the cuts there is no cycle.
+-- A wire that a back edge enters is a cut. So without the cuts there is no cycle.
 abbrev pub is_cut : (places : List ℕ) → List WireEdge → ℕ → Bool
-is_cut places pairs w = list_any (λ e. is_back places e && e.0.0 == w) pairs
+is_cut places pairs w = list_any (λ e. is_back places e && e.1.0 == w) pairs
 
 -- the first place above an edge from one place to another that comes down to place k
 abbrev pub top_of : (from to k : ℕ) → ℕ

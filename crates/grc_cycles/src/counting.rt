@@ -1,6 +1,7 @@
 // What is counted of edges along places of the wires.
 
-ghost use Rattle.std.specs.Prelude.{◌≡◌, ◌==◌, ◌&&◌, ◌||◌, ℕ, ◌<◌, false, length, map, max, slice_index, slice_index_or, count_by, cond, All, IfOk};
+ghost use Rattle.std.specs.Prelude.{◌≡◌, ◌==◌, ◌&&◌, ◌||◌, ℕ, ◌<◌, false, length, map, max, slice_index};
+ghost use Rattle.std.specs.Prelude.{slice_index_or, count_by, cond, All, IfOk};
 ghost use Rattle.std.specs.List.{range_with_len};
 ghost use Rattle.est_kernel.specs.Plain.{program_of};
 ghost use Rattle.grc_graph.specs.BuiltGraphs.{IsGraphOf};
@@ -94,14 +95,14 @@ fn cuts_of(
 {
     let mut cuts = vec![in alloc; false; places.len()]?;
     for pair in pairs {
-        let from = pair.0.0 as usize;
-        let back = places[pair.1.0 as usize] <= places[from];
-        mark(&mut cuts, from, back);
+        let to = pair.1.0 as usize;
+        let back = places[to] <= places[pair.0.0 as usize];
+        mark(&mut cuts, to, back);
     }
     Ok(cuts)
 }
 
-// A wire is a cut if it is one or if this edge of it leads back.
+// A wire is a cut if it is one or if this edge to it leads back.
 fn mark(cuts: &mut Vec<bool>, wire: usize, back: bool)
     requires { wire < length cuts.old.items }
     ensures length { length cuts.new.items ≡ length cuts.old.items }

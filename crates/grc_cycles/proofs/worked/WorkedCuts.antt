@@ -35,8 +35,8 @@ two-cuts = refl
 joined : component_count (0 ∷ 1 ∷ 2 ∷ []) (e 0 1 ∷ e 0 2 ∷ e 1 0 ∷ e 2 0 ∷ []) ≡ 1
 joined = refl
 
-joined-low : cut_count (0 ∷ 1 ∷ 2 ∷ []) (e 0 1 ∷ e 0 2 ∷ e 1 0 ∷ e 2 0 ∷ []) ≡ 2
+joined-low : cut_count (0 ∷ 1 ∷ 2 ∷ []) (e 0 1 ∷ e 0 2 ∷ e 1 0 ∷ e 2 0 ∷ []) ≡ 1
 joined-low = refl
 
-joined-high : cut_count (2 ∷ 0 ∷ 1 ∷ []) (e 0 1 ∷ e 0 2 ∷ e 1 0 ∷ e 2 0 ∷ []) ≡ 1
+joined-high : cut_count (2 ∷ 0 ∷ 1 ∷ []) (e 0 1 ∷ e 0 2 ∷ e 1 0 ∷ e 2 0 ∷ []) ≡ 2
 joined-high = refl

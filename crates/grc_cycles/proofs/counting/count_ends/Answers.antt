@@ -21,7 +21,8 @@ loop-place-preserved c =
     let one : c.one_if-count.result ≡ cond (ends_at places pairs i) 1 0 = c.one_if-count.ensures ∙ ap (λ r. cond (r == i + 1) 1 0) reached in
     record {
       reached = reached;
-      is = ap (λ n. n + c.one_if-count.result) inv.is ∙ ap (λ n. count_below i (ends_at places pairs) + n) one ∙ sym (count_below-more i (ends_at places pairs));
+      is = ap (λ n. n + c.one_if-count.result) inv.is ∙ ap (λ n. count_below i (ends_at places pairs) + n) one
+          ∙ sym (count_below-more i (ends_at places pairs));
       low = omega (arith, inv.low, one, at-most-one (ends_at places pairs i));
     }
 

@@ -18,7 +18,8 @@ raise-requires-clause-from c =
     let places = c.args.places.now in
     let pairs = c.args.pairs.now in
     let i = c.loop-pair.pair-index in
-    let long : length c.loop-pair.tops.items ≡ length places = ap length c.loop-pair.invariant ∙ length-map-range_with_len (top_at places (take i pairs)) 0 (length places) in
+    let long : length c.loop-pair.tops.items ≡ length places =
+    ap length c.loop-pair.invariant ∙ length-map-range_with_len (top_at places (take i pairs)) 0 (length places) in
     let ends = c.requires.join i (record { 0 = 0 }, record { 0 = 0 }) c.loop-pair-test.true in
     omega (arith, long, c.requires.low (edge_at pairs i).0.0 0 ends.0)
 
@@ -27,7 +28,8 @@ raise-requires-clause-to c =
     let places = c.args.places.now in
     let pairs = c.args.pairs.now in
     let i = c.loop-pair.pair-index in
-    let long : length c.loop-pair.tops.items ≡ length places = ap length c.loop-pair.invariant ∙ length-map-range_with_len (top_at places (take i pairs)) 0 (length places) in
+    let long : length c.loop-pair.tops.items ≡ length places =
+    ap length c.loop-pair.invariant ∙ length-map-range_with_len (top_at places (take i pairs)) 0 (length places) in
     let ends = c.requires.join i (record { 0 = 0 }, record { 0 = 0 }) c.loop-pair-test.true in
     omega (arith, long, c.requires.low (edge_at pairs i).1.0 0 ends.1)
 
