@@ -3,7 +3,7 @@ use Rattle.std.proofs.Common.{◌≡◌, ℕ, List, [], ◌∷◌, refl}
 use Rattle.grc_graph.specs.WireOrders.{WireEdge}
 use Rattle.grc_cycles.specs.Cuts.{component_count, cut_count}
 
-e : ℕ → ℕ → WireEdge
+abbrev e : ℕ → ℕ → WireEdge
 e from to = (record { 0 = from }, record { 0 = to })
 
 -- a chain has no cycle, whichever way its wires are numbered, where its places go up
