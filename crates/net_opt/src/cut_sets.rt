@@ -1,6 +1,7 @@
 // Sets of few nodes that settle a node, several for each node.
 
-use crate::cuts::{Cut, place_in};
+use crate::cuts::Cut;
+use crate::few::Few;
 use crate::graphs::Graph;
 use base_types::NoMemory;
 use std::alloc::Global;
@@ -19,6 +20,8 @@ const INSIDE: usize = 40;
 pub(crate) struct LeafSet {
     nodes: [usize; LEAVES],
     count: usize,
+    // Bits of the nodes. Two sets whose bits are many have many nodes.
+    summary: u64,
 }
 
 /// The sets of each node, in the order of the nodes. The last set of a node is the node itself.
@@ -116,7 +119,12 @@ fn single(node: usize) -> LeafSet {
     LeafSet {
         nodes: [node; LEAVES],
         count: 1,
+        summary: bit_of(node),
     }
+}
+
+fn bit_of(node: usize) -> u64 {
+    1 << (node & 63)
 }
 
 fn node_at(set: LeafSet, place: usize) -> usize {
@@ -137,6 +145,9 @@ fn has(sets: &[LeafSet], set: LeafSet) -> bool {
 }
 
 fn is_same(one: LeafSet, other: LeafSet) -> bool {
+    if one.summary != other.summary || one.count != other.count {
+        return false;
+    }
     for place in 0..LEAVES {
         if node_at(one, place) != node_at(other, place) {
             return false;
@@ -147,9 +158,14 @@ fn is_same(one: LeafSet, other: LeafSet) -> bool {
 
 // The nodes of both sets. None where there are too many.
 fn joined(one: LeafSet, other: LeafSet) -> Option<LeafSet> {
+    let summary = one.summary | other.summary;
+    if summary.count_ones() as usize > LEAVES {
+        return None;
+    }
     let mut set = LeafSet {
         nodes: [usize::MAX; LEAVES],
         count: 0,
+        summary,
     };
     let mut i: usize = 0;
     let mut j: usize = 0;
@@ -176,42 +192,34 @@ fn joined(one: LeafSet, other: LeafSet) -> Option<LeafSet> {
 }
 
 /// The cut of a set. None where too many nodes lie between the set and the node, or the set is the node itself.
-pub(crate) fn cut_of_set(
-    alloc: Global,
-    graph: &Graph,
-    node: usize,
-    set: LeafSet,
-) -> Result<Option<Cut>, NoMemory> {
+pub(crate) fn cut_of_set(graph: &Graph, node: usize, set: LeafSet) -> Option<Cut> {
     let mut cut = Cut {
-        leaves: Vec::new(alloc),
-        inside: Vec::new(alloc),
+        leaves: Few::new(),
+        inside: Few::new(),
     };
     for place in 0..LEAVES {
         let leaf = node_at(set, place);
         if leaf != usize::MAX {
-            cut.leaves.push(leaf)?;
+            cut.leaves.push(leaf);
         }
     }
-    if place_in(&cut.leaves, node) < cut.leaves.len() {
-        return Ok(None);
+    if cut.leaves.has(node) {
+        return None;
     }
-    cut.inside.push(node)?;
+    cut.inside.push(node);
     for step in 0..INSIDE {
         if step >= cut.inside.len() {
-            return Ok(Some(cut));
+            return Some(cut);
         }
-        let pair = graph.pair(cut.inside[step]);
-        add_inside(&mut cut, graph, pair.left.node)?;
-        add_inside(&mut cut, graph, pair.right.node)?;
+        let pair = graph.pair(cut.inside.at(step));
+        add_inside(&mut cut, graph, pair.left.node);
+        add_inside(&mut cut, graph, pair.right.node);
     }
-    Ok(None)
+    None
 }
 
-fn add_inside(cut: &mut Cut, graph: &Graph, node: usize) -> Result<(), NoMemory> {
-    let is_leaf = place_in(&cut.leaves, node) < cut.leaves.len();
-    let is_there = place_in(&cut.inside, node) < cut.inside.len();
-    if graph.is_pair(node) && !is_leaf && !is_there {
-        cut.inside.push(node)?;
+fn add_inside(cut: &mut Cut, graph: &Graph, node: usize) {
+    if graph.is_pair(node) && !cut.leaves.has(node) && !cut.inside.has(node) {
+        cut.inside.push(node);
     }
-    Ok(())
 }

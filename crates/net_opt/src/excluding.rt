@@ -74,6 +74,11 @@ impl Exclusions {
         self.first == latch_node(net, 0) && self.count == net.latches.len().saturating_mul(2)
     }
 
+    /// Whether there are none.
+    pub fn are_none(&self) -> bool {
+        self.claims.is_empty()
+    }
+
     /// Whether two edges are known never to be true together.
     pub fn excludes(&self, left: Edge, right: Edge) -> bool {
         if left.node < self.first || right.node < self.first {

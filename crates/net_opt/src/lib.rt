@@ -20,6 +20,7 @@ mod diagrams;
 mod edges;
 mod emitting;
 mod excluding;
+mod few;
 mod graphs;
 mod keeping;
 mod optimizing;

@@ -2,7 +2,7 @@
 
 use crate::edges::{Edge, TRUE, edge_at, negated, negated_if, straight};
 use crate::tables::{
-    Between, depends_on, has, is_possible, narrowed, restricted, variable_table, width,
+    Between, depends_on, has, is_possible, narrowed, narrowed_width, restricted, variable_table,
 };
 use base_types::NoMemory;
 use std::alloc::Global;
@@ -227,19 +227,51 @@ fn plain_edge(between: Between) -> Option<Edge> {
 
 // The step that leaves the least to do.
 fn best_step(between: Between, turn: usize) -> Step {
-    let mut best = step_by_choice(between, 0, usize::MAX);
+    let first = halves_of(between, 0);
+    let mut best = step_by_choice(first, usize::MAX);
     for place in 0..VARIABLES {
         let variable = place.saturating_add(turn) % VARIABLES;
         if depends_on(between, variable) {
-            best = cheaper(best, step_by_choice(between, variable, 3));
-            best = cheaper(best, step_by_difference(between, variable));
-            best = cheaper(best, step_by_part(between, variable, false));
-            best = cheaper(best, step_by_part(between, variable, true));
-            best = cheaper(best, step_by_parts(between, variable, false));
-            best = cheaper(best, step_by_parts(between, variable, true));
+            best = best_step_by(halves_of(between, variable), best);
         }
     }
     best
+}
+
+// The functions where a variable is true, and where it is false.
+#[derive(Clone, Copy)]
+struct Halves {
+    variable: usize,
+    one: Between,
+    other: Between,
+}
+
+fn halves_of(between: Between, variable: usize) -> Halves {
+    Halves {
+        variable,
+        one: restricted(between, variable, true),
+        other: restricted(between, variable, false),
+    }
+}
+
+// The same, where the variable counts as its negation.
+fn turned(halves: Halves) -> Halves {
+    Halves {
+        variable: halves.variable,
+        one: halves.other,
+        other: halves.one,
+    }
+}
+
+// The cheapest of a step and those by a variable.
+fn best_step_by(halves: Halves, before: Step) -> Step {
+    let other = turned(halves);
+    let mut best = cheaper(before, step_by_choice(halves, 3));
+    best = cheaper(best, step_by_difference(halves));
+    best = cheaper(best, step_by_part(halves, false));
+    best = cheaper(best, step_by_part(other, true));
+    best = cheaper(best, step_by_parts(halves, false));
+    cheaper(best, step_by_parts(other, true))
 }
 
 fn cheaper(best: Step, step: Step) -> Step {
@@ -261,66 +293,68 @@ fn step_of(form: Form, literal: Edge, one: Between, other: Between, cost: usize)
 }
 
 // What is never taken.
-fn no_step(between: Between) -> Step {
-    step_of(Form::Choice, TRUE, between, between, usize::MAX)
+fn no_step(halves: Halves) -> Step {
+    step_of(Form::Choice, TRUE, halves.one, halves.other, usize::MAX)
 }
 
-fn step_by_choice(between: Between, variable: usize, pairs: usize) -> Step {
-    let one = restricted(between, variable, true);
-    let other = restricted(between, variable, false);
+fn step_by_choice(halves: Halves, pairs: usize) -> Step {
+    let Halves {
+        variable,
+        one,
+        other,
+    } = halves;
     let cost = pairs
-        .saturating_add(width(narrowed(one)))
-        .saturating_add(width(narrowed(other)));
+        .saturating_add(narrowed_width(one))
+        .saturating_add(narrowed_width(other));
     step_of(Form::Choice, literal_of(variable, false), one, other, cost)
 }
 
-fn step_by_difference(between: Between, variable: usize) -> Step {
-    let one = restricted(between, variable, true);
-    let other = restricted(between, variable, false);
+fn step_by_difference(halves: Halves) -> Step {
+    let Halves {
+        variable,
+        one,
+        other,
+    } = halves;
     let same = Between {
         low: other.low | !one.high,
         high: other.high & !one.low,
     };
     if !is_possible(same) {
-        return no_step(between);
+        return no_step(halves);
     }
-    let cost = width(narrowed(same)).saturating_add(3);
+    let cost = narrowed_width(same).saturating_add(3);
     step_of(Form::Differ, literal_of(variable, false), same, same, cost)
 }
 
 // The literal and one function, or the literal or one function.
-fn step_by_part(between: Between, variable: usize, negative: bool) -> Step {
+fn step_by_part(halves: Halves, negative: bool) -> Step {
+    let Halves {
+        variable,
+        one,
+        other,
+    } = halves;
     let literal = literal_of(variable, negative);
-    let one = restricted(between, variable, !negative);
-    let other = restricted(between, variable, negative);
     if other.low == 0 {
-        return step_of(
-            Form::Both,
-            literal,
-            one,
-            one,
-            width(narrowed(one)).saturating_add(1),
-        );
+        let cost = narrowed_width(one).saturating_add(1);
+        return step_of(Form::Both, literal, one, one, cost);
     }
     if one.high == u64::MAX {
-        return step_of(
-            Form::Either,
-            literal,
-            other,
-            other,
-            width(narrowed(other)).saturating_add(1),
-        );
+        let cost = narrowed_width(other).saturating_add(1);
+        return step_of(Form::Either, literal, other, other, cost);
     }
-    no_step(between)
+    no_step(halves)
 }
 
 // Where a function only grows with the literal: a literal less in one of two parts.
-fn step_by_parts(between: Between, variable: usize, negative: bool) -> Step {
+fn step_by_parts(halves: Halves, negative: bool) -> Step {
+    let Halves {
+        variable,
+        one,
+        other,
+    } = halves;
     let literal = literal_of(variable, negative);
-    let one = restricted(between, variable, !negative);
-    let other = restricted(between, variable, negative);
     if other.low & !one.high != 0 {
-        return no_step(between);
+        return no_step(halves);
     }
     let outer_one = Between {
         low: one.low & !other.low,
@@ -348,7 +382,7 @@ fn step_by_parts(between: Between, variable: usize, negative: bool) -> Step {
 }
 
 fn pair_cost(one: Between, other: Between) -> usize {
-    width(narrowed(one))
-        .saturating_add(width(narrowed(other)))
+    narrowed_width(one)
+        .saturating_add(narrowed_width(other))
         .saturating_add(2)
 }

@@ -2,11 +2,12 @@
 
 use crate::building::{Built, reader_counts};
 use crate::cut_sets::{CutSets, cut_of_set};
-use crate::cuts::{Cut, Style, cut_of, place_in};
+use crate::cuts::{Cut, Style, cut_of};
 use crate::edges::{
     Edge, TRUE, UNKNOWN, edge_at, is_marked, named, negated_if, number_at, straight,
 };
 use crate::excluding::Exclusions;
+use crate::few::Few;
 use crate::graphs::Graph;
 use crate::plans::{Plan, Plans, VARIABLES};
 use base_types::NoMemory;
@@ -25,13 +26,16 @@ struct Rewriter {
     sets: CutSets,
     changes: bool,
     plans: Plans,
+    // Working lists.
+    stack: Vec<usize>,
+    names: Vec<Edge>,
 }
 
 // A graph that may stand for a pair, by the place of its plan, what its variables are, and how many nodes it spares.
-#[derive(Drop)]
+#[derive(Clone, Copy)]
 struct Offer {
     plan: usize,
-    inputs: Vec<Edge>,
+    inputs: [Edge; VARIABLES + 1],
     gain: usize,
 }
 
@@ -86,12 +90,14 @@ pub(crate) fn rewritten(
         sets: CutSets::new(alloc),
         changes,
         plans: Plans::new(alloc, turn)?,
+        stack: Vec::new(alloc),
+        names: Vec::new(alloc),
     };
     rewriter.note_new(alloc)?;
     for node in 0..count {
         let edge = if !built.graph.is_pair(node) {
             let fans = number_at(&rewriter.fans, node);
-            rewriter.take(alloc, straight(node), fans)?;
+            rewriter.take(straight(node), fans)?;
             straight(node)
         } else if is_marked(marks, node) {
             rewriter.pair_edge(alloc, &built.graph, exclusions, node)?
@@ -112,6 +118,8 @@ pub(crate) fn rewritten(
         sets: _,
         changes: _,
         plans: _,
+        stack: _,
+        names: _,
     } = rewriter;
     Ok(Built { graph, edges })
 }
@@ -137,9 +145,9 @@ impl Rewriter {
         self.plans.tidy();
         let plain = self.graph.both(left, right)?;
         self.note_new(alloc)?;
-        self.take(alloc, plain, fans)?;
-        self.release(alloc, left, 1)?;
-        self.release(alloc, right, 1)?;
+        self.take(plain, fans)?;
+        self.release(left, 1)?;
+        self.release(right, 1)?;
         if number_at(&self.uses, plain.node) != fans {
             return Ok(plain);
         }
@@ -148,8 +156,8 @@ impl Rewriter {
         };
         let made = negated_if(self.placed(alloc, &offer)?, plain.negative);
         self.note_new(alloc)?;
-        self.take(alloc, made, fans)?;
-        self.release(alloc, plain, fans)?;
+        self.take(made, fans)?;
+        self.release(plain, fans)?;
         Ok(made)
     }
 
@@ -163,21 +171,19 @@ impl Rewriter {
     }
 
     // A node is needed this many times more.
-    fn take(&mut self, alloc: Global, edge: Edge, times: usize) -> Result<(), NoMemory> {
-        let mut stack = Vec::new(alloc);
+    fn take(&mut self, edge: Edge, times: usize) -> Result<(), NoMemory> {
         let mut times = times;
-        stack.push(edge.node)?;
+        self.stack.clear();
+        self.stack.push(edge.node)?;
         for _step in 0..usize::MAX {
-            let Some(node) = stack.pop() else {
+            let Some(node) = self.stack.pop() else {
                 return Ok(());
             };
             if node < self.uses.len() && times > 0 {
                 let before = self.uses[node];
                 self.uses[node] = before.saturating_add(times);
-                if before == 0 && self.graph.is_pair(node) {
-                    let pair = self.graph.pair(node);
-                    stack.push(pair.left.node)?;
-                    stack.push(pair.right.node)?;
+                if before == 0 {
+                    self.push_parts(node)?;
                 }
             }
             times = 1;
@@ -186,23 +192,30 @@ impl Rewriter {
     }
 
     // A node is needed this many times less.
-    fn release(&mut self, alloc: Global, edge: Edge, times: usize) -> Result<(), NoMemory> {
-        let mut stack = Vec::new(alloc);
+    fn release(&mut self, edge: Edge, times: usize) -> Result<(), NoMemory> {
         let mut times = times;
-        stack.push(edge.node)?;
+        self.stack.clear();
+        self.stack.push(edge.node)?;
         for _step in 0..usize::MAX {
-            let Some(node) = stack.pop() else {
+            let Some(node) = self.stack.pop() else {
                 return Ok(());
             };
             if node < self.uses.len() && self.uses[node] > 0 {
                 self.uses[node] = self.uses[node].saturating_sub(times);
-                if self.uses[node] == 0 && self.graph.is_pair(node) {
-                    let pair = self.graph.pair(node);
-                    stack.push(pair.left.node)?;
-                    stack.push(pair.right.node)?;
+                if self.uses[node] == 0 {
+                    self.push_parts(node)?;
                 }
             }
             times = 1;
+        }
+        Ok(())
+    }
+
+    fn push_parts(&mut self, node: usize) -> Result<(), NoMemory> {
+        if self.graph.is_pair(node) {
+            let pair = self.graph.pair(node);
+            self.stack.push(pair.left.node)?;
+            self.stack.push(pair.right.node)?;
         }
         Ok(())
     }
@@ -220,14 +233,14 @@ impl Rewriter {
             return Ok(None);
         }
         for number in 0..STYLES {
-            let cut = cut_of(alloc, &self.graph, node, &self.uses, style_of(number))?;
+            let cut = cut_of(&self.graph, node, &self.uses, style_of(number));
             if cut.inside.len() > 1 {
                 best = better(best, self.offer(alloc, exclusions, &cut)?);
             }
         }
         for place in 0..self.sets.of(node).len() {
             let set = self.sets.at(node, place);
-            if let Some(cut) = cut_of_set(alloc, &self.graph, node, set)? {
+            if let Some(cut) = cut_of_set(&self.graph, node, set) {
                 if cut.inside.len() > 1 {
                     best = better(best, self.offer(alloc, exclusions, &cut)?);
                 }
@@ -243,11 +256,11 @@ impl Rewriter {
         exclusions: &Exclusions,
         cut: &Cut,
     ) -> Result<Option<Offer>, NoMemory> {
-        let functions = cut.functions(alloc, &self.graph, exclusions)?;
+        let functions = cut.functions(&self.graph, exclusions);
         let plan = self.plans.place_of(alloc, functions)?;
-        let spared = cut.spared(alloc, &self.graph, &self.uses)?;
-        let inputs = inputs_of(alloc, &cut.leaves)?;
-        let cost = self.cost(alloc, plan, &inputs, &spared)?;
+        let spared = cut.spared(&self.graph, &self.uses);
+        let inputs = inputs_of(&cut.leaves);
+        let cost = self.cost(plan, &inputs, &spared)?;
         if cost < spared.len() || (self.changes && cost == spared.len()) {
             let gain = spared.len().saturating_sub(cost);
             return Ok(Some(Offer { plan, inputs, gain }));
@@ -255,39 +268,18 @@ impl Rewriter {
         Ok(None)
     }
 
-    // How many nodes a plan adds, or keeps of those that would be freed.
-    fn cost(
-        &self,
-        alloc: Global,
-        plan: usize,
-        inputs: &[Edge],
-        freed: &[usize],
-    ) -> Result<usize, NoMemory> {
-        let Some(plan) = self.plans.at(plan) else {
-            return Ok(usize::MAX);
-        };
-        let mut names = Vec::from_slice(alloc, inputs)?;
-        let mut count: usize = 0;
-        for k in 0..plan.lefts.len() {
-            let left = named(&names, edge_at(&plan.lefts, k));
-            let right = named(&names, edge_at(&plan.rights, k));
-            let there = if left == UNKNOWN || right == UNKNOWN {
-                UNKNOWN
-            } else {
-                self.graph.found(left, right).unwrap_or(UNKNOWN)
-            };
-            if there == UNKNOWN || self.is_spared(freed, there.node) {
-                count = count.saturating_add(1);
-            }
-            names.push(there)?;
+    fn cost(&mut self, plan: usize, inputs: &[Edge], freed: &Few) -> Result<usize, NoMemory> {
+        match self.plans.at(plan) {
+            Some(plan) => cost_of(
+                &self.graph,
+                &self.uses,
+                &mut self.names,
+                plan,
+                inputs,
+                freed,
+            ),
+            None => Ok(usize::MAX),
         }
-        Ok(count)
-    }
-
-    // Reports whether a pair is not needed, or would not be.
-    fn is_spared(&self, freed: &[usize], node: usize) -> bool {
-        self.graph.is_pair(node)
-            && (number_at(&self.uses, node) == 0 || place_in(freed, node) < freed.len())
     }
 
     // The edge of a plan that is carried out.
@@ -297,6 +289,46 @@ impl Rewriter {
         };
         placed(alloc, &mut self.graph, plan, &offer.inputs)
     }
+}
+
+// How many nodes a plan adds, or keeps of those that would be freed. It is not counted beyond those.
+fn cost_of(
+    graph: &Graph,
+    uses: &[usize],
+    names: &mut Vec<Edge>,
+    plan: &Plan,
+    inputs: &[Edge],
+    freed: &Few,
+) -> Result<usize, NoMemory> {
+    names.clear();
+    names.extend_from_slice(inputs)?;
+    let mut count: usize = 0;
+    for k in 0..plan.lefts.len() {
+        let there = there(graph, names, plan, k);
+        if there == UNKNOWN || is_spared(graph, uses, freed, there.node) {
+            count = count.saturating_add(1);
+            if count > freed.len() {
+                return Ok(count);
+            }
+        }
+        names.push(there)?;
+    }
+    Ok(count)
+}
+
+// The edge of a plan's node that a graph has, where it has one.
+fn there(graph: &Graph, names: &[Edge], plan: &Plan, place: usize) -> Edge {
+    let left = named(names, edge_at(&plan.lefts, place));
+    let right = named(names, edge_at(&plan.rights, place));
+    if left == UNKNOWN || right == UNKNOWN {
+        return UNKNOWN;
+    }
+    graph.found(left, right).unwrap_or(UNKNOWN)
+}
+
+// Reports whether a pair is not needed, or would not be.
+fn is_spared(graph: &Graph, uses: &[usize], freed: &Few, node: usize) -> bool {
+    graph.is_pair(node) && (number_at(uses, node) == 0 || freed.has(node))
 }
 
 // The edge of a plan over these edges in a graph.
@@ -317,15 +349,12 @@ fn placed(
 }
 
 // The edges of a plan's variables, after what is always true.
-fn inputs_of(alloc: Global, leaves: &[usize]) -> Result<Vec<Edge>, NoMemory> {
-    let mut inputs = Vec::new(alloc);
-    inputs.push(TRUE)?;
+fn inputs_of(leaves: &Few) -> [Edge; VARIABLES + 1] {
+    let mut inputs = [TRUE; VARIABLES + 1];
     for k in 0..VARIABLES {
-        inputs.push(if k < leaves.len() {
-            straight(leaves[k])
-        } else {
-            TRUE
-        })?;
+        if k < leaves.len() {
+            inputs[k + 1] = straight(leaves.at(k));
+        }
     }
-    Ok(inputs)
+    inputs
 }

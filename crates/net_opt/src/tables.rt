@@ -91,10 +91,8 @@ fn freed_of(between: Between, variable: usize) -> Option<Between> {
 pub(crate) fn narrowed(between: Between) -> Between {
     let mut narrow = between;
     for variable in 0..6 {
-        if depends_on(narrow, variable) {
-            if let Some(freed) = freed_of(narrow, variable) {
-                narrow = freed;
-            }
+        if let Some(freed) = freed_of(narrow, variable) {
+            narrow = freed;
         }
     }
     narrow
@@ -105,12 +103,14 @@ pub(crate) fn depends_on(between: Between, variable: usize) -> bool {
     varies(between.low, variable) || varies(between.high, variable)
 }
 
-/// On how many variables they depend.
-pub(crate) fn width(between: Between) -> usize {
+/// On how many variables the narrowed functions depend: on those that none of them can do without.
+pub(crate) fn narrowed_width(between: Between) -> usize {
+    let mut narrow = between;
     let mut count: usize = 0;
     for variable in 0..6 {
-        if depends_on(between, variable) {
-            count = count.saturating_add(1);
+        match freed_of(narrow, variable) {
+            Some(freed) => narrow = freed,
+            None => count = count.saturating_add(1),
         }
     }
     count

@@ -5,6 +5,7 @@ use crate::problems::Problem;
 use base_types::NoMemory;
 use sat_kernel::Literal;
 use sat_search::{Refutation, SearchOutcome, is_model};
+use sat_simplify::Simplified;
 
 const EFFORT: u64 = 20_000_000_000;
 
@@ -33,6 +34,33 @@ pub(crate) fn put_answer(
     }
     text.push_str("\n")?;
     Ok(())
+}
+
+/// Writes the answer to a question under no assumptions, where the search has simplified clauses.
+pub(crate) fn put_answer_once(
+    text: &mut String,
+    problem: &mut Problem,
+    left: &Simplified,
+) -> Result<(), NoMemory> {
+    let outcome = problem.search.solve(&mut problem.kernel, &[], EFFORT)?;
+    match outcome {
+        SearchOutcome::Satisfiable(values) => put_completed(text, problem, left, values)?,
+        SearchOutcome::Unsatisfiable(_) => text.push_str("unsatisfiable")?,
+        SearchOutcome::Contradicting(_) => text.push_str("contradicting")?,
+        SearchOutcome::Unknown => text.push_str("unknown")?,
+    }
+    text.push_str("\n")?;
+    Ok(())
+}
+
+fn put_completed(
+    text: &mut String,
+    problem: &Problem,
+    left: &Simplified,
+    values: Vec<bool>,
+) -> Result<(), NoMemory> {
+    let values = left.completed(values)?;
+    put_satisfiable(text, problem, &values, false)
 }
 
 fn put_satisfiable(

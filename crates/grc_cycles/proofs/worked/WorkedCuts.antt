@@ -1,5 +1,5 @@
 -- Edges between a few wires, along places by hand.
-use Rattle.std.proofs.Common.{◌≡◌, ℕ, List, [], ◌∷◌, refl}
+use Rattle.std.proofs.Common.{◌≡◌, ℕ, [], ◌∷◌, refl}
 use Rattle.grc_graph.specs.WireOrders.{WireEdge}
 use Rattle.grc_cycles.specs.Cuts.{component_count, cut_count}
 

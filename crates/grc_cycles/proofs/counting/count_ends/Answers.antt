@@ -1,4 +1,4 @@
-use Rattle.std.proofs.Common.{rules, ◌≡◌, ◌<◌, ◌+◌, ◌==◌, length, take, ◌∙◌, ap, sym, subst, arith, slice_index}
+use Rattle.std.proofs.Common.{rules, ◌≡◌, ◌<◌, ◌+◌, ◌==◌, length, ◌∙◌, ap, sym, arith, slice_index}
 use Rattle.std.proofs.lemmas.List.FromFn.{get_or-map-range_with_len, length-map-range_with_len}
 use Rattle.std.specs.Prelude.{cond, max}
 use Rattle.grc_cycles.specs.Cuts.{count_below, ends_at, top_at, top_below}

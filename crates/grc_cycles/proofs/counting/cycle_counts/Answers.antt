@@ -15,7 +15,7 @@ returns c =
     let edges = c.in_ok-edges.edges in
     let counts = c.in_ok-counts.counts in
     let many : edges.count ≡ length (program_wires p) =
-        c.in_ok-edges.ensures.count ∙ sym (length-map g.wires.items (wire_of (instances_of g))) ∙ ap length c.requires.wires in
+    c.in_ok-edges.ensures.count ∙ sym (length-map g.wires.items (wire_of (instances_of g))) ∙ ap length c.requires.wires in
     record {
       pairs = edges.pairs.items;
       are_edges = subst (λ ws. AreEdgesOf ws (program_edges p) edges.pairs.items) c.requires.wires c.in_ok-edges.ensures.edges;
