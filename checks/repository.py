@@ -406,10 +406,6 @@ PROOF_NAMES = re.compile(r"^(?:pub )?use Rattle\.(\w+)\.proofs\.([A-Z]\w*)\.\{(.
 PROOF_RULES = re.compile(r"\busing\((?:[^()]*\b)?(\w+)::proofs::(\w+)::(\w+)")
 
 
-# Laws that no other crate uses, for callers of public calls: what the text of a constructive netlist keeps.
-FOR_CALLERS = {("cec_cycles", name) for name in ["constructive_blif", "constructive_c", "constructive_verilog"]}
-
-
 def exports_are_listed():
     """What other crates use of a crate's proofs by name is what its `proofs/Exports.antt` lists; all of `base_facts` is for others."""
     found, listed, used = [], set(), set()
@@ -429,7 +425,7 @@ def exports_are_listed():
                 if module != "Exports":
                     found.append(f"{name}: takes from {other}/proofs/{module}, not from its Exports")
                 used |= {(other, word) for word in words}
-    found += [f"crates/{crate}/proofs/Exports.antt: no other crate uses {word}" for crate, word in sorted(listed - used - FOR_CALLERS)]
+    found += [f"crates/{crate}/proofs/Exports.antt: no other crate uses {word}" for crate, word in sorted(listed - used)]
     return found
 
 

@@ -6,6 +6,7 @@ import random
 import re
 from typing import Callable, Optional
 
+from fuzzing.cyclic import cyclic_source
 from fuzzing.drawn_texts import MAKERS, circuit_text
 from fuzzing.sources import Maker, event_items, mutate_bytes, mutate_tokens, source, trace_text
 from rules.compiling import compile_source, text_of
@@ -267,6 +268,12 @@ def opt_case(rng: random.Random) -> Drawn:
     return [command, b"f"], {b"f": text}
 
 
+def cycle_case(rng: random.Random) -> Drawn:
+    """A source with a cycle for the optimizer, which is constructive or not."""
+    command = rng.choice([b"blif", b"c", b"verilog", b"check"])
+    return [command, b"--source", b"f"], {b"f": cyclic_source(rng)}
+
+
 OBSERVERS = (
     "every immediate [{one} and {other}] do emit WRONG end",
     "every immediate [{one} and not {other}] do emit WRONG end",
@@ -344,13 +351,14 @@ KINDS: dict[str, Callable[[random.Random], Drawn]] = {
     "words": words_case,
     "gen": gen_case,
     "optimize": opt_case,
+    "cycle": cycle_case,
     "prove": prove_case,
 }
 # The program that a kind calls, where it is not `cec`.
-PROGRAMS = {"optimize": "cec-opt", "prove": "cec-prove"}
+PROGRAMS = {"optimize": "cec-opt", "cycle": "cec-opt", "prove": "cec-prove"}
 # A call of the optimizer or of `gen` takes far longer than one of the others, and so does the search that judges a
 # claim.
-WEIGHTS = {"source": 6, "mutated": 4, "trace": 2, "exec": 6, "words": 2, "gen": 0.2, "optimize": 0.2, "prove": 0.4}
+WEIGHTS = {"source": 6, "mutated": 4, "trace": 2, "exec": 6, "words": 2, "gen": 0.2, "optimize": 0.2, "cycle": 0.4, "prove": 0.4}
 
 
 def drawn_case(seed: int, number: int, kinds: list[str]) -> Case:

@@ -9,6 +9,7 @@ import re
 from typing import Optional
 
 from fuzzing.cases import Case
+from fuzzing.constructive import check_answer
 from fuzzing.sources import event_items
 from fuzzing.written import Difference, need, net_of_text
 from rules.blif import Blif, read_blif
@@ -16,7 +17,6 @@ from rules.compiling import compile_source, text_of
 from rules.netlist import Net
 from rules.optimizer import (
     ABOUT,
-    CYCLIC,
     FILE_FAULT,
     LIMIT,
     STATIC,
@@ -140,6 +140,8 @@ def judge(case: Case, got: Answer) -> tuple[str, Optional[str]]:
     except Refused as refused:
         return "Refused", judge_refusal(case, refused, got)
     except Outcome as outcome:
+        if outcome.kind == "Cyclic":
+            return judge_cyclic(case, asked, got)
         return "Refused", judge_source(outcome, asked.file or b"", got)
     if status != 0 or err:
         return "Done", "status %r, err %r" % (status, err)
@@ -153,16 +155,25 @@ def judge(case: Case, got: Answer) -> tuple[str, Optional[str]]:
     return "Done", None
 
 
+def judge_cyclic(case: Case, asked: Asked, got: Answer) -> tuple[str, Optional[str]]:
+    """A source whose dependencies have a cycle."""
+    assert asked.file is not None
+    kind = {0: "Constructive", 12: "NotConstructive"}.get(got[2], "Undecided")
+    try:
+        check_answer(asked.command, compile_source(case.files[asked.file], asked.main, cyclic_ok=True), got)
+    except Difference as difference:
+        return kind, "cycle: %s" % difference
+    return kind, None
+
+
 def judge_source(outcome: Outcome, file: bytes, got: Answer) -> Optional[str]:
-    """A source that does not compile; any cycle may be shown, which the kind `source` compares."""
+    """A source that does not compile, for another cause than a cycle."""
     out, err, status = got
-    due = {"Static": STATIC, "Limit": LIMIT}.get(outcome.kind, CYCLIC)
+    due = STATIC if outcome.kind == "Static" else LIMIT
     if status != due:
         return "status %r, not %r" % (status, due)
     if out:
         return "stdout"
-    if due == CYCLIC:
-        return None if err.startswith(b"cec-opt: cyclic: ") else "stderr"
     line = b"cec: " + outcome.line if due == STATIC else b"cec-opt: a limit is passed, see cec check " + file
     return None if err == line + b"\n" else "stderr"
 

@@ -21,6 +21,7 @@ cec-opt verilog TEXT   the same as structural Verilog
 cec-opt check TEXT     writes the sizes of the circuit and of the optimized one
     --source FILE      in place of TEXT: compiles the source FILE, with its state plain and in a code,
                        and takes the lighter circuit; a latch weighs as much as four gates
+                       its dependencies may have a cycle, if it is constructive for every event
     --main M           after --source: of the module M, not of the first one
 cec-opt --help         writes these lines
 cec-opt --version      writes the program's name and version
@@ -29,7 +30,7 @@ cec-opt --version      writes the program's name and version
 ABOUT = {b"--help": HELP, b"--version": b"cec-opt 0.1.0\n"}
 NAME = re.compile(rb"[A-Za-z][A-Za-z0-9_]*\Z")
 SOURCE, MAIN = OPTIONS = (b"--source", b"--main")
-USAGE, FILE_FAULT, STATIC, CYCLIC, BAD_TEXT, LIMIT = 2, 3, 4, 5, 7, 8
+USAGE, FILE_FAULT, STATIC, BAD_TEXT, LIMIT = 2, 3, 4, 7, 8
 
 
 class Refused(Exception):

@@ -171,6 +171,10 @@ def explain_static(page, line):
             page.add(at, "note", note)
 
 
+# What may be done with a cycle besides breaking it.
+HARMLESS = "if the cycle is harmless, `cec-opt blif --source` compiles the program as it is (docs/cycles.md)"
+
+
 def signal_words(signal):
     """A signal's name at its place, with its name in the cycle where that is another."""
     written, meant, _ = signal
@@ -231,6 +235,7 @@ def explain_cycle(page, line, main, wants_cures):
             page.add(cure.statement.start, "note", "%s here breaks the cycle: %s" % (what, what_changes(cure)))
         if not cures:
             page.add(first.kernel.place[0], "note", "no single `pause;` breaks all cycles; docs/cycles.md has other cures")
+        page.add(first.kernel.place[0], "note", HARMLESS, False)
 
 
 def explain_limit(page, line, main):

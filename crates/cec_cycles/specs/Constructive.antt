@@ -1,4 +1,4 @@
--- Contract: sources whose programs are constructive, with a cycle or without, and their texts.
+-- To believe: sources whose programs are constructive, with a cycle or without, and their texts.
 use Rattle.std.specs.Prelude.{ℕ, ◌≤◌, ◌⊎◌, List, length, Option}
 use Rattle.est_kernel.specs.Plain.{Program, given_count}
 use Rattle.net_ir.specs.Netlists.{Netlist}

@@ -1,4 +1,4 @@
--- Contract: what it means that a program is not constructive, and what is found of a program.
+-- To believe: what it means that a program is not constructive, and what is found of a program.
 use Rattle.std.specs.Prelude.{◌≡◌, ◌+◌, Bool, List, [], ◌∷◌, ◌++◌, length, map, ⊤}
 use Rattle.est_kernel.specs.Plain.{Program}
 use Rattle.grc_graph.specs.PlainWireNames.{wire_name_of}

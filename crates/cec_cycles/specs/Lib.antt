@@ -1,4 +1,5 @@
 pub mod Alarms
 pub mod Constructive
+pub mod Counted
 pub mod Findings
 pub mod SourceFindings

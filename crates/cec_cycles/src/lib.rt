@@ -7,12 +7,14 @@
 //! three-valued reactions: either the program is not constructive there, or a longer schedule is tried.
 #![tactic(auto)]
 
+mod cycles;
 mod deciding;
 mod findings;
 mod sources;
 mod stopping;
 mod texts;
 
+pub use cycles::source_cycles;
 pub use deciding::constructiveness_of;
 pub use findings::{Constructiveness, CycleRefusal, Stuck};
 pub use sources::{constructive_net, cyclic_net};

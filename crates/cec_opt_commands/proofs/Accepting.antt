@@ -4,10 +4,13 @@ use Rattle.base_types.specs.Faults.{Rose}
 use Rattle.base_types.specs.SinkChanges.{SinkChange}
 use Rattle.cec_text_io.proofs.Exports.{never_rose}
 use Rattle.cec_opt_commands.specs.Laws.{IsAccepted, IsFaultless, IsNotRefused, AcceptedTextsAreDone}
-use Rattle.cec_opt_commands.specs.Outcomes.{IsOptOutcomeOf, CountsFiles, LeavesAnswer, IsTextOf, IsSourceTextOf, GainsOut}
+use Rattle.cec_compile.specs.declared.refusal.Refusal.{Refusal}
+use Rattle.cec_compile.specs.declared.refusal.Refusal.TheVariants as refusing
+use Rattle.cec_opt_commands.specs.Outcomes.{IsOptOutcomeOf, CountsFiles, LeavesAnswer, IsTextOf, IsSourceTextOf, GainsOut, IsGraphRefusedFor}
 use Rattle.cec_opt_commands.specs.Words.{Request, Tell, Do, Make}
 use Rattle.cec_opt_commands.specs.declared.outcome.OptOutcome.{OptOutcome}
 use Rattle.cec_opt_commands.specs.declared.outcome.OptOutcome.TheVariants.{Done, Usage, FileFault, BadText, TooLong, Refused, WriteFault, NoMemory}
+use Rattle.cec_opt_commands.specs.declared.outcome.OptOutcome.TheVariants.{NotConstructive, Undecided, TooManyNets}
 use Rattle.cec_opt_commands.specs.declared.words.Task.{Task}
 use Rattle.cec_opt_commands.specs.declared.words.Task.TheVariants.{Write, Check}
 
@@ -19,6 +22,12 @@ answer_rose : (task : Task) (P : List ℕ → Type 0) (s : SinkChange) → Leave
 answer_rose (Write form) P s l = l.2.faults
 answer_rose Check P s l = l.2.faults
 
+graph_refused : (main : Option (List ℕ)) (source : List ℕ) (refusal : Refusal) → IsNotRefused main source → IsGraphRefusedFor main refusal source → ⊥
+graph_refused main source (refusing.Static fault) none cause = none (refusing.Static fault) cause
+graph_refused main source (refusing.Cyclic cycle) none cause = absurd cause
+graph_refused main source (refusing.Limit limit) none cause = none (refusing.Limit limit) cause
+graph_refused main source refusing.NoMemory none cause = absurd cause
+
 pub accepted_done : AcceptedTextsAreDone
 accepted_done (Tell about) held Done before now failed_before failed_now s accepted agrees counts still out steady = inl refl
 accepted_done (Tell about) held Usage before now failed_before failed_now s accepted agrees counts still out steady = absurd agrees
@@ -26,6 +35,9 @@ accepted_done (Tell about) held FileFault before now failed_before failed_now s 
 accepted_done (Tell about) held (BadText fault) before now failed_before failed_now s accepted agrees counts still out steady = absurd agrees
 accepted_done (Tell about) held TooLong before now failed_before failed_now s accepted agrees counts still out steady = absurd agrees
 accepted_done (Tell about) held (Refused refusal) before now failed_before failed_now s accepted agrees counts still out steady = absurd agrees
+accepted_done (Tell about) held (NotConstructive stuck) before now failed_before failed_now s accepted agrees counts still out steady = absurd agrees
+accepted_done (Tell about) held (Undecided cycle) before now failed_before failed_now s accepted agrees counts still out steady = absurd agrees
+accepted_done (Tell about) held (TooManyNets cycle) before now failed_before failed_now s accepted agrees counts still out steady = absurd agrees
 accepted_done (Tell about) held WriteFault before now failed_before failed_now s accepted agrees counts still out steady = absurd (steady out.2.faults)
 accepted_done (Tell about) held NoMemory before now failed_before failed_now s accepted agrees counts still out steady = inr refl
 accepted_done (Do task name) held Done before now failed_before failed_now s accepted agrees counts still out steady = inl refl
@@ -37,6 +49,9 @@ accepted_done (Do task name) held (BadText fault) before now failed_before faile
 accepted_done (Do task name) held TooLong before now failed_before failed_now s accepted agrees counts still out steady =
     absurd (not_long _ _ (subst IsFaultless (sym agrees.1) accepted).short agrees.2)
 accepted_done (Do task name) held (Refused refusal) before now failed_before failed_now s accepted agrees counts still out steady = absurd agrees.2
+accepted_done (Do task name) held (NotConstructive stuck) before now failed_before failed_now s accepted agrees counts still out steady = absurd agrees.2
+accepted_done (Do task name) held (Undecided cycle) before now failed_before failed_now s accepted agrees counts still out steady = absurd agrees.2
+accepted_done (Do task name) held (TooManyNets cycle) before now failed_before failed_now s accepted agrees counts still out steady = absurd agrees.2
 accepted_done (Do task name) held WriteFault before now failed_before failed_now s accepted agrees counts still out steady =
     absurd (steady (answer_rose task (IsTextOf task name (Some held)) s out))
 accepted_done (Do task name) held NoMemory before now failed_before failed_now s accepted agrees counts still out steady = inr refl
@@ -47,9 +62,15 @@ accepted_done (Make task name main) held FileFault before now failed_before fail
 accepted_done (Make task name main) held (BadText fault) before now failed_before failed_now s accepted agrees counts still out steady = absurd agrees.2
 accepted_done (Make task name main) held TooLong before now failed_before failed_now s accepted agrees counts still out steady = absurd agrees.2
 accepted_done (Make task name main) held (Refused refusal) before now failed_before failed_now s accepted agrees counts still out steady =
-    absurd (subst (IsNotRefused main) (sym agrees.1) accepted refusal agrees.2)
+    absurd (graph_refused main agrees.0 refusal (subst (IsNotRefused main) (sym agrees.1) accepted) agrees.2)
+accepted_done (Make task name main) held (NotConstructive stuck) before now failed_before failed_now s accepted agrees counts still out steady =
+    absurd (subst (IsNotRefused main) (sym agrees.1) accepted (refusing.Cyclic agrees.2.cycle) agrees.2.has_cycle)
+accepted_done (Make task name main) held (Undecided cycle) before now failed_before failed_now s accepted agrees counts still out steady =
+    absurd (subst (IsNotRefused main) (sym agrees.1) accepted (refusing.Cyclic cycle) agrees.2)
+accepted_done (Make task name main) held (TooManyNets cycle) before now failed_before failed_now s accepted agrees counts still out steady =
+    absurd (subst (IsNotRefused main) (sym agrees.1) accepted (refusing.Cyclic cycle) agrees.2)
 accepted_done (Make task name main) held WriteFault before now failed_before failed_now s accepted agrees counts still out steady =
-    absurd (steady (answer_rose task (IsSourceTextOf task name main (Some held)) s out))
+    absurd (steady (answer_rose task (IsSourceTextOf WriteFault task name main (Some held)) s out))
 accepted_done (Make task name main) held NoMemory before now failed_before failed_now s accepted agrees counts still out steady = inr refl
 
 -- over files and sinks that count no fault

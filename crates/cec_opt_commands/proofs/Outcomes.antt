@@ -1,5 +1,5 @@
 -- What the answers of the steps say of the whole call.
-use Rattle.std.proofs.Common.{◌≡◌, ℕ, ◌≤◌, List, [], length, Option, Some, Err, inl, refl, subst}
+use Rattle.std.proofs.Common.{◌≡◌, ℕ, ◌≤◌, List, [], length, Option, Some, None, Err, inl, inr, refl, sym, subst}
 use Rattle.base_types.specs.declared.bounds.TheConstants.Limits.{SOURCE_BYTES, TEXT_BYTES}
 use Rattle.base_types.specs.declared.files.reading.FileFault as unread
 use Rattle.base_types.specs.declared.files.reading.FileFault.TheVariants as reading
@@ -9,9 +9,12 @@ use Rattle.base_types.specs.Reading.{Reads, Counts, KeepsFaults}
 use Rattle.base_types.specs.SinkChanges.{SinkChange}
 use Rattle.base_types.specs.Stops.{FaultIs}
 use Rattle.base_types.specs.Writing.{Appends}
-use Rattle.cec_compile.specs.Refusals.{IsRefused}
 use Rattle.cec_compile.specs.declared.refusal.Refusal as refusals
 use Rattle.cec_compile.specs.declared.refusal.Refusal.TheVariants as refusing
+use Rattle.cec_cycles.specs.Constructive.{IsOtherRefusal, IsRefusedConstructive, StandsForStuck}
+use Rattle.cec_cycles.specs.declared.findings.CycleRefusal.{CycleRefusal}
+use Rattle.cec_cycles.specs.declared.findings.CycleRefusal.TheVariants as causes
+use Rattle.cec_cycles.specs.declared.findings.Stuck.{Stuck}
 use Rattle.cec_opt_texts.specs.Faults.{IsOptFault}
 use Rattle.cec_opt_texts.specs.declared.fault.OptFault.{OptFault}
 use Rattle.cec_text_io.proofs.Pieces as texts
@@ -23,12 +26,15 @@ use Rattle.cec_text_io.specs.declared.writing.Written.{Written}
 use Rattle.cec_text_io.specs.declared.writing.Written.TheVariants as ends
 use Rattle.cec_opt_commands.specs.Answers.{IsAnswer, IsSourceAnswer}
 use Rattle.cec_opt_commands.specs.Lines.{GainsSourceErr, SpeaksOf, line_of, source_subject}
-use Rattle.cec_opt_commands.specs.Outcomes.{HasNet, SaysOf, IsCompilable, SourceSays, AgreesOnFile, IsWriting, IsOptOutcomeOf}
-use Rattle.cec_opt_commands.specs.Outcomes.{CountsFiles, LeavesAnswer, IsTextOf, IsSourceTextOf, GainsOut}
-use Rattle.cec_opt_commands.specs.Statuses.{written_of, written_outcome, stop_outcome, unread_outcome, refusal_outcome, source_unread_outcome}
+use Rattle.cec_opt_commands.specs.Outcomes.{HasNet, SaysOf, IsConstructible, SourceSays, AgreesOnFile, IsWriting, IsOptOutcomeOf}
+use Rattle.cec_opt_commands.specs.Outcomes.{CountsFiles, LeavesAnswer, LeavesSourceAnswer, IsTextOf, IsSourceTextBy, IsSourceTextOf, GainsOut}
+use Rattle.cec_opt_commands.specs.Stopping.{IsRefusedOutcome}
+use Rattle.cec_opt_commands.specs.Statuses.{written_of, written_outcome, stop_outcome, unread_outcome, refusal_outcome, source_unread_outcome, stuck_outcome}
 use Rattle.cec_opt_commands.specs.Words.{Request, Tell, Do, Make}
 use Rattle.cec_opt_commands.specs.declared.outcome.OptOutcome.{OptOutcome}
 use Rattle.cec_opt_commands.specs.declared.outcome.OptOutcome.TheVariants.{Done, Usage, FileFault, BadText, TooLong, Refused, WriteFault, NoMemory}
+use Rattle.cec_opt_commands.specs.declared.outcome.OptOutcome.TheVariants.{NotConstructive, Undecided, TooManyNets}
+use Rattle.cec_opt_commands.specs.declared.words.Form.{Form}
 use Rattle.cec_opt_commands.specs.declared.words.Task.{Task}
 use Rattle.cec_opt_commands.specs.declared.words.Task.TheVariants.{Write, Check}
 
@@ -59,11 +65,31 @@ pub written_text : (P Q : List ℕ → Type 0) (s : SinkChange) (ended : Written
 written_text P Q s ended f l = subst (LeavesText Q s) (written_as ended) (texts.text_as P Q s (Some ended) f l)
 
 -- a source whose netlist was written
-pub source_written : (ended : Written) (main : Option (List ℕ)) (source : List ℕ) → IsCompilable main source
+pub source_written : (ended : Written) (main : Option (List ℕ)) (source : List ℕ) → IsConstructible main source
     → SourceSays main (written_outcome ended) source
 source_written ends.Done main source is = is
-source_written ends.WriteFault main source is = is
+source_written ends.WriteFault main source is = inl is
 source_written ends.NoMemory main source is = tt
+
+source_text : (ended : Written) (task : Task) (source : List ℕ) (main : Option (List ℕ)) (written : List ℕ) → IsSourceAnswer task source main written
+    → IsSourceTextBy (written_outcome ended) task source main written
+source_text ends.Done task source main written is = is
+source_text ends.WriteFault task source main written is = inl is
+source_text ends.NoMemory task source main written is = inl is
+
+pub source_pieces : (P : List ℕ → Type 0) (form : Form) (source : List ℕ) (main : Option (List ℕ)) (s : SinkChange) (ended : Written)
+    → ((written : List ℕ) → P written → IsSourceAnswer (Write form) source main written) → LeavesPieces P s (Some ended)
+    → LeavesSourceAnswer (Write form) source main s (written_outcome ended)
+source_pieces P form source main s ended f l =
+    written_pieces P (IsSourceTextBy (written_outcome ended) (Write form) source main) s ended
+    (λ written is. source_text ended (Write form) source main written (f written is)) l
+
+pub source_whole : (P : List ℕ → Type 0) (source : List ℕ) (main : Option (List ℕ)) (s : SinkChange) (ended : Written)
+    → ((written : List ℕ) → P written → IsSourceAnswer Check source main written) → LeavesText P s (Some ended)
+    → LeavesSourceAnswer Check source main s (written_outcome ended)
+source_whole P source main s ended f l =
+    written_text P (IsSourceTextBy (written_outcome ended) Check source main) s ended
+    (λ written is. source_text ended Check source main written (f written is)) l
 
 -- ---- a text without a netlist
 
@@ -80,14 +106,14 @@ stop_leaves Check P stops.NoMemory s a = a
 
 -- ---- a source that does not compile
 
-pub refusal_says : (refusal : refusals.Refusal) (main : Option (List ℕ)) (source : List ℕ) → IsRefused source main refusal
+refusal_says : (refusal : refusals.Refusal) (main : Option (List ℕ)) (source : List ℕ) → IsOtherRefusal source main refusal
     → SourceSays main (refusal_outcome refusal) source
 refusal_says (refusing.Static fault) main source is = is
 refusal_says (refusing.Cyclic cycle) main source is = is
 refusal_says (refusing.Limit limit) main source is = is
 refusal_says refusing.NoMemory main source is = tt
 
-pub refusal_leaves : (task : Task) (P : List ℕ → Type 0) (refusal : refusals.Refusal) (s : SinkChange)
+refusal_leaves : (task : Task) (P : List ℕ → Type 0) (refusal : refusals.Refusal) (s : SinkChange)
     → Appends s.before s.after s.faults_before s.faults_now [] → LeavesAnswer task P s (refusal_outcome refusal)
 refusal_leaves (Write form) P (refusing.Static fault) s a = a
 refusal_leaves (Write form) P (refusing.Cyclic cycle) s a = a
@@ -97,6 +123,51 @@ refusal_leaves Check P (refusing.Static fault) s a = a
 refusal_leaves Check P (refusing.Cyclic cycle) s a = a
 refusal_leaves Check P (refusing.Limit limit) s a = a
 refusal_leaves Check P refusing.NoMemory s a = a
+
+-- the trace of a program that is not constructive was to be written
+stuck_says : (stuck : Stuck) (ended : Written) (main : Option (List ℕ)) (source : List ℕ) → StandsForStuck source main stuck
+    → SourceSays main (stuck_outcome stuck ended) source
+stuck_says stuck ends.Done main source is = is
+stuck_says stuck ends.WriteFault main source is = inr (stuck, is)
+stuck_says stuck ends.NoMemory main source is = tt
+
+stuck_leaves : (task : Task) (stuck : Stuck) (ended : Written) (main : Option (List ℕ)) (source : List ℕ) (s : SinkChange)
+    → StandsForStuck source main stuck → LeavesText (λ written. written ≡ stuck.trace.items) s (Some ended)
+    → LeavesSourceAnswer task source main s (stuck_outcome stuck ended)
+stuck_leaves (Write form) stuck ends.Done main source s is l = l
+stuck_leaves (Write form) stuck ends.WriteFault main source s is l = (l.0, inr (stuck, is, l.1), l.2)
+stuck_leaves (Write form) stuck ends.NoMemory main source s is l = inl l
+stuck_leaves Check stuck ends.Done main source s is l = l
+stuck_leaves Check stuck ends.WriteFault main source s is l = (l.0, inr (stuck, is, l.1), l.2)
+stuck_leaves Check stuck ends.NoMemory main source s is l = l
+
+silent_leaves : (task : Task) (P : List ℕ → Type 0) (outcome : OptOutcome) (s : SinkChange) → written_of outcome ≡ None
+    → Appends s.before s.after s.faults_before s.faults_now [] → LeavesAnswer task P s outcome
+silent_leaves (Write form) P outcome s none a = subst (LeavesPieces P s) (sym none) a
+silent_leaves Check P outcome s none a = subst (LeavesText P s) (sym none) a
+
+pub refused_says : (refusal : CycleRefusal) (main : Option (List ℕ)) (source : List ℕ) (s : SinkChange) (outcome : OptOutcome)
+    → IsRefusedConstructive source main refusal → IsRefusedOutcome refusal s outcome → SourceSays main outcome source
+refused_says (causes.Source refusal) main source s outcome is o =
+    subst (λ x. SourceSays main x source) (sym o.is) (refusal_says refusal main source is)
+refused_says (causes.NotConstructive stuck) main source s outcome is o =
+    subst (λ x. SourceSays main x source) (sym o.is) (stuck_says stuck o.ended main source is)
+refused_says (causes.Undecided cycle) main source s outcome is o = subst (λ x. SourceSays main x source) (sym o.is) is
+refused_says (causes.TooManyNets cycle) main source s outcome is o = subst (λ x. SourceSays main x source) (sym o.is) is
+
+pub refused_leaves : (task : Task) (refusal : CycleRefusal) (main : Option (List ℕ)) (source : List ℕ) (s : SinkChange) (outcome : OptOutcome)
+    → IsRefusedConstructive source main refusal → IsRefusedOutcome refusal s outcome → LeavesSourceAnswer task source main s outcome
+refused_leaves task (causes.Source refusal) main source s outcome is o =
+    subst (LeavesSourceAnswer task source main s) (sym o.is)
+    (refusal_leaves task (IsSourceTextBy (refusal_outcome refusal) task source main) refusal s o.silent)
+refused_leaves task (causes.NotConstructive stuck) main source s outcome is o =
+    subst (LeavesSourceAnswer task source main s) (sym o.is) (stuck_leaves task stuck o.ended main source s is o.leaves)
+refused_leaves task (causes.Undecided cycle) main source s outcome is o =
+    subst (LeavesSourceAnswer task source main s) (sym o.is)
+    (silent_leaves task (IsSourceTextBy (Undecided cycle) task source main) (Undecided cycle) s refl o.silent)
+refused_leaves task (causes.TooManyNets cycle) main source s outcome is o =
+    subst (LeavesSourceAnswer task source main s) (sym o.is)
+    (silent_leaves task (IsSourceTextBy (TooManyNets cycle) task source main) (TooManyNets cycle) s refl o.silent)
 
 -- ---- a file that was read
 
@@ -109,6 +180,9 @@ file_agrees content name Says FileFault bytes held says apart = absurd (apart sa
 file_agrees content name Says (BadText fault) bytes held says apart = (bytes, held, says)
 file_agrees content name Says TooLong bytes held says apart = (bytes, held, says)
 file_agrees content name Says (Refused refusal) bytes held says apart = (bytes, held, says)
+file_agrees content name Says (NotConstructive stuck) bytes held says apart = (bytes, held, says)
+file_agrees content name Says (Undecided cycle) bytes held says apart = (bytes, held, says)
+file_agrees content name Says (TooManyNets cycle) bytes held says apart = (bytes, held, says)
 file_agrees content name Says WriteFault bytes held says apart = (bytes, held, says)
 file_agrees content name Says NoMemory bytes held says apart = (bytes, held, says)
 
@@ -130,6 +204,9 @@ read_counts task name FileFault text before now failed_before failed_now says k 
 read_counts task name (BadText fault) text before now failed_before failed_now says k = k
 read_counts task name TooLong text before now failed_before failed_now says k = k
 read_counts task name (Refused refusal) text before now failed_before failed_now says k = k
+read_counts task name (NotConstructive stuck) text before now failed_before failed_now says k = k
+read_counts task name (Undecided cycle) text before now failed_before failed_now says k = k
+read_counts task name (TooManyNets cycle) text before now failed_before failed_now says k = k
 read_counts task name WriteFault text before now failed_before failed_now says k = k
 read_counts task name NoMemory text before now failed_before failed_now says k = k
 
@@ -142,6 +219,9 @@ source_read_counts task name main FileFault source before now failed_before fail
 source_read_counts task name main (BadText fault) source before now failed_before failed_now says k = k
 source_read_counts task name main TooLong source before now failed_before failed_now says k = k
 source_read_counts task name main (Refused refusal) source before now failed_before failed_now says k = k
+source_read_counts task name main (NotConstructive stuck) source before now failed_before failed_now says k = k
+source_read_counts task name main (Undecided cycle) source before now failed_before failed_now says k = k
+source_read_counts task name main (TooManyNets cycle) source before now failed_before failed_now says k = k
 source_read_counts task name main WriteFault source before now failed_before failed_now says k = k
 source_read_counts task name main NoMemory source before now failed_before failed_now says k = k
 
@@ -156,10 +236,11 @@ read_out content task name outcome text s held l =
     answer_as task (IsAnswer task text) (IsTextOf task name content) s outcome (λ written is. (text, held, is)) l
 
 pub source_out : (content : Content) (task : Task) (name : List ℕ) (main : Option (List ℕ)) (outcome : OptOutcome) (source : List ℕ) (s : SinkChange)
-    → IsHeld content name source → LeavesAnswer task (IsSourceAnswer task source main) s outcome
+    → IsHeld content name source → LeavesSourceAnswer task source main s outcome
     → GainsOut (Some (Make task name main)) content outcome s
 source_out content task name main outcome source s held l =
-    answer_as task (IsSourceAnswer task source main) (IsSourceTextOf task name main content) s outcome (λ written is. (source, held, is)) l
+    answer_as task (IsSourceTextBy outcome task source main) (IsSourceTextOf outcome task name main content) s outcome
+    (λ written is. (source, held, is)) l
 
 source_speaks : (content : Content) (name : List ℕ) (outcome : OptOutcome) (source : List ℕ) → IsHeld content name source
     → SpeaksOf content name outcome source
@@ -172,6 +253,9 @@ source_speaks content name (Refused (refusing.Static fault)) source held = held
 source_speaks content name (Refused (refusing.Cyclic cycle)) source held = tt
 source_speaks content name (Refused (refusing.Limit limit)) source held = tt
 source_speaks content name (Refused refusing.NoMemory) source held = tt
+source_speaks content name (NotConstructive stuck) source held = tt
+source_speaks content name (Undecided cycle) source held = tt
+source_speaks content name (TooManyNets cycle) source held = tt
 source_speaks content name WriteFault source held = tt
 source_speaks content name NoMemory source held = tt
 

@@ -1,5 +1,5 @@
 -- To believe: what a task writes of a text, or of a source.
-use Rattle.std.specs.Prelude.{◌≡◌, ℕ, ◌+◌, List, [], ◌∷◌, ◌++◌, length, codes, decimal, Option}
+use Rattle.std.specs.Prelude.{◌≡◌, ◌⊎◌, ℕ, ◌+◌, List, [], ◌∷◌, ◌++◌, length, codes, decimal, Option}
 use Rattle.std.specs.List.{concat}
 use Rattle.net_ir.specs.Netlists.{Netlist}
 use Rattle.net_ir.specs.Runs.{netlist_of}
@@ -10,6 +10,10 @@ use Rattle.blif_text.specs.Written as blif_texts
 use Rattle.csub_text.specs.Written as c_texts
 use Rattle.vlog_text.specs.Written as verilog_texts
 use Rattle.cec_compile.specs.declared.passes.Compiled.{Compiled}
+use Rattle.cec_compile.specs.declared.cycles.Cycle.{Cycle}
+use Rattle.cec_cycles.specs.Constructive.{HasCycle, StandsForConstructiveBlif, StandsForConstructiveC}
+use Rattle.cec_cycles.specs.Constructive.{StandsForConstructiveNet, StandsForConstructiveVerilog}
+use Rattle.cec_cycles.specs.Counted.{HasCountedCycles}
 use Rattle.cec_opt_sources.specs.LightNets.{IsLightNetOf, IsLightSource}
 use Rattle.cec_opt_sources.specs.SmallTexts.{StandsForSmallBlif, StandsForSmallC, StandsForSmallVerilog}
 use Rattle.cec_opt_texts.specs.Alike.{BlifKeeps, CKeeps, VerilogKeeps}
@@ -73,10 +77,48 @@ pub record TellsSource (source : List ℕ) (main : Option (List ℕ)) (lines : L
   pub light : IsLightSource source main compiled net
   pub is : lines ≡ counts_line (netlist_of compiled.net) ++ counts_line net
 
+-- The dependencies of the source have a cycle. The text that is written keeps what the program of the source means
+-- (`Stands`), and it is that of a netlist.
+pub record IsCyclicText (Stands : List ℕ → Option (List ℕ) → List ℕ → Type 0) (write : Netlist → List ℕ)
+    (source : List ℕ) (main : Option (List ℕ)) (written : List ℕ) : Type 0 where
+  pub stands : Stands source main written
+  pub cycle : Cycle
+  pub has_cycle : HasCycle source main cycle
+  pub net : Netlist
+  pub spelled : written ≡ write net
+
+-- The line of a constructive source with a cycle, with the numbers of the components in which the cycles lie and of the
+-- wires that cut them; and the line of its netlist.
+abbrev pub constructive_lines : (components cuts : ℕ) → Netlist → List ℕ
+constructive_lines components cuts net = concat (net.name ∷ codes ": constructive, " ∷ decimal components
+    ∷ codes " components, " ∷ decimal cuts ∷ codes " cuts\n" ∷ counts_line net ∷ [])
+
+-- the lines of a netlist, where the cycles of such a source are counted
+pub record IsCyclicLines (source : List ℕ) (main : Option (List ℕ)) (net : Netlist) (lines : List ℕ) : Type 0 where
+  pub components : ℕ
+  pub cuts : ℕ
+  pub counted : HasCountedCycles source main components cuts
+  pub is : lines ≡ constructive_lines components cuts net
+
+-- the lines of a netlist that keeps what the program of such a source means
+pub record TellsCyclic (source : List ℕ) (main : Option (List ℕ)) (lines : List ℕ) : Type 0 where
+  pub net : Netlist
+  pub stands : StandsForConstructiveNet source main net
+  pub cycle : Cycle
+  pub has_cycle : HasCycle source main cycle
+  pub is_lines : IsCyclicLines source main net lines
+
+abbrev pub TellsAny : List ℕ → Option (List ℕ) → List ℕ → Type 0
+TellsAny source main lines = TellsSource source main lines ⊎ TellsCyclic source main lines
+
 abbrev pub IsSourceAnswer : Task → (source : List ℕ) → (main : Option (List ℕ)) → (written : List ℕ) → Type 0
 IsSourceAnswer (Write forms.Blif) source main written =
     IsLightText StandsForSmallBlif blif_texts.written source main written
-IsSourceAnswer (Write forms.C) source main written = IsLightText StandsForSmallC c_texts.written source main written
+    ⊎ IsCyclicText StandsForConstructiveBlif blif_texts.written source main written
+IsSourceAnswer (Write forms.C) source main written =
+    IsLightText StandsForSmallC c_texts.written source main written
+    ⊎ IsCyclicText StandsForConstructiveC c_texts.written source main written
 IsSourceAnswer (Write forms.Verilog) source main written =
     IsLightText StandsForSmallVerilog verilog_texts.written source main written
-IsSourceAnswer Check source main written = TellsSource source main written
+    ⊎ IsCyclicText StandsForConstructiveVerilog verilog_texts.written source main written
+IsSourceAnswer Check source main written = TellsAny source main written

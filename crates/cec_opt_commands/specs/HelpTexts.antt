@@ -12,6 +12,7 @@ help_text =
     ∷ codes "cec-opt check TEXT     writes the sizes of the circuit and of the optimized one\n"
     ∷ codes "    --source FILE      in place of TEXT: compiles the source FILE, with its state plain and in a code,\n"
     ∷ codes "                       and takes the lighter circuit; a latch weighs as much as four gates\n"
+    ∷ codes "                       its dependencies may have a cycle, if it is constructive for every event\n"
     ∷ codes "    --main M           after --source: of the module M, not of the first one\n"
     ∷ codes "cec-opt --help         writes these lines\n"
     ∷ codes "cec-opt --version      writes the program's name and version\n" ∷ [])

@@ -7,3 +7,4 @@ pub mod HelpTexts
 pub mod Laws
 pub mod Views
 pub mod NetTexts
+pub mod Stopping

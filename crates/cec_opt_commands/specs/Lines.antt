@@ -4,6 +4,7 @@ use Rattle.blif_net.specs.declared.fault.CircuitFault.{CircuitFault}
 use Rattle.blif_net.specs.declared.fault.CircuitFault.TheVariants.{NoPause, Model, Input, Output, Again, Loop}
 use Rattle.blif_net.specs.declared.fault.CircuitFault.TheVariants.{TooManyNets}
 use Rattle.cec_compile.specs.declared.refusal.Refusal.TheVariants as refusing
+use Rattle.cec_cycles.specs.declared.findings.Stuck.{Stuck}
 use Rattle.cec_opt_texts.specs.declared.fault.OptFault.{OptFault}
 use Rattle.cec_opt_texts.specs.declared.fault.OptFault.TheVariants.{Line, TwoDrivers, NoDriver, Circuit}
 use Rattle.cec_refusals.specs.RefusalLines.{RefusalSubject, refusal_line}
@@ -12,7 +13,8 @@ use Rattle.cec_text_io.specs.ErrorLines.{GainsLine, joined_names}
 use Rattle.cec_opt_commands.specs.Words.{Request, Tell, Do, Make, misuse_of}
 use Rattle.cec_opt_commands.specs.declared.outcome.OptOutcome.{OptOutcome}
 use Rattle.cec_opt_commands.specs.declared.outcome.OptOutcome.TheVariants.{Done, Usage, FileFault, BadText, TooLong}
-use Rattle.cec_opt_commands.specs.declared.outcome.OptOutcome.TheVariants.{Refused, WriteFault}
+use Rattle.cec_opt_commands.specs.declared.outcome.OptOutcome.TheVariants.{Refused, NotConstructive, Undecided}
+use Rattle.cec_opt_commands.specs.declared.outcome.OptOutcome.TheVariants.{TooManyNets, WriteFault}
 use Rattle.cec_opt_commands.specs.declared.outcome.OptOutcome.TheVariants.{NoMemory}
 
 abbrev pub circuit_line_text : CircuitFault → List ℕ
@@ -52,6 +54,10 @@ own_line said = codes "cec-opt: " ++ (said ++ codes "\n")
 abbrev pub refused_of : Subject → RefusalSubject
 refused_of s = record { program = codes "cec-opt: "; name = s.name; main = s.main; source = s.source }
 
+-- the instant to which the program has no reaction, and the wires that are unknown there
+abbrev pub stuck_text : Stuck → List ℕ
+stuck_text stuck = codes "instant " ++ (decimal stuck.instant ++ (codes ": not constructive: " ++ stuck.text.items))
+
 -- the line of an outcome; none for Done
 abbrev pub line_of : Subject → OptOutcome → List ℕ
 line_of s Done = []
@@ -60,6 +66,9 @@ line_of s FileFault = own_line (codes "cannot read " ++ s.name)
 line_of s (BadText fault) = own_line (fault_text fault)
 line_of s TooLong = own_line (codes "limit: text")
 line_of s (Refused refusal) = refusal_line (refused_of s) refusal
+line_of s (NotConstructive stuck) = own_line (stuck_text stuck)
+line_of s (Undecided cycle) = own_line (codes "undecided: " ++ cycle.text.items)
+line_of s (TooManyNets cycle) = own_line (codes "limit: nets: " ++ cycle.text.items)
 line_of s WriteFault = own_line (codes "cannot write")
 line_of s NoMemory = own_line (codes "out of memory")
 

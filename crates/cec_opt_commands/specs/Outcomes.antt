@@ -1,15 +1,20 @@
 -- To believe: what each outcome of the top call says.
-use Rattle.std.specs.Prelude.{◌≡◌, ℕ, ◌<◌, ◌≤◌, ⊤, List, [], length, Option, Some, None}
+use Rattle.std.specs.Prelude.{◌≡◌, ◌⊎◌, ℕ, ◌<◌, ◌≤◌, ⊤, List, [], length, Option, Some, None}
 use Rattle.base_types.specs.declared.bounds.TheConstants.Limits.{TEXT_BYTES}
+use Rattle.base_types.specs.Items.{Item}
 use Rattle.base_types.specs.Reading.{KeepsFaults, Notes}
 use Rattle.base_types.specs.SinkChanges.{SinkChange}
 use Rattle.base_types.specs.Writing.{Appends}
 use Rattle.est_kernel.specs.Plain.{Program}
+use Rattle.est_kernel.specs.Reactions.{Answer, run_of}
 use Rattle.est_front.specs.Sources.{StandsFor}
 use Rattle.net_ir.specs.Netlists.{Netlist}
-use Rattle.cec_compile.specs.Refusals.{Compiles, IsRefused}
+use Rattle.cec_compile.specs.Meaning.{AreItems}
+use Rattle.cec_compile.specs.Refusals.{IsRefused, KeepsGraphLimits}
 use Rattle.cec_compile.specs.declared.refusal.Refusal.{Refusal}
 use Rattle.cec_compile.specs.declared.refusal.Refusal.TheVariants as refusing
+use Rattle.cec_cycles.specs.Constructive.{HasCycle, StandsForStuck}
+use Rattle.cec_cycles.specs.declared.findings.Stuck.{Stuck}
 use Rattle.cec_opt_texts.specs.Faults.{IsOptFault}
 use Rattle.cec_opt_texts.specs.Optimized.{IsTextNet}
 use Rattle.cec_text_io.specs.Contents.{Content, Holds}
@@ -20,7 +25,8 @@ use Rattle.cec_opt_commands.specs.Statuses.{written_of}
 use Rattle.cec_opt_commands.specs.Words.{Request, Tell, Do, Make}
 use Rattle.cec_opt_commands.specs.declared.outcome.OptOutcome.{OptOutcome}
 use Rattle.cec_opt_commands.specs.declared.outcome.OptOutcome.TheVariants.{Done, Usage, FileFault, BadText, TooLong}
-use Rattle.cec_opt_commands.specs.declared.outcome.OptOutcome.TheVariants.{Refused, WriteFault}
+use Rattle.cec_opt_commands.specs.declared.outcome.OptOutcome.TheVariants.{Refused, NotConstructive, Undecided}
+use Rattle.cec_opt_commands.specs.declared.outcome.OptOutcome.TheVariants.{TooManyNets, WriteFault}
 use Rattle.cec_opt_commands.specs.declared.outcome.OptOutcome.TheVariants.{NoMemory}
 use Rattle.cec_opt_commands.specs.declared.words.Task.{Task}
 use Rattle.cec_opt_commands.specs.declared.words.Task.TheVariants.{Write, Check}
@@ -42,22 +48,37 @@ SaysOf WriteFault text = HasNet text
 SaysOf NoMemory text = ⊤
 SaysOf others text = ⊥
 
--- the source stands for a program that compiles, by its main module
-pub record IsCompilable (main : Option (List ℕ)) (source : List ℕ) : Type 0 where
+-- The source stands for a program, by its main module, whose graph keeps the limits. Over every list of items that meet
+-- its relations its reactions are constructive.
+pub record IsConstructible (main : Option (List ℕ)) (source : List ℕ) : Type 0 where
   pub program : Program
   pub stands : StandsFor source main program
-  pub compiles : Compiles program
+  pub limits : KeepsGraphLimits program
+  pub constructive : (items : List Item) → AreItems program items
+      → (answers : List Answer) × (run_of program items ≡ Some answers)
+
+-- the source stands for a program that is not constructive
+abbrev pub IsStuckSource : (main : Option (List ℕ)) → (source : List ℕ) → Type 0
+IsStuckSource main source = (stuck : Stuck) × StandsForStuck source main stuck
 
 -- the cause of a refusal; running out of memory is an outcome of its own
 abbrev pub IsRefusedFor : (main : Option (List ℕ)) → Refusal → (source : List ℕ) → Type 0
 IsRefusedFor main refusing.NoMemory source = ⊥
 IsRefusedFor main refusal source = IsRefused source main refusal
 
+-- the same of a source whose dependencies may go round in circles
+abbrev pub IsGraphRefusedFor : (main : Option (List ℕ)) → Refusal → (source : List ℕ) → Type 0
+IsGraphRefusedFor main (refusing.Cyclic cycle) source = ⊥
+IsGraphRefusedFor main others source = IsRefusedFor main others source
+
 -- what the outcome of a task on a source that was read says of its bytes
 abbrev pub SourceSays : (main : Option (List ℕ)) → OptOutcome → (source : List ℕ) → Type 0
-SourceSays main Done source = IsCompilable main source
-SourceSays main (Refused refusal) source = IsRefusedFor main refusal source
-SourceSays main WriteFault source = IsCompilable main source
+SourceSays main Done source = IsConstructible main source
+SourceSays main (Refused refusal) source = IsGraphRefusedFor main refusal source
+SourceSays main (NotConstructive stuck) source = StandsForStuck source main stuck
+SourceSays main (Undecided cycle) source = HasCycle source main cycle
+SourceSays main (TooManyNets cycle) source = HasCycle source main cycle
+SourceSays main WriteFault source = IsConstructible main source ⊎ IsStuckSource main source
 SourceSays main NoMemory source = ⊤
 SourceSays main others source = ⊥
 
@@ -101,13 +122,27 @@ LeavesAnswer Check IsText s outcome = LeavesText IsText s (written_of outcome)
 abbrev pub IsTextOf : Task → List ℕ → Content → List ℕ → Type 0
 IsTextOf task name content written = Holds content name (λ text. IsAnswer task text written)
 
--- what a task writes of the source in a file
-abbrev pub IsSourceTextOf : Task → (name : List ℕ) → (main : Option (List ℕ)) → Content → List ℕ → Type 0
-IsSourceTextOf task name main content written = Holds content name (λ source. IsSourceAnswer task source main written)
+-- what a task writes of a source, where it ends with an outcome: what is asked for, or a trace to an instant that is
+-- not constructive
+abbrev pub IsSourceTextBy : OptOutcome → Task → (source : List ℕ) → (main : Option (List ℕ)) → List ℕ → Type 0
+IsSourceTextBy Done task source main written = IsSourceAnswer task source main written
+IsSourceTextBy (NotConstructive stuck) task source main written = written ≡ stuck.trace.items
+IsSourceTextBy others task source main written = IsSourceAnswer task source main written
+    ⊎ ((stuck : Stuck) × StandsForStuck source main stuck × (written ≡ stuck.trace.items))
+
+-- what is left of that
+abbrev pub LeavesSourceAnswer : Task → (source : List ℕ) → (main : Option (List ℕ)) → SinkChange → OptOutcome
+    → Type 0
+LeavesSourceAnswer task source main s outcome = LeavesAnswer task (IsSourceTextBy outcome task source main) s outcome
+
+-- the same of the source in a file
+abbrev pub IsSourceTextOf : OptOutcome → Task → (name : List ℕ) → (main : Option (List ℕ)) → Content → List ℕ → Type 0
+IsSourceTextOf outcome task name main content written =
+    Holds content name (λ source. IsSourceTextBy outcome task source main written)
 
 abbrev pub GainsOut : Option Request → Content → OptOutcome → SinkChange → Type 0
 GainsOut None content outcome s = Appends s.before s.after s.faults_before s.faults_now []
 GainsOut (Some (Tell about)) content outcome s = LeavesText (λ written. written ≡ own_text about) s (written_of outcome)
 GainsOut (Some (Do task name)) content outcome s = LeavesAnswer task (IsTextOf task name content) s outcome
 GainsOut (Some (Make task name main)) content outcome s =
-    LeavesAnswer task (IsSourceTextOf task name main content) s outcome
+    LeavesAnswer task (IsSourceTextOf outcome task name main content) s outcome

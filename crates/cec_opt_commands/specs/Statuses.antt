@@ -7,12 +7,14 @@ use Rattle.base_types.specs.declared.stop.Stop.TheVariants as stops
 use Rattle.cec_compile.specs.declared.refusal.Limit.TheVariants as limits
 use Rattle.cec_compile.specs.declared.refusal.Refusal as refusals
 use Rattle.cec_compile.specs.declared.refusal.Refusal.TheVariants as refusing
+use Rattle.cec_cycles.specs.declared.findings.Stuck.{Stuck}
 use Rattle.cec_opt_texts.specs.declared.fault.OptFault.{OptFault}
 use Rattle.cec_text_io.specs.declared.writing.Written.{Written}
 use Rattle.cec_text_io.specs.declared.writing.Written.TheVariants as ends
 use Rattle.cec_opt_commands.specs.declared.outcome.OptOutcome.{OptOutcome}
 use Rattle.cec_opt_commands.specs.declared.outcome.OptOutcome.TheVariants.{Done, Usage, FileFault, BadText, TooLong}
-use Rattle.cec_opt_commands.specs.declared.outcome.OptOutcome.TheVariants.{Refused, WriteFault}
+use Rattle.cec_opt_commands.specs.declared.outcome.OptOutcome.TheVariants.{Refused, NotConstructive, Undecided}
+use Rattle.cec_opt_commands.specs.declared.outcome.OptOutcome.TheVariants.{TooManyNets, WriteFault}
 use Rattle.cec_opt_commands.specs.declared.outcome.OptOutcome.TheVariants.{NoMemory}
 
 -- of a source that does not compile: that of `cec`
@@ -29,12 +31,16 @@ status_of FileFault = 3
 status_of (BadText fault) = 7
 status_of TooLong = 8
 status_of (Refused refusal) = refusal_status refusal
+status_of (NotConstructive stuck) = 12
+status_of (Undecided cycle) = 21
+status_of (TooManyNets cycle) = 8
 status_of WriteFault = 9
 status_of NoMemory = 10
 
--- how the writing of a text ended; after every other outcome none was to be written
+-- how the writing of a text, or of a trace, ended; after every other outcome none was to be written
 abbrev pub written_of : OptOutcome → Option Written
 written_of Done = Some ends.Done
+written_of (NotConstructive stuck) = Some ends.Done
 written_of WriteFault = Some ends.WriteFault
 written_of NoMemory = Some ends.NoMemory
 written_of others = None
@@ -43,6 +49,12 @@ abbrev pub written_outcome : Written → OptOutcome
 written_outcome ends.Done = Done
 written_outcome ends.WriteFault = WriteFault
 written_outcome ends.NoMemory = NoMemory
+
+-- of a program that is not constructive, whose trace was to be written
+abbrev pub stuck_outcome : Stuck → Written → OptOutcome
+stuck_outcome stuck ends.Done = NotConstructive stuck
+stuck_outcome stuck ends.WriteFault = WriteFault
+stuck_outcome stuck ends.NoMemory = NoMemory
 
 abbrev pub stop_outcome : Stop OptFault → OptOutcome
 stop_outcome (stops.Fault fault) = BadText fault

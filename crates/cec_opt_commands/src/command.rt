@@ -4,10 +4,10 @@ ghost use Rattle.std.specs.Prelude.{◌≡◌, ◌≤◌, ◌↔◌, [], length,
 ghost use Rattle.std.specs.String.{string_bytes};
 ghost use Rattle.base_types.specs.SinkChanges.{change};
 ghost use Rattle.cec_text_io.specs.ErrorLines.{GainsLine};
-ghost use Rattle.cec_opt_commands.specs.Answers.{IsSourceAnswer};
 ghost use Rattle.cec_opt_commands.specs.HelpTexts.{own_text};
 ghost use Rattle.cec_opt_commands.specs.Lines.{GainsErr, GainsSourceErr, line_of, named, source_subject};
-ghost use Rattle.cec_opt_commands.specs.Outcomes.{IsOptOutcomeOf, CountsFiles, GainsOut, LeavesAnswer, SourceSays};
+ghost use Rattle.cec_opt_commands.specs.Outcomes.{IsOptOutcomeOf, CountsFiles, GainsOut, LeavesSourceAnswer};
+ghost use Rattle.cec_opt_commands.specs.Outcomes.{SourceSays};
 ghost use Rattle.cec_opt_commands.specs.Views.{plain_request, subject_is};
 ghost use Rattle.cec_opt_commands.specs.Words.{request_by, Do, Make, Tell};
 
@@ -27,6 +27,7 @@ cec-opt verilog TEXT   the same as structural Verilog
 cec-opt check TEXT     writes the sizes of the circuit and of the optimized one
     --source FILE      in place of TEXT: compiles the source FILE, with its state plain and in a code,
                        and takes the lighter circuit; a latch weighs as much as four gates
+                       its dependencies may have a cycle, if it is constructive for every event
     --main M           after --source: of the module M, not of the first one
 cec-opt --help         writes these lines
 cec-opt --version      writes the program's name and version
@@ -181,7 +182,7 @@ fn told_source<O: Sink, E: Sink>(
 ) -> OptOutcome
     requires { length source.now ≤ Limits.SOURCE_BYTES }
     ensures says { SourceSays (option_map (λ m. m.now) main.entry) result source.now }
-    ensures out { LeavesAnswer task (IsSourceAnswer task source.now (option_map (λ m. m.now) main.entry))
+    ensures out { LeavesSourceAnswer task source.now (option_map (λ m. m.now) main.entry)
         (change O.told O.faults out.old out.new) result }
     ensures err { GainsLine (E.told err.old) (E.told err.new) (E.faults err.old) (E.faults err.new)
         (line_of (source_subject name.now (option_map (λ m. m.now) main.entry) source.now) result) }

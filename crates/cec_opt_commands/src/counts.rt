@@ -7,17 +7,22 @@ ghost use Rattle.net_ir.specs.Netlists.{Netlist};
 ghost use Rattle.net_ir.specs.Runs.{netlist_of};
 ghost use Rattle.cec_compile.specs.Compiling.{IsCompiled};
 ghost use Rattle.cec_compile.specs.Following.{FollowsGraph};
+ghost use Rattle.cec_compile.specs.Graphs.{IsRefusedGraph};
 ghost use Rattle.cec_compile.specs.Refusals.{IsRefused};
+ghost use Rattle.cec_cycles.specs.Constructive.{HasCycle, IsRefusedConstructive};
 ghost use Rattle.cec_opt_sources.specs.LightNets.{IsLightOf};
 ghost use Rattle.cec_opt_texts.specs.Faults.{IsOptFault};
-ghost use Rattle.cec_opt_commands.specs.Answers.{TellsNets, TellsSource, TellsText, counts_line};
+ghost use Rattle.cec_opt_commands.specs.Answers.{TellsAny, TellsNets, TellsSource, TellsText};
+ghost use Rattle.cec_opt_commands.specs.Answers.{IsCyclicLines, constructive_lines, counts_line};
 
 use crate::depths::depth_of;
 use base_types::{Limits, NoMemory, Stop};
-use cec_compile::{Compiled, Refusal, compile};
+use cec_compile::{Compiled, Cycle, Refusal, compile};
+use cec_cycles::{CycleRefusal, cyclic_net, source_cycles};
 use cec_opt_sources::light_of;
 use cec_opt_texts::{OptFault, text_net};
 use cec_text_io::joined;
+use grc_cycles::CycleCounts;
 use grc_order::First;
 use itoa::Buffer;
 use net_ir::Net;
@@ -58,6 +63,87 @@ pub(crate) fn source_counts(
 {
     let compiled = compile(alloc, source, main, &mut First)?;
     let lines = light_lines(alloc, compiled)?;
+    Ok(lines)
+}
+
+/// The same of a source whose dependencies may have a cycle. Where they have one, the first line says that the program
+/// is constructive, and the second has the counts of its netlist.
+pub(crate) fn all_counts(
+    alloc: Global,
+    source: &[u8],
+    main: Option<&[u8]>,
+    effort: u64,
+) -> Result<Vec<u8>, CycleRefusal>
+    requires { length source.now ≤ Limits.SOURCE_BYTES }
+    ensures lines { IfOk result (λ lines. TellsAny source.now (option_map (λ m. m.now) main.entry) lines.items) }
+    ensures refuses { IfErr result (IsRefusedConstructive source.now (option_map (λ m. m.now) main.entry)) }
+{
+    match source_counts(alloc, source, main) {
+        Ok(lines) => Ok(lines),
+        Err(Refusal::Cyclic(cycle)) => cyclic_counts(alloc, source, main, cycle, effort),
+        Err(Refusal::Static(fault)) => Err(CycleRefusal::Source(Refusal::Static(fault))),
+        Err(Refusal::Limit(limit)) => Err(CycleRefusal::Source(Refusal::Limit(limit))),
+        Err(Refusal::NoMemory) => Err(CycleRefusal::Source(Refusal::NoMemory)),
+    }
+}
+
+// The lines of a constructive source whose dependencies have a cycle.
+fn cyclic_counts(
+    alloc: Global,
+    source: &[u8],
+    main: Option<&[u8]>,
+    cycle: Cycle,
+    effort: u64,
+) -> Result<Vec<u8>, CycleRefusal>
+    requires short { length source.now ≤ Limits.SOURCE_BYTES }
+    requires cyclic { HasCycle source.now (option_map (λ m. m.now) main) cycle }
+    ensures lines { IfOk result (λ lines. TellsAny source.now (option_map (λ m. m.now) main.entry) lines.items) }
+    ensures refuses { IfErr result (IsRefusedConstructive source.now (option_map (λ m. m.now) main.entry)) }
+{
+    let net = cyclic_net(alloc, source, main, cycle, effort)?;
+    match cyclic_lines(alloc, source, main, &net) {
+        Ok(lines) => Ok(lines),
+        Err(refusal) => Err(CycleRefusal::Source(refusal)),
+    }
+}
+
+// The lines of the netlist of a constructive source with a cycle.
+fn cyclic_lines(
+    alloc: Global,
+    source: &[u8],
+    main: Option<&[u8]>,
+    net: &Net,
+) -> Result<Vec<u8>, Refusal>
+    requires { length source.now ≤ Limits.SOURCE_BYTES }
+    ensures lines { IfOk result (λ lines. IsCyclicLines source.now (option_map (λ m. m.now) main.entry)
+        (netlist_of net.now) lines.items) }
+    ensures refuses { IfErr result (IsRefusedGraph source.now (option_map (λ m. m.now) main.entry)) }
+{
+    let counts = source_cycles(alloc, source, main)?;
+    let lines = constructive_lines(alloc, counts, net)?;
+    Ok(lines)
+}
+
+// The same with what is counted.
+fn constructive_lines(alloc: Global, counts: CycleCounts, net: &Net) -> Result<Vec<u8>, NoMemory>
+    ensures { IfOk result (λ lines. lines.items
+        ≡ constructive_lines counts.components counts.cuts (netlist_of net.now)) }
+{
+    let line = counts_line(alloc, net)?;
+    let mut components = Buffer::new();
+    let mut cuts = Buffer::new();
+    let lines = joined(
+        alloc,
+        &[
+            net.name.bytes(),
+            b": constructive, ",
+            components.format(counts.components).as_bytes(),
+            b" components, ",
+            cuts.format(counts.cuts).as_bytes(),
+            b" cuts\n",
+            &line,
+        ],
+    )?;
     Ok(lines)
 }
 

@@ -6,6 +6,7 @@ ghost use Rattle.base_types.specs.Writing.{Wrote};
 ghost use Rattle.cec_text_io.specs.ErrorLines.{GainsLine};
 ghost use Rattle.cec_refusals.specs.Views.{refused_is};
 ghost use Rattle.cec_opt_commands.specs.Lines.{circuit_line_text, fault_text, line_of, named, own_line, refused_of};
+ghost use Rattle.cec_opt_commands.specs.Lines.{stuck_text};
 ghost use Rattle.cec_opt_commands.specs.Views.{subject_is};
 ghost use Rattle.cec_opt_commands.specs.Words.{misuse_of};
 
@@ -13,6 +14,7 @@ use crate::outcome::OptOutcome;
 use crate::words::misuse_of;
 use base_types::{Limits, Sink, SinkFault, write_pieces};
 use blif_net::CircuitFault;
+use cec_cycles::Stuck;
 use cec_opt_texts::OptFault;
 use cec_refusals::{RefusedSource, put_refusal};
 use cec_text_io::put_loop;
@@ -99,9 +101,32 @@ fn put_line<E: Sink>(
         OptOutcome::BadText(fault) => put_fault(err, fault),
         OptOutcome::TooLong => put_said(err, b"limit: text", b""),
         OptOutcome::Refused(refusal) => put_refusal(err, refused_of(subject), refusal),
+        OptOutcome::NotConstructive(stuck) => put_stuck(err, stuck),
+        OptOutcome::Undecided(cycle) => put_said(err, b"undecided: ", &cycle.text),
+        OptOutcome::TooManyNets(cycle) => put_said(err, b"limit: nets: ", &cycle.text),
         OptOutcome::WriteFault => put_said(err, b"cannot write", b""),
         OptOutcome::NoMemory => put_said(err, b"out of memory", b""),
     }
+}
+
+// The line of a program that is not constructive.
+fn put_stuck<E: Sink>(err: &mut E, stuck: &Stuck) -> Result<(), SinkFault>
+    ensures { Wrote (E.told err.old) (E.told err.new) (E.faults err.old) (E.faults err.new)
+        (own_line (stuck_text stuck.now)) result }
+{
+    let mut shown = Buffer::new();
+    let shown = shown.format(stuck.instant).as_bytes();
+    write_pieces(
+        err,
+        &[
+            b"cec-opt: ",
+            b"instant ",
+            shown,
+            b": not constructive: ",
+            &stuck.text,
+            b"\n",
+        ],
+    )
 }
 
 // What the line about a refused source speaks of.

@@ -5,7 +5,8 @@ ghost use Rattle.cec_opt_commands.specs.Statuses.{refusal_outcome, refusal_statu
 ghost use Rattle.cec_opt_commands.specs.Statuses.{stop_outcome, unread_outcome, written_outcome};
 
 use base_types::{FileFault, Stop};
-use cec_compile::{Limit, Refusal};
+use cec_compile::{Cycle, Limit, Refusal};
+use cec_cycles::Stuck;
 use cec_opt_texts::OptFault;
 use cec_text_io::Written;
 
@@ -22,8 +23,15 @@ pub enum OptOutcome {
     BadText(OptFault),
     /// The text has more bytes than `Limits::TEXT_BYTES`.
     TooLong,
-    /// The source does not compile.
+    /// The source does not compile, for another cause than a cycle.
     Refused(Refusal),
+    /// The source's program is not constructive: the trace was written, and the program has no reaction to its last
+    /// event.
+    NotConstructive(Stuck),
+    /// The dependencies have this cycle, and it was not shown whether the program is constructive.
+    Undecided(Cycle),
+    /// The dependencies have this cycle, and the netlist that shows it would be too large.
+    TooManyNets(Cycle),
     /// The output was not taken: its count of faults rose.
     WriteFault,
     /// Running out of memory.
@@ -77,6 +85,9 @@ impl OptOutcome {
             OptOutcome::BadText(_) => 7,
             OptOutcome::TooLong => 8,
             OptOutcome::Refused(refusal) => refusal_status(refusal),
+            OptOutcome::NotConstructive(_) => 12,
+            OptOutcome::Undecided(_) => 21,
+            OptOutcome::TooManyNets(_) => 8,
             OptOutcome::WriteFault => 9,
             OptOutcome::NoMemory => 10,
         }

@@ -2,19 +2,22 @@
 
 ghost use Rattle.std.specs.Prelude.{◌≤◌, length, option_map};
 ghost use Rattle.base_types.specs.SinkChanges.{change};
-ghost use Rattle.cec_opt_commands.specs.Answers.{IsSourceAnswer};
-ghost use Rattle.cec_opt_commands.specs.Outcomes.{LeavesAnswer, SourceSays};
-ghost use Rattle.cec_opt_commands.specs.declared.words.Task.TheVariants.{Write};
+ghost use Rattle.cec_opt_commands.specs.Outcomes.{LeavesSourceAnswer, SourceSays};
+ghost use Rattle.cec_opt_commands.specs.Stopping.{IsRefusedOutcome, IsStuckOutcome};
+ghost use Rattle.cec_opt_commands.specs.declared.words.Task.TheVariants.{Check, Write};
 
-use crate::counts::source_counts;
+use crate::counts::all_counts;
 use crate::outcome::{OptOutcome, refusal_outcome};
 use crate::texts::write_net;
 use crate::words::{Form, Task};
 use base_types::{Limits, Sink};
-use cec_opt_sources::light_net;
-use cec_text_io::write_whole;
+use cec_cycles::{CycleRefusal, Stuck, constructive_net};
+use cec_text_io::{Written, write_whole};
 use grc_order::First;
 use std::alloc::Global;
+
+// The effort of the search for a proof that a program with a cycle is constructive.
+const EFFORT: u64 = 20_000_000;
 
 /// Does a task on a source, writes what it makes to `out`, and says how it ended.
 pub(crate) fn do_source_task<O: Sink>(
@@ -26,17 +29,17 @@ pub(crate) fn do_source_task<O: Sink>(
 ) -> OptOutcome
     requires { length source.now ≤ Limits.SOURCE_BYTES }
     ensures says { SourceSays (option_map (λ m. m.now) main.entry) result source.now }
-    ensures out { LeavesAnswer task (IsSourceAnswer task source.now (option_map (λ m. m.now) main.entry))
+    ensures out { LeavesSourceAnswer task source.now (option_map (λ m. m.now) main.entry)
         (change O.told O.faults out.old out.new) result }
 {
     match task {
-        Task::Write(form) => write_light(alloc, form, source, main, out),
+        Task::Write(form) => write_source(alloc, form, source, main, out),
         Task::Check => write_source_counts(alloc, source, main, out),
     }
 }
 
-// Writes the lighter circuit of a source, in a form.
-fn write_light<O: Sink>(
+// Writes the lighter circuit of a source, in a form, or that of a constructive source with a cycle.
+fn write_source<O: Sink>(
     alloc: Global,
     form: Form,
     source: &[u8],
@@ -45,13 +48,12 @@ fn write_light<O: Sink>(
 ) -> OptOutcome
     requires { length source.now ≤ Limits.SOURCE_BYTES }
     ensures says { SourceSays (option_map (λ m. m.now) main.entry) result source.now }
-    ensures out { LeavesAnswer (Write form)
-        (IsSourceAnswer (Write form) source.now (option_map (λ m. m.now) main.entry))
+    ensures out { LeavesSourceAnswer (Write form) source.now (option_map (λ m. m.now) main.entry)
         (change O.told O.faults out.old out.new) result }
 {
-    match light_net(alloc, source, main, &mut First) {
+    match constructive_net(alloc, source, main, &mut First, EFFORT) {
         Ok(net) => OptOutcome::from(write_net(alloc, form, &net, out)),
-        Err(refusal) => refusal_outcome(refusal),
+        Err(refusal) => refused(refusal, out),
     }
 }
 
@@ -64,12 +66,34 @@ fn write_source_counts<O: Sink>(
 ) -> OptOutcome
     requires { length source.now ≤ Limits.SOURCE_BYTES }
     ensures says { SourceSays (option_map (λ m. m.now) main.entry) result source.now }
-    ensures out { LeavesAnswer Task.Check
-        (IsSourceAnswer Task.Check source.now (option_map (λ m. m.now) main.entry))
+    ensures out { LeavesSourceAnswer Check source.now (option_map (λ m. m.now) main.entry)
         (change O.told O.faults out.old out.new) result }
 {
-    match source_counts(alloc, source, main) {
+    match all_counts(alloc, source, main, EFFORT) {
         Ok(lines) => OptOutcome::from(write_whole(&lines, out)),
-        Err(refusal) => refusal_outcome(refusal),
+        Err(refusal) => refused(refusal, out),
+    }
+}
+
+// The outcome of a source that has no constructive netlist. Of one that is not constructive the trace is written.
+fn refused<O: Sink>(refusal: CycleRefusal, out: &mut O) -> OptOutcome
+    ensures { IsRefusedOutcome refusal (change O.told O.faults out.old out.new) result }
+{
+    match refusal {
+        CycleRefusal::Source(refusal) => refusal_outcome(refusal),
+        CycleRefusal::NotConstructive(stuck) => stuck_outcome(stuck, out),
+        CycleRefusal::Undecided(cycle) => OptOutcome::Undecided(cycle),
+        CycleRefusal::TooManyNets(cycle) => OptOutcome::TooManyNets(cycle),
+    }
+}
+
+// Writes the trace of a program that is not constructive.
+fn stuck_outcome<O: Sink>(stuck: Stuck, out: &mut O) -> OptOutcome
+    ensures { IsStuckOutcome stuck (change O.told O.faults out.old out.new) result }
+{
+    match write_whole(&stuck.trace, out) {
+        Written::Done => OptOutcome::NotConstructive(stuck),
+        Written::WriteFault => OptOutcome::WriteFault,
+        Written::NoMemory => OptOutcome::NoMemory,
     }
 }

@@ -1,15 +1,14 @@
-use Rattle.std.proofs.Common.{Some, subst}
+use Rattle.std.proofs.Common.{subst}
 use Rattle.std.specs.Prelude.{option_map}
 use Rattle.base_types.proofs.Exports.{appends-nothing}
 use Rattle.base_types.specs.SinkChanges.{change}
 use Rattle.base_types.specs.declared.bounds.TheConstants.Limits.{SOURCE_BYTES}
 use Rattle.cec_text_io.proofs.Exports.{held_read}
 use Rattle.cec_text_io.specs.ErrorLines.{GainsLine}
-use Rattle.cec_opt_commands.specs.Answers.{IsSourceAnswer}
 use Rattle.cec_opt_commands.specs.Lines.{line_of, source_subject}
-use Rattle.cec_opt_commands.specs.Outcomes.{LeavesAnswer, SourceSays}
+use Rattle.cec_opt_commands.specs.Outcomes.{LeavesSourceAnswer, SourceSays}
 use Rattle.cec_opt_commands.proofs.Outcomes.{source_agrees, source_err, source_out, source_read_counts}
-use Rattle.cec_opt_commands.proofs.Outcomes.{source_unread_agrees, source_unread_counts, source_unread_err, source_unread_out}
+use Rattle.cec_opt_commands.proofs.Outcomes.{source_unread_agrees, source_unread_counts, source_unread_out}
 use Rattle.cec_opt_commands.proofs.command.do_source.Goals as goal
 
 pub returns-in-Ok-clause-agrees : goal.returns-in-Ok-clause-agrees
@@ -32,7 +31,7 @@ returns-in-Ok-clause-out g c =
     let s = change g.O.Sink.told g.O.Sink.faults c.args.out.now c.told_source.new.out in
     source_out content c.args.task c.args.name.now main c.told_source.result c.in-Ok.source.items s
     (held_read content c.args.name.now SOURCE_BYTES c.in-Ok.source c.in-Ok.ensures.bytes)
-    (subst (λ source. LeavesAnswer c.args.task (IsSourceAnswer c.args.task source main) s c.told_source.result) c.deref.ensures.value
+    (subst (λ source. LeavesSourceAnswer c.args.task source main s c.told_source.result) c.deref.ensures.value
     c.told_source.ensures.out)
 
 pub returns-in-Ok-clause-err : goal.returns-in-Ok-clause-err

@@ -14,3 +14,12 @@ returns-in-WriteFault g c = rw c.in-WriteFault.is c.put_said-in-WriteFault.ensur
 
 pub returns-in-NoMemory : goal.returns-in-NoMemory
 returns-in-NoMemory g c = rw c.in-NoMemory.is c.put_said-in-NoMemory.ensures
+
+pub returns-in-NotConstructive : goal.returns-in-NotConstructive
+returns-in-NotConstructive g c = rw c.in-NotConstructive.is c.put_stuck.ensures
+
+pub returns-in-Undecided : goal.returns-in-Undecided
+returns-in-Undecided g c = rw (c.in-Undecided.is, ← c.deref.ensures.value) c.put_said-in-Undecided.ensures
+
+pub returns-in-TooManyNets : goal.returns-in-TooManyNets
+returns-in-TooManyNets g c = rw (c.in-TooManyNets.is, ← c.deref-in-TooManyNets.ensures.value) c.put_said-in-TooManyNets.ensures
