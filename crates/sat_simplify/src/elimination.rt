@@ -74,8 +74,8 @@ impl Simplifier {
         Ok(true)
     }
 
-    // Pushes the literals of a clause that are not marked. It reports whether the resolvent with the marked clause is no
-    // tautology.
+    // Pushes the literals of a clause that are not marked. It reports whether the resolvent with the marked clause is
+    // no tautology.
     fn resolve(&mut self, right: u32, literal: LiteralId) -> Result<bool, NoMemory> {
         let length = self.parts.part(right).length as usize;
         self.spend(length);
@@ -165,8 +165,8 @@ impl Simplifier {
     }
 }
 
-// Adds the literals of a clause to a list that are not marked, except for one. It reports whether no negation of them is
-// marked.
+// Adds the literals of a clause to a list that are not marked, except for one. It reports whether no negation of them
+// is marked.
 fn put_unmarked(
     list: &mut Vec<LiteralId>,
     clause: &[LiteralId],

@@ -2,8 +2,8 @@
 //!
 //! As in Eén and Biere, "Effective Preprocessing in SAT Through Variable and Clause Elimination": a clause goes where
 //! another one has a part of its literals. A literal goes where another clause shows that it is needless. A variable
-//! goes where the resolvents of its clauses are no more than the clauses. A valuation of what is left is completed to one
-//! of all clauses.
+//! goes where the resolvents of its clauses are no more than the clauses. A valuation of what is left is completed to
+//! one of all clauses.
 #![tactic(auto)]
 
 mod elimination;
