@@ -4,6 +4,8 @@ ghost use Rattle.std.specs.Prelude.{◌≡◌, ◌≤◌, ◌&&◌, length, map,
 ghost use Rattle.est_kernel.specs.Plain.{outgoing_names, program_of};
 ghost use Rattle.est_kernel.specs.WellFormed.{IsWellFormed};
 ghost use Rattle.net_ir.specs.Runs.{netlist_of};
+ghost use Rattle.cec_compile.specs.Compiling.{IsCompiled};
+ghost use Rattle.cec_compile.specs.Following.{FollowsGraph};
 ghost use Rattle.cec_compile.specs.NetMeaning.{NetKeeps};
 ghost use Rattle.cec_compile.specs.Refusals.{IsRefused};
 ghost use Rattle.cec_prove_sources.specs.Surveys.{HasSurvey, IsSurvey, IsSurveyText};
@@ -13,7 +15,7 @@ use crate::places::place_of;
 use crate::presences::{Signal, push_signal};
 use crate::questions::Survey;
 use base_types::{Limits, NoMemory};
-use cec_compile::{Refusal, compile};
+use cec_compile::{Compiled, Refusal, TextForm, compile, made_in};
 use est_kernel::KernelProgram;
 use grc_order::Picker;
 use net_ir::Net;
@@ -123,6 +125,22 @@ fn small_survey(
     net_survey(alloc, program, &small, assumed, effort)
 }
 
+// The survey by the netlist whose latches hold the state in a code, optimized.
+fn encoded_survey(
+    alloc: Global,
+    compiled: Compiled,
+    assumed: Option<&[u8]>,
+    effort: u64,
+) -> Result<Survey, NoMemory>
+    requires fits { IsWellFormed (program_of compiled.graph.program) }
+    requires compiled { IsCompiled compiled (program_of compiled.graph.program) }
+    requires follows { FollowsGraph compiled }
+    ensures { IfOk result (IsSurvey (program_of compiled.graph.program) (option_map (λ n. n.now) assumed.entry)) }
+{
+    let made = made_in(alloc, TextForm::EncodedBlif, compiled)?;
+    small_survey(alloc, &made.program, &made.net, assumed, effort)
+}
+
 /// The survey of all outgoing signals of a source, which is compiled and optimized once: for each of them, in order,
 /// whether it is present in no reaction, in each one, or in some and not in others, with a trace to one of each kind.
 /// What it says of a signal is what `verdict_of` says of it, and each of its two questions has the effort. `Partly` has
@@ -143,7 +161,6 @@ pub fn survey_of<P: Picker>(
     ensures refuses { IfErr result (IsRefused text.now (option_map (λ m. m.now) main.entry)) }
 {
     let compiled = compile(alloc, text, main, picker)?;
-    let program = &compiled.graph.program;
-    let survey = small_survey(alloc, program, &compiled.net, assumed, effort)?;
+    let survey = encoded_survey(alloc, compiled, assumed, effort)?;
     Ok(survey)
 }

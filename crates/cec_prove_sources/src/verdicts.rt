@@ -4,6 +4,8 @@ ghost use Rattle.std.specs.Prelude.{◌≡◌, ◌≤◌, length, option_map, If
 ghost use Rattle.est_kernel.specs.Plain.{outgoing_names, program_of};
 ghost use Rattle.est_kernel.specs.WellFormed.{IsWellFormed};
 ghost use Rattle.net_ir.specs.Runs.{netlist_of};
+ghost use Rattle.cec_compile.specs.Compiling.{IsCompiled};
+ghost use Rattle.cec_compile.specs.Following.{FollowsGraph};
 ghost use Rattle.cec_compile.specs.NetMeaning.{NetKeeps};
 ghost use Rattle.cec_compile.specs.Refusals.{IsRefused};
 ghost use Rattle.cec_prove_sources.specs.Verdicts.{AsksOf, HasPlace, HasVerdict, IsVerdict};
@@ -13,7 +15,7 @@ use crate::findings::{PlacedQuestion, found};
 use crate::places::place_of;
 use crate::questions::{Finding, Layout, Question, Verdict};
 use base_types::{Limits, NoMemory};
-use cec_compile::{Refusal, compile};
+use cec_compile::{Compiled, Refusal, TextForm, compile, made_in};
 use est_kernel::KernelProgram;
 use grc_order::Picker;
 use net_ir::Net;
@@ -105,6 +107,68 @@ fn small_verdict(
     net_verdict(alloc, program, &small, question, effort)
 }
 
+// The share of the effort that goes to short traces by the program's own netlist.
+const TRACE_SHARE: u64 = 64;
+
+// The answer by the program's own netlist, in which traces are found soon, where a small part of the effort is enough,
+// and else by one whose latches hold the state in a code. There most claims need no invariant, or one of few clauses.
+fn compiled_verdict(
+    alloc: Global,
+    compiled: Compiled,
+    question: Question<'_>,
+    effort: u64,
+) -> Result<Verdict, NoMemory>
+    requires fits { IsWellFormed (program_of compiled.graph.program) }
+    requires compiled { IsCompiled compiled (program_of compiled.graph.program) }
+    requires follows { FollowsGraph compiled }
+    ensures { IfOk result (IsVerdict (program_of compiled.graph.program) (plain_question question.entry)) }
+{
+    match net_verdict(
+        alloc,
+        &compiled.graph.program,
+        &compiled.net,
+        question,
+        effort / TRACE_SHARE,
+    ) {
+        Ok(Verdict::Open(_)) => encoded_verdict(alloc, compiled, question, effort),
+        others => others,
+    }
+}
+
+// The answer by the netlist whose latches hold the state in a code.
+fn encoded_verdict(
+    alloc: Global,
+    compiled: Compiled,
+    question: Question<'_>,
+    effort: u64,
+) -> Result<Verdict, NoMemory>
+    requires fits { IsWellFormed (program_of compiled.graph.program) }
+    requires compiled { IsCompiled compiled (program_of compiled.graph.program) }
+    requires follows { FollowsGraph compiled }
+    ensures { IfOk result (IsVerdict (program_of compiled.graph.program) (plain_question question.entry)) }
+{
+    let made = made_in(alloc, TextForm::EncodedBlif, compiled)?;
+    made_verdict(alloc, &made.program, &made.net, question, effort)
+}
+
+// The answer by a netlist, and by the optimized one where a third of the effort was not enough.
+fn made_verdict(
+    alloc: Global,
+    program: &KernelProgram,
+    net: &Net,
+    question: Question<'_>,
+    effort: u64,
+) -> Result<Verdict, NoMemory>
+    requires fits { IsWellFormed (program_of program.now) }
+    requires keeps { NetKeeps (netlist_of net.now) (program_of program.now) }
+    ensures { IfOk result (IsVerdict (program_of program.now) (plain_question question.entry)) }
+{
+    match net_verdict(alloc, program, net, question, effort / 3) {
+        Ok(Verdict::Open(_)) => small_verdict(alloc, program, net, question, effort / 3 * 2),
+        others => others,
+    }
+}
+
 /// The answer to a question about an outgoing signal of a source. `Holds` is proved. It is about every list of events
 /// that meet the source's relations, and resets: each reaction of the source is constructive. Where the signal that is
 /// assumed is present in all of them, the signal is as claimed in each. `Broken` has a trace, and the last reaction to
@@ -125,7 +189,6 @@ pub fn verdict_of<P: Picker>(
     ensures refuses { IfErr result (IsRefused text.now (option_map (λ m. m.now) main.entry)) }
 {
     let compiled = compile(alloc, text, main, picker)?;
-    let program = &compiled.graph.program;
-    let verdict = small_verdict(alloc, program, &compiled.net, question, effort)?;
+    let verdict = compiled_verdict(alloc, compiled, question, effort)?;
     Ok(verdict)
 }

@@ -1,18 +1,17 @@
 use Rattle.std.specs.Prelude.{option_map}
 use Rattle.std.proofs.Common.{subst, sym}
 use Rattle.est_kernel.specs.WellFormed.{IsWellFormed}
-use Rattle.net_ir.specs.Runs.{netlist_of}
-use Rattle.cec_compile.specs.NetMeaning.{NetKeeps}
+use Rattle.cec_compile.specs.Compiling.{IsCompiled}
 use Rattle.cec_prove_sources.specs.Surveys.{IsSurvey}
 use Rattle.cec_prove_sources.proofs.surveys.survey_of.Goals as goal
 
-pub small_survey-requires-clause-fits : goal.small_survey-requires-clause-fits
-small_survey-requires-clause-fits g c =
+pub encoded_survey-requires-clause-fits : goal.encoded_survey-requires-clause-fits
+encoded_survey-requires-clause-fits g c =
     let s = c.in_ok-compiled.ensures.compiles in subst IsWellFormed (sym s.compiled.program) s.compiled.formed
 
-pub small_survey-requires-clause-keeps : goal.small_survey-requires-clause-keeps
-small_survey-requires-clause-keeps g c =
-    let s = c.in_ok-compiled.ensures.compiles in subst (NetKeeps (netlist_of c.in_ok-compiled.compiled.net)) (sym s.compiled.program) s.compiled.keeps
+pub encoded_survey-requires-clause-compiled : goal.encoded_survey-requires-clause-compiled
+encoded_survey-requires-clause-compiled g c =
+    let s = c.in_ok-compiled.ensures.compiles in subst (IsCompiled c.in_ok-compiled.compiled) (sym s.compiled.program) s.compiled
 
 pub returns-clause-surveys : goal.returns-clause-surveys
 returns-clause-surveys g c =
