@@ -1,0 +1,117 @@
+// What is between the lists of an embedded text. Running out of memory is the only error.
+
+ghost use Rattle.std.specs.Prelude.{◌≡◌, [], ◌++◌, codes, OnOk, if◌then◌else◌};
+ghost use Rattle.net_ir.specs.Runs.{netlist_of};
+ghost use Rattle.csub_embed.specs.Parts.{head_text, states_end, inputs_end, outputs_end, react_text, end_text};
+ghost use Rattle.csub_embed.specs.Texts.{first_lines};
+ghost use Rattle.csub_embed.specs.Written.{reads_input as reads_input_of, react_head};
+
+use base_types::{NoMemory, Text, put};
+use net_ir::Net;
+use net_writer::put_named;
+
+// All before the first member.
+pub fn put_head(text: &mut Vec<u8>, name: &Text) -> Result<(), NoMemory>
+    ensures { OnOk result (text.new.items ≡ text.old.items ++ head_text name.now) }
+{
+    put_first_lines(text, name.bytes())?;
+    put_named(
+        text,
+        b"\n/* ",
+        name.bytes(),
+        b", by cec-opt 0.1.0: cec-opt c --embed. Any number of instances.\n * Reset an instance before its first call of react; react returns whether it is still running. */\n",
+    )?;
+    put(text, b"\ntypedef struct {\n")
+}
+
+// The lines for the preprocessor.
+fn put_first_lines(text: &mut Vec<u8>, name: &[u8]) -> Result<(), NoMemory>
+    ensures { OnOk result (text.new.items ≡ text.old.items ++ first_lines name.now) }
+{
+    put_named(text, b"#ifndef ", name, b"_H\n#define ")?;
+    put(text, name)?;
+    put(text, b"_H\n\n#include <stdbool.h>\n#include <stdint.h>\n")
+}
+
+// The end of the state.
+pub fn put_states_end(text: &mut Vec<u8>, net: &Net) -> Result<(), NoMemory>
+    ensures { OnOk result (text.new.items ≡ text.old.items ++ states_end (netlist_of net.now)) }
+{
+    put_unused(text, net.latches.is_empty())?;
+    put_named(text, b"} ", net.name.bytes(), b"_t;\n\ntypedef struct {\n")
+}
+
+// The end of the inputs.
+pub fn put_inputs_end(text: &mut Vec<u8>, net: &Net) -> Result<(), NoMemory>
+    ensures { OnOk result (text.new.items ≡ text.old.items ++ inputs_end (netlist_of net.now)) }
+{
+    put_unused(text, net.inputs.is_empty())?;
+    put_named(
+        text,
+        b"} ",
+        net.name.bytes(),
+        b"_inputs_t;\n\ntypedef struct {\n",
+    )
+}
+
+// The end of the outputs, and how the reset begins.
+pub fn put_outputs_end(text: &mut Vec<u8>, net: &Net) -> Result<(), NoMemory>
+    ensures { OnOk result (text.new.items ≡ text.old.items ++ outputs_end (netlist_of net.now)) }
+{
+    put_unused(text, net.outputs.is_empty())?;
+    put_named(
+        text,
+        b"} ",
+        net.name.bytes(),
+        b"_outputs_t;\n\nstatic inline void ",
+    )?;
+    put_named(text, net.name.bytes(), b"_reset(", net.name.bytes())?;
+    put(text, b"_t *self)\n{\n")
+}
+
+// The member of a structure that has no others.
+fn put_unused(text: &mut Vec<u8>, is_empty: bool) -> Result<(), NoMemory>
+    ensures { OnOk result (text.new.items ≡ text.old.items
+        ++ (if is_empty then codes "    uint8_t unused;\n" else [])) }
+{
+    if is_empty {
+        put(text, b"    uint8_t unused;\n")
+    } else {
+        Ok(())
+    }
+}
+
+// The end of the reset, and how the reaction begins.
+pub fn put_react_head(text: &mut Vec<u8>, net: &Net, reads_input: bool) -> Result<(), NoMemory>
+    requires { reads_input ≡ reads_input_of (netlist_of net.now) }
+    ensures { OnOk result (text.new.items ≡ text.old.items ++ react_text (netlist_of net.now)) }
+{
+    put_ignored(text, net.latches.is_empty(), b"    (void)self;\n")?;
+    put_react_line(text, net.name.bytes())?;
+    put_ignored(text, net.latches.is_empty(), b"    (void)self;\n")?;
+    put_ignored(text, !reads_input, b"    (void)in;\n")?;
+    put_ignored(text, net.outputs.is_empty(), b"    (void)out;\n")
+}
+
+// The lines that end the reset and begin the reaction.
+fn put_react_line(text: &mut Vec<u8>, name: &[u8]) -> Result<(), NoMemory>
+    ensures { OnOk result (text.new.items ≡ text.old.items ++ react_head name.now) }
+{
+    put_named(text, b"}\n\nstatic inline bool ", name, b"_react(")?;
+    put_named(text, name, b"_t *self, const ", name)?;
+    put_named(text, b"_inputs_t *in, ", name, b"_outputs_t *out)\n{\n")
+}
+
+// A line, where there is nothing to use.
+fn put_ignored(text: &mut Vec<u8>, is_unused: bool, line: &[u8]) -> Result<(), NoMemory>
+    ensures { OnOk result (text.new.items ≡ text.old.items ++ (if is_unused then line.now else [])) }
+{
+    if is_unused { put(text, line) } else { Ok(()) }
+}
+
+// The last lines.
+pub fn put_last_lines(text: &mut Vec<u8>) -> Result<(), NoMemory>
+    ensures { OnOk result (text.new.items ≡ text.old.items ++ end_text) }
+{
+    put(text, b"    return running;\n}\n\n#endif\n")
+}
