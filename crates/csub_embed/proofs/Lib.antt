@@ -1,3 +1,4 @@
+mod Appends
 mod Lexing
 mod Spelling
 mod Frames
@@ -7,4 +8,5 @@ mod NetCalls
 mod NetSound
 mod Joins
 mod NetMeans
+mod worked
 pub mod Exports

@@ -22,18 +22,22 @@ use Rattle.csub_embed.proofs.Lexing.{word-name}
 -- ---- free words
 
 pub free-state : (j : ℕ) → j < 2 ^ 64 → IsFree (state_name j)
+unfolding is_reserved
 free-state j small = record { word = bytes-decimal j small; free = refl }
 
 pub free-gate : (k : ℕ) → k < 2 ^ 64 → IsFree (gate_name k)
+unfolding is_reserved
 free-gate k small = record {
   word = bytes-decimal k small;
   free = rw (no-word (decimal k) (codes "oto") (digits-decimal k small) refl) refl;
 }
 
 pub free-next : (j : ℕ) → j < 2 ^ 64 → IsFree (next_name j)
+unfolding is_reserved
 free-next j small = record { word = bytes-decimal j small; free = refl }
 
 pub free-running : IsFree running_name
+unfolding is_reserved
 free-running = record { word = refl; free = refl }
 
 pub free-signal : (name : List ℕ) → is_name name ≡ true → is_reserved name ≡ false → IsFree name

@@ -20,9 +20,10 @@ pub record IsEmbeddable (net : Netlist) : Type 0 where
 abbrev pub under_name : List ℕ → Netlist → Netlist
 under_name name net = record net { name = name }
 
--- The name is none; or NAME_t is a type of the library; or this is the first signal that is a word of C or of C++.
-abbrev pub IsEmbedFault : List ℕ → Netlist → EmbedFault → Type 0
-IsEmbedFault name net faults.NoName = is_name name ≡ false
-IsEmbedFault name net faults.TypeTaken = (is_name name ≡ true) × (is_type name ≡ true)
-IsEmbedFault name net (faults.Reserved word) =
-    (is_name name ≡ true) × (is_type name ≡ false) × (find is_reserved (signals net) ≡ Some word)
+-- The name is none; or NAME_t is a type of the library; or this is the first of these signals that is a word of C or of
+-- C++.
+abbrev pub IsEmbedFault : List ℕ → List (List ℕ) → EmbedFault → Type 0
+IsEmbedFault name names faults.NoName = is_name name ≡ false
+IsEmbedFault name names faults.TypeTaken = (is_name name ≡ true) × (is_type name ≡ true)
+IsEmbedFault name names (faults.Reserved word) =
+    (is_name name ≡ true) × (is_type name ≡ false) × (find is_reserved names ≡ Some word)

@@ -15,11 +15,11 @@ use Rattle.csub_embed.specs.declared.words.TheConstants.{RESERVED, TYPES}
 -- ---- words
 
 -- a word of C or of C++
-abbrev pub is_reserved : List ℕ → Bool
+unfoldable pub is_reserved : List ℕ → Bool
 is_reserved name = list_any (λ w. is_same_name name w.now) RESERVED
 
 -- NAME_t is a type of the library
-abbrev pub is_type : List ℕ → Bool
+unfoldable pub is_type : List ℕ → Bool
 is_type name = list_any (λ w. is_same_name name w.now) TYPES
 
 -- a letter or `_`, followed by letters, digits and `_`

@@ -4,7 +4,8 @@ ghost use Rattle.std.specs.Prelude.{◌≡◌, [], ◌++◌, codes, OnOk, if◌t
 ghost use Rattle.net_ir.specs.Runs.{netlist_of};
 ghost use Rattle.csub_embed.specs.Parts.{head_text, states_end, inputs_end, outputs_end, react_text, end_text};
 ghost use Rattle.csub_embed.specs.Texts.{first_lines};
-ghost use Rattle.csub_embed.specs.Written.{reads_input as reads_input_of, react_head};
+ghost use Rattle.csub_embed.specs.Written.{reads_input as reads_input_of, close_text, react_head, reset_head};
+ghost use Rattle.csub_embed.specs.Written.{unused_line};
 
 use base_types::{NoMemory, Text, put};
 use net_ir::Net;
@@ -58,14 +59,24 @@ pub fn put_inputs_end(text: &mut Vec<u8>, net: &Net) -> Result<(), NoMemory>
 pub fn put_outputs_end(text: &mut Vec<u8>, net: &Net) -> Result<(), NoMemory>
     ensures { OnOk result (text.new.items ≡ text.old.items ++ outputs_end (netlist_of net.now)) }
 {
+    put_outputs_close(text, net)?;
+    put_reset_head(text, net.name.bytes())
+}
+
+fn put_outputs_close(text: &mut Vec<u8>, net: &Net) -> Result<(), NoMemory>
+    ensures { OnOk result (text.new.items ≡ text.old.items
+        ++ (unused_line net.now.outputs.items ++ close_text (net.now.name ++ codes "_outputs_t"))) }
+{
     put_unused(text, net.outputs.is_empty())?;
-    put_named(
-        text,
-        b"} ",
-        net.name.bytes(),
-        b"_outputs_t;\n\nstatic inline void ",
-    )?;
-    put_named(text, net.name.bytes(), b"_reset(", net.name.bytes())?;
+    put_named(text, b"} ", net.name.bytes(), b"_outputs_t;\n")
+}
+
+// How the reset begins.
+fn put_reset_head(text: &mut Vec<u8>, name: &[u8]) -> Result<(), NoMemory>
+    ensures { OnOk result (text.new.items ≡ text.old.items ++ reset_head name.now) }
+{
+    put_named(text, b"\nstatic inline void ", name, b"_reset(")?;
+    put(text, name)?;
     put(text, b"_t *self)\n{\n")
 }
 

@@ -3,7 +3,7 @@
 //!
 //! `specs/` says which component a text describes, what calls do on any number of instances of it, and what it means
 //! that a text does what a net does. `embedded_net` gives a net the name of its component, or says why it can have none;
-//! `write_embedded` writes the text of such a net.
+//! `write_embedded` writes the text of such a net, and `embedded_text` does both.
 #![tactic(auto)]
 
 mod ends;
@@ -18,4 +18,4 @@ mod writer;
 pub use fault::EmbedFault;
 pub use naming::embedded_net;
 pub use parts::EmbedSection;
-pub use pieces::{EmbedWriter, write_embedded};
+pub use pieces::{EmbedWriter, embedded_text, write_embedded};

@@ -1,7 +1,8 @@
 // A net under the name of its component.
 
-ghost use Rattle.std.specs.Prelude.{◌≡◌, true, map, option_map, find, IsTrue, IfOk};
-ghost use Rattle.base_types.specs.Names.{is_name};
+ghost use Rattle.std.specs.Prelude.{◌≡◌, true, map, option_map, find, IfOk};
+ghost use Rattle.std.specs.List.{list_all};
+ghost use Rattle.base_types.specs.Names.{is_name, is_name_byte};
 ghost use Rattle.base_types.specs.Stops.{IfFault};
 ghost use Rattle.net_ir.specs.Runs.{netlist_of};
 ghost use Rattle.csub_embed.specs.Names.{is_reserved};
@@ -20,7 +21,7 @@ use std::alloc::Global;
 pub fn embedded_net(alloc: Global, net: Net, name: &[u8]) -> Result<Net, Stop<EmbedFault>>
     ensures named { IfOk result (λ n. netlist_of n ≡ under_name name.now (netlist_of net)) }
     ensures fits { IfOk result (λ n. IsEmbeddable (netlist_of n)) }
-    ensures fault { IfFault result (IsEmbedFault name.now (netlist_of net)) }
+    ensures fault { IfFault result (IsEmbedFault name.now (signals (netlist_of net))) }
 {
     if !is_name(name) {
         return Err(Stop::Fault(EmbedFault::NoName));
@@ -42,8 +43,14 @@ fn is_name(name: &[u8]) -> bool
 {
     match name {
         [] => false,
-        [first, rest @ ..] => is_letter(*first) && rest.iter().all(|byte| is_name_byte(*byte)),
+        [first, rest @ ..] => is_letter(*first) && are_name_bytes(rest),
     }
+}
+
+fn are_name_bytes(bytes: &[u8]) -> bool
+    ensures { result ≡ list_all is_name_byte bytes.now }
+{
+    bytes.iter().all(|byte| is_name_byte(*byte))
 }
 
 // The first signal that is a word of C or of C++.

@@ -2,10 +2,13 @@
 
 ghost use Rattle.std.specs.Prelude.{◌≡◌, IfOk};
 ghost use Rattle.net_ir.specs.Runs.{netlist_of};
-ghost use Rattle.csub_embed.specs.Faults.{IsEmbeddable};
+ghost use Rattle.base_types.specs.Stops.{IfFault};
+ghost use Rattle.csub_embed.specs.Faults.{signals, under_name, IsEmbeddable, IsEmbedFault};
 ghost use Rattle.csub_embed.specs.Written.{written, Means};
 
-use base_types::NoMemory;
+use crate::fault::EmbedFault;
+use crate::naming::embedded_net;
+use base_types::{NoMemory, Stop};
 use net_ir::Net;
 use net_writer::write_net;
 use std::alloc::Global;
@@ -29,4 +32,16 @@ pub fn write_embedded(alloc: Global, net: &Net) -> Result<Vec<u8>, NoMemory>
     ensures means { IfOk result (λ t. Means t.items (netlist_of net.now)) }
 {
     write_net::<EmbedWriter>(alloc, net)
+}
+
+/// The embedded text of a net under a name, where it has one; else the first fault. Running out of memory is the only
+/// other error.
+pub fn embedded_text(alloc: Global, net: Net, name: &[u8]) -> Result<Vec<u8>, Stop<EmbedFault>>
+    ensures text { IfOk result (λ t. t.items ≡ written (under_name name.now (netlist_of net))) }
+    ensures means { IfOk result (λ t. Means t.items (under_name name.now (netlist_of net))) }
+    ensures fault { IfFault result (IsEmbedFault name.now (signals (netlist_of net))) }
+{
+    let named = embedded_net(alloc, net, name)?;
+    let text = write_embedded(alloc, &named)?;
+    Ok(text)
 }

@@ -1,0 +1,148 @@
+-- A worked component by hand: its net, its text, its tokens, and what calls on two instances show. And words and tokens.
+use Rattle.std.proofs.Common.{◌≡◌, ℕ, Bool, true, false, List, [], ◌∷◌, map, refl, None, codes}
+use Rattle.base_types.specs.Items.{Item, Event, Reset}
+use Rattle.net_ir.specs.declared.netlist.Op.TheVariants as ops
+use Rattle.net_ir.specs.Netlists.{Netlist}
+use Rattle.csub_embed.specs.Grammar.{component_kinds}
+use Rattle.csub_embed.specs.Machine.{Frame, Call, SeenOf, run_calls, seen_of, items_of}
+use Rattle.csub_embed.specs.Names.{is_reserved, is_type, is_word}
+use Rattle.csub_embed.specs.Tokens.{Word, Mark, Bad, kinds}
+use Rattle.csub_embed.specs.Trees.{State, Given, Local, Copy, Not, And, Or, Component}
+use Rattle.csub_embed.specs.Written.{body_text, component_text, net_component, net_ignored}
+
+abbrev two : Component
+two = record {
+  name = codes "two";
+  states = record { name = codes "state0"; init = true } ∷ record { name = codes "state1"; init = false } ∷ [];
+  inputs = codes "A" ∷ codes "B" ∷ [];
+  outputs = codes "O" ∷ [];
+  ignored = [];
+  locals = record { name = codes "g0"; value = Or (State (codes "state0")) (Given (codes "A")) }
+      ∷ record { name = codes "g1"; value = Not (Local (codes "g0")) }
+      ∷ record { name = codes "g2"; value = And (Local (codes "g1")) (Given (codes "B")) }
+      ∷ record { name = codes "next0"; value = Copy (Local (codes "g2")) }
+      ∷ record { name = codes "next1"; value = Copy (State (codes "state0")) }
+      ∷ record { name = codes "running"; value = Copy (State (codes "state1")) } ∷ [];
+  shown = record { member = codes "O"; from = Local (codes "g2") } ∷ [];
+  kept = record { member = codes "state0"; from = Local (codes "next0") } ∷ record { member = codes "state1"; from = Local (codes "next1") } ∷ [];
+  answer = Local (codes "running");
+}
+
+-- the nets are A, B, the two latches, and the three gates
+two_net : Netlist
+two_net = record {
+  name = codes "two";
+  inputs = codes "A" ∷ codes "B" ∷ [];
+  outputs = record { name = codes "O"; net = record { 0 = 6 } } ∷ [];
+  paused = 3;
+  latches = record { init = true; from = record { 0 = 6 } } ∷ record { init = false; from = record { 0 = 2 } } ∷ [];
+  gates = record { op = ops.Or (record { 0 = 2 }) (record { 0 = 0 }); wire = None } ∷ record { op = ops.Not (record { 0 = 4 }); wire = None }
+      ∷ record { op = ops.And (record { 0 = 5 }) (record { 0 = 1 }); wire = None } ∷ [];
+}
+
+the-net : net_component two_net ≡ two
+unfolding two_net
+the-net = refl
+
+the-text : component_text two ≡ codes "#ifndef two_H\n#define two_H\n\n#include <stdbool.h>\n#include <stdint.h>\n\n/* two, by cec-opt 0.1.0: cec-opt c --embed. Any number of instances.\n * Reset an instance before its first call of react; react returns whether it is still running. */\n\ntypedef struct {\n    bool state0;\n    bool state1;\n} two_t;\n\ntypedef struct {\n    bool A;\n    bool B;\n} two_inputs_t;\n\ntypedef struct {\n    bool O;\n} two_outputs_t;\n\nstatic inline void two_reset(two_t *self)\n{\n    self->state0 = true;\n    self->state1 = false;\n}\n\nstatic inline bool two_react(two_t *self, const two_inputs_t *in, two_outputs_t *out)\n{\n    const bool g0 = self->state0 || in->A;\n    const bool g1 = !g0;\n    const bool g2 = g1 && in->B;\n    const bool next0 = g2;\n    const bool next1 = self->state0;\n    const bool running = self->state1;\n    out->O = g2;\n    self->state0 = next0;\n    self->state1 = next1;\n    return running;\n}\n\n#endif\n"
+the-text = refl
+
+the-tokens : kinds (body_text two) ≡ component_kinds two
+the-tokens = refl
+
+-- ---- calls
+
+-- what the callers hold before a call: of a call on instance 1 all false, of one on instance 2 all true
+abbrev around : Bool → Frame
+around b = record { state = λ name. b; given = λ name. b; shown = λ name. b; local = λ name. b }
+
+abbrev one : Item → Call
+one item = record { instance = 1; item = item; around = around false }
+
+abbrev other : Item → Call
+other item = record { instance = 2; item = item; around = around true }
+
+abbrev calls : List Call
+calls =
+    one Reset ∷ one (Event (false ∷ true ∷ [])) ∷ other Reset ∷ other (Event (true ∷ true ∷ [])) ∷ one (Event (false ∷ true ∷ []))
+    ∷ other (Event (false ∷ false ∷ [])) ∷ one Reset ∷ one (Event (false ∷ false ∷ [])) ∷ []
+
+abbrev shows : ℕ → Bool → Bool → SeenOf
+shows k output answer = record { instance = k; seen = record { outputs = output ∷ []; answer = answer } }
+
+-- the first event of an instance clears `state0` and sets `state1`; the second one sets O where B is given
+the-calls : run_calls two (λ k name. true) calls
+    ≡ shows 1 false false ∷ shows 2 false false ∷ shows 1 true true ∷ shows 2 false true ∷ shows 1 false false ∷ []
+the-calls = refl
+
+own-calls : seen_of 2 (run_calls two (λ k name. true) calls)
+    ≡ record { outputs = false ∷ []; answer = false } ∷ record { outputs = false ∷ []; answer = true } ∷ []
+own-calls = refl
+
+own-items : items_of 2 calls ≡ Reset ∷ Event (true ∷ true ∷ []) ∷ Event (false ∷ false ∷ []) ∷ []
+own-items = refl
+
+-- ---- a component with nothing
+
+none : Netlist
+none = record {
+  name = codes "none";
+  inputs = codes "I" ∷ [];
+  outputs = [];
+  paused = 1;
+  latches = [];
+  gates = record { op = ops.Const false; wire = None } ∷ [];
+}
+
+ignores-all : net_ignored none ≡ codes "self" ∷ codes "in" ∷ codes "out" ∷ []
+unfolding none
+ignores-all = refl
+
+no-members : body_text (net_component none) ≡ codes "\n/* none, by cec-opt 0.1.0: cec-opt c --embed. Any number of instances.\n * Reset an instance before its first call of react; react returns whether it is still running. */\n\ntypedef struct {\n    uint8_t unused;\n} none_t;\n\ntypedef struct {\n    bool I;\n} none_inputs_t;\n\ntypedef struct {\n    uint8_t unused;\n} none_outputs_t;\n\nstatic inline void none_reset(none_t *self)\n{\n    (void)self;\n}\n\nstatic inline bool none_react(none_t *self, const none_inputs_t *in, none_outputs_t *out)\n{\n    (void)self;\n    (void)in;\n    (void)out;\n    const bool g0 = false;\n    const bool running = g0;\n    return running;\n}\n"
+unfolding none
+no-members = refl
+
+none-tokens : kinds (body_text (net_component none)) ≡ component_kinds (net_component none)
+unfolding none
+none-tokens = refl
+
+-- ---- tokens
+
+spaced : kinds (codes "a->b /* x*y */\n&& !(c_1)||{};=*,")
+    ≡ Word (codes "a") ∷ Mark (codes "->") ∷ Word (codes "b") ∷ Mark (codes "&&") ∷ Mark (codes "!") ∷ Mark (codes "(") ∷ Word (codes "c_1")
+    ∷ Mark (codes ")") ∷ Mark (codes "||") ∷ Mark (codes "{") ∷ Mark (codes "}") ∷ Mark (codes ";") ∷ Mark (codes "=") ∷ Mark (codes "*")
+    ∷ Mark (codes ",") ∷ []
+spaced = refl
+
+half-arrow : kinds (codes "a- >b") ≡ Word (codes "a") ∷ Bad ∷ []
+half-arrow = refl
+
+half-and : kinds (codes "a & b") ≡ Word (codes "a") ∷ Bad ∷ []
+half-and = refl
+
+half-or : kinds (codes "a|") ≡ Word (codes "a") ∷ Bad ∷ []
+half-or = refl
+
+no-comment : kinds (codes "a /* b") ≡ Word (codes "a") ∷ Bad ∷ []
+no-comment = refl
+
+number : kinds (codes "a 1") ≡ Word (codes "a") ∷ Bad ∷ []
+number = refl
+
+-- ---- words
+
+words-reserved : map is_reserved (codes "alignas" ∷ codes "class" ∷ codes "int" ∷ codes "true" ∷ codes "xor_eq" ∷ [])
+    ≡ true ∷ true ∷ true ∷ true ∷ true ∷ []
+unfolding is_reserved
+words-reserved = refl
+
+words-free : map is_reserved (codes "Int" ∷ codes "in" ∷ codes "self" ∷ codes "classes" ∷ codes "g0" ∷ []) ≡ false ∷ false ∷ false ∷ false ∷ false ∷ []
+unfolding is_reserved
+words-free = refl
+
+types-known : map is_type (codes "size" ∷ codes "uint8" ∷ codes "wchar" ∷ codes "lift" ∷ []) ≡ true ∷ true ∷ true ∷ false ∷ []
+unfolding is_type
+types-known = refl
+
+words : map is_word (codes "_a1" ∷ codes "1a" ∷ [] ∷ codes "a-b" ∷ []) ≡ true ∷ false ∷ false ∷ false ∷ []
+words = refl
