@@ -1,11 +1,11 @@
 // What is between the lists of an embedded text. Running out of memory is the only error.
 
-ghost use Rattle.std.specs.Prelude.{◌≡◌, [], ◌++◌, codes, OnOk, if◌then◌else◌};
+ghost use Rattle.std.specs.Prelude.{◌≡◌, [], ◌++◌, codes, flat_map, OnOk, if◌then◌else◌};
 ghost use Rattle.net_ir.specs.Runs.{netlist_of};
 ghost use Rattle.csub_embed.specs.Parts.{head_text, states_end, inputs_end, outputs_end, react_text, end_text};
 ghost use Rattle.csub_embed.specs.Texts.{first_lines};
 ghost use Rattle.csub_embed.specs.Written.{reads_input as reads_input_of, close_text, react_head, reset_head};
-ghost use Rattle.csub_embed.specs.Written.{unused_line};
+ghost use Rattle.csub_embed.specs.Written.{ignored_line, net_ignored, untouched_line, unused_line};
 
 use base_types::{NoMemory, Text, put};
 use net_ir::Net;
@@ -97,8 +97,31 @@ pub fn put_react_head(text: &mut Vec<u8>, net: &Net, reads_input: bool) -> Resul
     requires { reads_input ≡ reads_input_of (netlist_of net.now) }
     ensures { OnOk result (text.new.items ≡ text.old.items ++ react_text (netlist_of net.now)) }
 {
-    put_ignored(text, net.latches.is_empty(), b"    (void)self;\n")?;
-    put_react_line(text, net.name.bytes())?;
+    put_react_front(text, net)?;
+    put_ignored_lines(text, net, reads_input)
+}
+
+fn put_react_front(text: &mut Vec<u8>, net: &Net) -> Result<(), NoMemory>
+    ensures { OnOk result (text.new.items ≡ text.old.items
+        ++ (untouched_line net.now.latches.items ++ react_head net.now.name)) }
+{
+    put_untouched(text, net)?;
+    put_react_line(text, net.name.bytes())
+}
+
+// The parameter of the reset, where it sets nothing.
+fn put_untouched(text: &mut Vec<u8>, net: &Net) -> Result<(), NoMemory>
+    ensures { OnOk result (text.new.items ≡ text.old.items ++ untouched_line net.now.latches.items) }
+{
+    put_ignored(text, net.latches.is_empty(), b"    (void)self;\n")
+}
+
+// The parameters of the reaction that nothing uses.
+fn put_ignored_lines(text: &mut Vec<u8>, net: &Net, reads_input: bool) -> Result<(), NoMemory>
+    requires { reads_input ≡ reads_input_of (netlist_of net.now) }
+    ensures { OnOk result (text.new.items ≡ text.old.items
+        ++ flat_map ignored_line (net_ignored (netlist_of net.now))) }
+{
     put_ignored(text, net.latches.is_empty(), b"    (void)self;\n")?;
     put_ignored(text, !reads_input, b"    (void)in;\n")?;
     put_ignored(text, net.outputs.is_empty(), b"    (void)out;\n")
