@@ -1,4 +1,4 @@
--- To believe: what the embedded C of a BLIF text keeps, and why a text has none under a name.
+-- Contract: what the embedded C of a BLIF text keeps, and why a text has none under a name.
 use Rattle.std.specs.Prelude.{◌≡◌, ℕ, Bool, List, [], ◌∷◌, ◌++◌, map, Ok}
 use Rattle.base_types.specs.Items.{EachEvent}
 use Rattle.base_machines.specs.Machines.{Shows}

@@ -1,2 +1,3 @@
 pub mod SourceTexts
 pub mod CircuitTexts
+pub mod Stopping

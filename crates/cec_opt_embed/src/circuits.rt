@@ -1,9 +1,9 @@
 // The embedded C of a BLIF text.
 
-ghost use Rattle.std.specs.Prelude.{◌≤◌, List, ℕ, length, IfOk};
-ghost use Rattle.base_types.specs.Stops.{FaultIs, IfFault};
-ghost use Rattle.cec_opt_texts.specs.Faults.{IsOptFault};
-ghost use Rattle.cec_opt_embed.specs.CircuitTexts.{EmbedTextKeeps, IsEmbeddedTextOf, IsEmbedTextFault, IsUnnamableText};
+ghost use Rattle.std.specs.Prelude.{◌≡◌, ◌≤◌, length, IfOk};
+ghost use Rattle.base_types.specs.Stops.{IfFault};
+ghost use Rattle.cec_opt_embed.specs.CircuitTexts.{EmbedTextKeeps, IsEmbeddedTextOf, IsEmbedTextFault};
+ghost use Rattle.cec_opt_embed.specs.Stopping.{name_stop, text_stop};
 
 use crate::refusal::EmbedTextFault;
 use base_types::{Limits, Stop};
@@ -37,8 +37,7 @@ pub fn embedded_of_text(
 }
 
 fn text_stop(stop: Stop<OptFault>) -> Stop<EmbedTextFault>
-    ensures { (text : List ℕ) → (name : List ℕ) → FaultIs (IsOptFault text) stop
-        → FaultIs (IsEmbedTextFault text name) result }
+    ensures { result ≡ text_stop stop }
 {
     match stop {
         Stop::Fault(fault) => Stop::Fault(EmbedTextFault::Text(fault)),
@@ -47,8 +46,7 @@ fn text_stop(stop: Stop<OptFault>) -> Stop<EmbedTextFault>
 }
 
 fn name_stop(stop: Stop<EmbedFault>) -> Stop<EmbedTextFault>
-    ensures { (text : List ℕ) → (name : List ℕ) → FaultIs (IsUnnamableText text name) stop
-        → FaultIs (IsEmbedTextFault text name) result }
+    ensures { result ≡ name_stop stop }
 {
     match stop {
         Stop::Fault(fault) => Stop::Fault(EmbedTextFault::Name(fault)),

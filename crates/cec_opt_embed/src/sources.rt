@@ -1,8 +1,8 @@
 // The embedded C of a source.
 
-ghost use Rattle.std.specs.Prelude.{◌≤◌, List, ℕ, Option, length, IfOk, IfErr, option_map};
-ghost use Rattle.base_types.specs.Stops.{FaultIs};
-ghost use Rattle.cec_opt_embed.specs.SourceTexts.{StandsForEmbedded, IsEmbeddedOf, IsEmbedRefused, IsUnnamable};
+ghost use Rattle.std.specs.Prelude.{◌≡◌, ◌≤◌, length, IfOk, IfErr, option_map};
+ghost use Rattle.cec_opt_embed.specs.SourceTexts.{StandsForEmbedded, IsEmbeddedOf, IsEmbedRefused};
+ghost use Rattle.cec_opt_embed.specs.Stopping.{refusal_of};
 
 use crate::refusal::EmbedRefusal;
 use base_types::{Limits, Stop};
@@ -44,9 +44,7 @@ pub fn embedded_of<P: Picker>(
 
 // What ended the writing, as a refusal of the source.
 fn refusal_of(stop: Stop<EmbedFault>) -> EmbedRefusal
-    ensures { (bytes : List ℕ) → (main : Option (List ℕ)) → (name : List ℕ)
-        → FaultIs (IsUnnamable bytes main name) stop
-        → IsEmbedRefused bytes main name result }
+    ensures { result ≡ refusal_of stop }
 {
     match stop {
         Stop::Fault(fault) => EmbedRefusal::Name(fault),
