@@ -17,7 +17,7 @@ use Rattle.blif_text.specs.Runs.{circuit_machine}
 use Rattle.csub_text.specs.Written.{shown_by_call}
 use Rattle.csub_embed.specs.declared.fault.EmbedFault.{EmbedFault}
 use Rattle.csub_embed.specs.Faults.{IsEmbedFault, signals, under_name}
-use Rattle.csub_embed.specs.Machine.{Call, items_of}
+use Rattle.csub_embed.specs.Machine.{Call, own_items}
 use Rattle.csub_embed.specs.Written.{Means}
 use Rattle.cec_compile.specs.Meaning.{AreItems, seen_of}
 use Rattle.cec_compile.specs.NetMeaning.{NetKeeps, net_seen}
@@ -29,12 +29,12 @@ use Rattle.cec_opt_texts.specs.declared.fault.OptFault.{OptFault}
 use Rattle.cec_opt_texts.specs.Optimized.{IsSmallNetOf}
 use Rattle.cec_opt_texts.proofs.Exports.{circuit-shows, inputs-kept, named, wide}
 use Rattle.cec_opt_embed.specs.CircuitTexts.{EmbedTextKeeps, IsEmbedTextFault, IsUnnamableText, call_row}
-use Rattle.cec_opt_embed.specs.SourceTexts.{EmbedKeeps, IsEmbedRefused, StandsForEmbedded, IsUnnamable, call_seen}
+use Rattle.cec_opt_embed.specs.SourceTexts.{EmbedKeeps, IsEmbedRefused, StandsForEmbedded, IsUnnamable, reaction_seen}
 use Rattle.cec_opt_embed.specs.Stopping.{name_stop, refusal_of, text_stop}
 
 -- ---- sources
 
-answers-seen : (answers : List Answer) → map call_seen (map shown_by_call (map net_seen answers)) ≡ map seen_of answers
+answers-seen : (answers : List Answer) → map reaction_seen (map shown_by_call (map net_seen answers)) ≡ map seen_of answers
 answers-seen [] = refl
 answers-seen (a ∷ answers) = ap (λ l. seen_of a ∷ l) (answers-seen answers)
 
@@ -46,13 +46,13 @@ embed-keeps text name net p keeps means = record {
   inputs = means.inputs ∙ keeps.inputs;
   outputs = means.outputs ∙ keeps.outputs;
   keeps = λ instances calls k begins fits.
-      let items = items_of k calls in
+      let items = own_items k calls in
       let found = keeps.runs items fits in
       let wide_p : given_count p ≡ length net.inputs = sym (ap length keeps.inputs ∙ omega (arith, length-take (given_count p) p.signals)) in
       let shows = means.shows instances calls k begins (widths p (length net.inputs) wide_p items fits) in (
         found.0,
         found.1,
-        ap (map call_seen) shows ∙ ap (λ l. map call_seen (map shown_by_call l)) found.2 ∙ answers-seen found.0,
+        ap (map reaction_seen) shows ∙ ap (λ l. map reaction_seen (map shown_by_call l)) found.2 ∙ answers-seen found.0,
       );
 }
 
@@ -99,7 +99,7 @@ embedded-text-keeps text name written net s means =
       inputs = means.inputs ∙ inputs-kept c net s.small;
       outputs = subst (HasOutputs c) (sym means.outputs) (named c net s.small);
       shows = λ instances calls k begins fits.
-          let items = items_of k calls in
+          let items = own_items k calls in
           let told = means.shows instances calls k begins (wide c net s.small items fits) in
           subst (λ l. Shows (circuit_machine c) (λ v. map v c.outputs) (circuit_machine c).start items l)
           (sym (ap (map call_row) told ∙ rows (net_run net items))) (circuit-shows c net s.small items fits);

@@ -8,7 +8,7 @@ use Rattle.blif_text.specs.Runs.{circuit_machine}
 use Rattle.net_ir.specs.Netlists.{Netlist}
 use Rattle.csub_embed.specs.declared.fault.EmbedFault.{EmbedFault}
 use Rattle.csub_embed.specs.Faults.{IsEmbedFault, under_name}
-use Rattle.csub_embed.specs.Machine.{Call, Instances, SeenCall, run_calls, seen_of, items_of, BeginsReset}
+use Rattle.csub_embed.specs.Machine.{Call, InstanceStates, SeenCall, run_calls, own_seen, own_items, BeginsReset}
 use Rattle.csub_embed.specs.Texts.{Describes}
 use Rattle.csub_embed.specs.Trees.{Component}
 use Rattle.csub_embed.specs.Written as embedded
@@ -34,10 +34,10 @@ pub record EmbedTextKeeps (text name written : List ℕ) : Type 0 where
   pub named : component.name ≡ name
   pub inputs : component.inputs ≡ circuit.inputs
   pub outputs : HasOutputs circuit component.outputs
-  pub shows : (instances : Instances) (calls : List Call) (k : ℕ) → BeginsReset (items_of k calls)
-      → EachEvent (FitsCircuit circuit) (items_of k calls)
-      → Shows (circuit_machine circuit) (λ v. map v circuit.outputs) (circuit_machine circuit).start (items_of k calls)
-      (map call_row (seen_of k (run_calls component instances calls)))
+  pub shows : (instances : InstanceStates) (calls : List Call) (k : ℕ) → BeginsReset (own_items k calls)
+      → EachEvent (FitsCircuit circuit) (own_items k calls)
+      → Shows (circuit_machine circuit) (λ v. map v circuit.outputs) (circuit_machine circuit).start (own_items k calls)
+      (map call_row (own_seen k (run_calls component instances calls)))
 
 -- the text is that of the optimized netlist of the circuit, under the name
 pub record IsEmbeddedTextOf (text name written : List ℕ) : Type 0 where

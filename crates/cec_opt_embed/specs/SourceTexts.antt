@@ -6,7 +6,7 @@ use Rattle.est_kernel.specs.Reactions.{Answer, run_of}
 use Rattle.net_ir.specs.Netlists.{Netlist}
 use Rattle.csub_embed.specs.declared.fault.EmbedFault.{EmbedFault}
 use Rattle.csub_embed.specs.Faults.{IsEmbedFault, under_name}
-use Rattle.csub_embed.specs.Machine.{Call, Instances, SeenCall, run_calls, seen_of, items_of, BeginsReset}
+use Rattle.csub_embed.specs.Machine.{Call, InstanceStates, SeenCall, run_calls, own_seen, own_items, BeginsReset}
 use Rattle.csub_embed.specs.Texts.{Describes}
 use Rattle.csub_embed.specs.Trees.{Component}
 use Rattle.csub_embed.specs.Written as embedded
@@ -17,8 +17,8 @@ use Rattle.cec_opt_embed.specs.declared.refusal.EmbedRefusal.{EmbedRefusal}
 use Rattle.cec_opt_embed.specs.declared.refusal.EmbedRefusal.TheVariants as refusals
 
 -- what is seen of a call: the outputs, and whether the instance is still active
-abbrev pub call_seen : SeenCall → Seen
-call_seen s = record { outputs = s.outputs; paused = s.answer }
+abbrev pub reaction_seen : SeenCall → Seen
+reaction_seen s = record { outputs = s.outputs; paused = s.answer }
 
 -- A text describes a component with the name, and with one member for each given and each outgoing signal, in declared
 -- order. Any number of instances of it are called, in any order, and whatever they hold before. Take an instance that is
@@ -30,10 +30,10 @@ pub record EmbedKeeps (text name : List ℕ) (p : Program) : Type 0 where
   pub named : component.name ≡ name
   pub inputs : component.inputs ≡ given_names p
   pub outputs : component.outputs ≡ outgoing_names p
-  pub keeps : (instances : Instances) (calls : List Call) (k : ℕ) → BeginsReset (items_of k calls)
-      → AreItems p (items_of k calls)
-      → (answers : List Answer) × (run_of p (items_of k calls) ≡ Some answers)
-      × (map call_seen (seen_of k (run_calls component instances calls)) ≡ map answer_seen answers)
+  pub keeps : (instances : InstanceStates) (calls : List Call) (k : ℕ) → BeginsReset (own_items k calls)
+      → AreItems p (own_items k calls)
+      → (answers : List Answer) × (run_of p (own_items k calls) ≡ Some answers)
+      × (map reaction_seen (own_seen k (run_calls component instances calls)) ≡ map answer_seen answers)
 
 -- the bytes stand for a program that compiles, and the text keeps what it means
 pub record StandsForEmbedded (text : List ℕ) (main : Option (List ℕ)) (name written : List ℕ) : Type 0 where

@@ -9,7 +9,7 @@ use Rattle.net_ir.specs.NameLists.{is_among}
 use Rattle.csub_text.specs.Machine.{Memory, with_value, with_inputs}
 use Rattle.csub_embed.specs.Machine.{Frame, place_value, value_at, run_locals, run_shown, run_kept, reset}
 use Rattle.csub_embed.specs.Names.{name_of_local}
-use Rattle.csub_embed.specs.Trees.{StateVariable, Place, State, Given, Local, Copy, LocalValue, Store, name_of_state}
+use Rattle.csub_embed.specs.Trees.{StateVariable, Place, State, Given, Local, Copy, LocalValue, Transfer, name_of_state}
 
 -- ---- locals
 
@@ -75,7 +75,7 @@ locals-copy (l ∷ locals) f differ (suc k) d p h is past =
 -- ---- outputs
 
 -- setting outputs changes no place
-pub shown-place : (stores : List Store) (f : Frame) (p : Place) → place_value (run_shown stores f) p ≡ place_value f p
+pub shown-place : (stores : List Transfer) (f : Frame) (p : Place) → place_value (run_shown stores f) p ≡ place_value f p
 shown-place [] f (State name) = refl
 shown-place [] f (Given name) = refl
 shown-place [] f (Local name) = refl
@@ -83,17 +83,17 @@ shown-place (s ∷ stores) f (State name) = shown-place stores (record f { shown
 shown-place (s ∷ stores) f (Given name) = shown-place stores (record f { shown = with_value s.member (place_value f s.from) f.shown }) (Given name)
 shown-place (s ∷ stores) f (Local name) = shown-place stores (record f { shown = with_value s.member (place_value f s.from) f.shown }) (Local name)
 
-abbrev pub members : List Store → List (List ℕ)
+abbrev pub members : List Transfer → List (List ℕ)
 members stores = map (λ s. s.member) stores
 
-pub shown-other : (stores : List Store) (f : Frame) (x : List ℕ) → is_among x (members stores) ≡ false → (run_shown stores f).shown x ≡ f.shown x
+pub shown-other : (stores : List Transfer) (f : Frame) (x : List ℕ) → is_among x (members stores) ≡ false → (run_shown stores f).shown x ≡ f.shown x
 shown-other [] f x none = refl
 shown-other (s ∷ stores) f x none =
     let parts = or_parts (is_same_name x s.member) (is_among x (members stores)) none in
     shown-other stores (record f { shown = with_value s.member (place_value f s.from) f.shown }) x parts.1
     ∙ ap (λ b. if b then place_value f s.from else f.shown x) parts.0
 
-pub shown-set : (stores : List Store) (f : Frame) → all_differ is_same_name (members stores) ≡ true → (k : ℕ) (d : Store) → k < length stores
+pub shown-set : (stores : List Transfer) (f : Frame) → all_differ is_same_name (members stores) ≡ true → (k : ℕ) (d : Transfer) → k < length stores
     → (run_shown stores f).shown (get_or stores k d).member ≡ place_value f (get_or stores k d).from
 shown-set [] f differ k d h = absurd (omega arith)
 shown-set (s ∷ stores) f differ zero d h =
@@ -109,15 +109,15 @@ shown-set (s ∷ stores) f differ (suc k) d h =
 -- ---- states
 
 -- setting states changes no output, and no local
-pub kept-shown : (stores : List Store) (f : Frame) → (run_kept stores f).shown ≡ f.shown
+pub kept-shown : (stores : List Transfer) (f : Frame) → (run_kept stores f).shown ≡ f.shown
 kept-shown [] f = refl
 kept-shown (s ∷ stores) f = kept-shown stores (record f { state = with_value s.member (place_value f s.from) f.state })
 
-pub kept-local : (stores : List Store) (f : Frame) → (run_kept stores f).local ≡ f.local
+pub kept-local : (stores : List Transfer) (f : Frame) → (run_kept stores f).local ≡ f.local
 kept-local [] f = refl
 kept-local (s ∷ stores) f = kept-local stores (record f { state = with_value s.member (place_value f s.from) f.state })
 
-pub kept-other : (stores : List Store) (f : Frame) (x : List ℕ) → is_among x (members stores) ≡ false → (run_kept stores f).state x ≡ f.state x
+pub kept-other : (stores : List Transfer) (f : Frame) (x : List ℕ) → is_among x (members stores) ≡ false → (run_kept stores f).state x ≡ f.state x
 kept-other [] f x none = refl
 kept-other (s ∷ stores) f x none =
     let parts = or_parts (is_same_name x s.member) (is_among x (members stores)) none in
@@ -125,7 +125,7 @@ kept-other (s ∷ stores) f x none =
     ∙ ap (λ b. if b then place_value f s.from else f.state x) parts.0
 
 -- states that are set from locals
-pub kept-set : (stores : List Store) (f : Frame) → all_differ is_same_name (members stores) ≡ true → (k : ℕ) (d : Store) (x : List ℕ) → k < length stores
+pub kept-set : (stores : List Transfer) (f : Frame) → all_differ is_same_name (members stores) ≡ true → (k : ℕ) (d : Transfer) (x : List ℕ) → k < length stores
     → (get_or stores k d).from ≡ Local x → (run_kept stores f).state (get_or stores k d).member ≡ f.local x
 kept-set [] f differ k d x h is = absurd (omega arith)
 kept-set (s ∷ stores) f differ zero d x h is =

@@ -15,9 +15,9 @@ use Rattle.net_writer.proofs.Exports.{joined-numbered, joined-mapped, joined-eac
 use Rattle.csub_embed.specs.Grammar.{self_word, out_word}
 use Rattle.csub_embed.specs.Texts.{first_lines, last_line}
 use Rattle.csub_embed.specs.Trees.{Local, name_of_state}
-use Rattle.csub_embed.specs.Written.{state_name, running_name, net_state, gate_local, next_local, running_local, output_store, state_store, net_ignored}
+use Rattle.csub_embed.specs.Written.{state_word, running_word, net_state, gate_local, next_local, running_local, output_store, state_store, net_ignored}
 use Rattle.csub_embed.specs.Written.{comment, open_text, member_line, unused_line, close_text, reset_head, ignored_line, untouched_line, first_line, react_head}
-use Rattle.csub_embed.specs.Written.{local_line, store_line, answer_lines, net_component, written}
+use Rattle.csub_embed.specs.Written.{local_line, store_line, return_lines, net_component, written}
 use Rattle.csub_embed.specs.Parts.{head_text, states_end, inputs_end, outputs_end, react_text, end_text, parts_in}
 use Rattle.csub_embed.specs.declared.parts.TheConstants.{SECTIONS}
 
@@ -54,18 +54,18 @@ text net states u1 u3 untouched =
     ++ (reset_head net.name ++ (flat_map first_line (net_component net).states ++ (untouched ++ (react_head net.name
     ++ (flat_map ignored_line (net_ignored net) ++ (flat_map local_line (net_component net).locals
     ++ (flat_map (store_line out_word) (net_component net).shown ++ (flat_map (store_line self_word) (net_component net).kept
-    ++ answer_lines (Local running_name))))))))))))) ++ last_line)
+    ++ return_lines (Local running_word))))))))))))) ++ last_line)
 
 pub written-joined : (net : Netlist) → joined (flat_map (parts_in net) SECTIONS) ≡ written net
 written-joined net =
     let from : ℕ → List (List ℕ) = λ n. flat_map (parts_in net) (drop n SECTIONS) in
-    let states = numbered (λ j (latch : Latch). state_name j) 0 net.latches in
+    let states = numbered (λ j (latch : Latch). state_word j) 0 net.latches in
     let named : states ≡ map name_of_state (net_component net).states = sym (map-numbered name_of_state net_state 0 net.latches) in
     let type = close_text (net.name ++ codes "_t") in
     let inputs_type = close_text (net.name ++ codes "_inputs_t") in
     let outputs_type = close_text (net.name ++ codes "_outputs_t") in
     joined-one (head_text net.name) (from 1)
-    (joined-numbered member_line (λ j (latch : Latch). state_name j) 0 net.latches (from 2)
+    (joined-numbered member_line (λ j (latch : Latch). state_word j) 0 net.latches (from 2)
     (joined-one (states_end net) (from 3)
     (joined-each member_line net.inputs (from 4)
     (joined-one (inputs_end net) (from 5)
@@ -83,7 +83,7 @@ written-joined net =
     (flat_map member_line net.inputs) (unused_line net.inputs) inputs_type (flat_map member_line (output_names net)) (unused_line net.outputs) outputs_type
     (reset_head net.name) (flat_map first_line (net_component net).states) (untouched_line net.latches) (react_head net.name)
     (flat_map ignored_line (net_ignored net)) (flat_map (store_line out_word) (net_component net).shown)
-    (flat_map (store_line self_word) (net_component net).kept) (answer_lines (Local running_name)) last_line (numbered (gate_local net) 0 net.gates)
+    (flat_map (store_line self_word) (net_component net).kept) (return_lines (Local running_word)) last_line (numbered (gate_local net) 0 net.gates)
     (numbered (next_local net) 0 net.latches) (running_local net)
     ∙ ap (λ l. text net l (unused_line net.latches) (unused_line net.outputs) (untouched_line net.latches)) named
     ∙ ap (λ l. text net (map name_of_state (net_component net).states) l (unused_line net.outputs) (untouched_line net.latches)) (sym (unused-states net.latches 0))

@@ -13,7 +13,7 @@ use Rattle.net_expressions.specs.Lexemes.{PlacedToken, token_of, tokens_behind, 
 use Rattle.net_expressions.proofs.Saying as saying
 use Rattle.net_expressions.proofs.Exports.{FrontsNames, begins_high, bytes-name}
 use Rattle.csub_embed.specs.Grammar.{semicolon, equals, arrow, star, comma, self_word, in_word, out_word, open_kinds, unused_kinds, bit_kind}
-use Rattle.csub_embed.specs.Names.{is_word}
+use Rattle.csub_embed.specs.Names.{is_identifier}
 use Rattle.csub_embed.specs.Tokens.{Kind, Word, Mark, Bad, front, comment_front}
 use Rattle.csub_embed.specs.Written.{line_end, open_text, comment, bit_text}
 
@@ -43,13 +43,13 @@ pub says-word : (name : List ℕ) (d : ℕ) (ds : List ℕ) (ks : List Kind) →
     → Says (name ++ d ∷ ds) (Word name ∷ ks)
 says-word = saying.says-name Bad front Word Word fronts-names
 
-pub spelled-word : (name : List ℕ) → is_word name ≡ true → IsSpelledWord name
+pub spelled-word : (name : List ℕ) → is_identifier name ≡ true → IsSpelledWord name
 spelled-word [] fits = absurd (false≢true fits)
 spelled-word (c ∷ cs) fits =
     let parts = and_parts (begins_name c) (list_all is_name_byte cs) fits in
     record { head = c; rest = cs; is = refl; begins = parts.0; bytes = parts.1; free = refl }
 
-pub word-name : (name : List ℕ) → is_name name ≡ true → is_word name ≡ true
+pub word-name : (name : List ℕ) → is_name name ≡ true → is_identifier name ≡ true
 word-name [] fits = fits
 word-name (c ∷ cs) fits =
     let parts = and_parts (is_letter c) (list_all is_name_byte cs) fits in

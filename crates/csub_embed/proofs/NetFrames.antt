@@ -17,26 +17,26 @@ use Rattle.net_expressions.proofs.Exports.{any_gate, gate-low}
 use Rattle.csub_text.specs.Machine.{with_value}
 use Rattle.csub_embed.specs.Machine.{Frame, place_value, value_at, run_locals}
 use Rattle.csub_embed.specs.Trees.{Place, State, Given, Local}
-use Rattle.csub_embed.specs.Written.{state_name, gate_name, place_of, op_value_of, gate_local}
+use Rattle.csub_embed.specs.Written.{state_word, gate_word, place_of, op_value_of, gate_local}
 
 -- ---- the place of a net
 
 pub place-input : (net : Netlist) (n : ℕ) → n < length net.inputs → place_of net n ≡ Given (get_or net.inputs n [])
 place-input net n h = rw (lt-ltb n (length net.inputs) h) refl
 
-pub place-state : (net : Netlist) (j : ℕ) → j < length net.latches → place_of net (length net.inputs + j) ≡ State (state_name j)
+pub place-state : (net : Netlist) (j : ℕ) → j < length net.latches → place_of net (length net.inputs + j) ≡ State (state_word j)
 place-state net j h =
     let e : length net.inputs + j - length net.inputs ≡ j = omega arith in
     rw (
       le-ltb (length net.inputs + j) (length net.inputs) (omega arith),
       lt-ltb (length net.inputs + j) (length net.inputs + length net.latches) (omega arith),
-    ) (ap (λ i. State (state_name i)) e)
+    ) (ap (λ i. State (state_word i)) e)
 
-pub place-gate : (net : Netlist) (k : ℕ) → k < length net.gates → place_of net (first_gate net + k) ≡ Local (gate_name k)
+pub place-gate : (net : Netlist) (k : ℕ) → k < length net.gates → place_of net (first_gate net + k) ≡ Local (gate_word k)
 place-gate net k h =
     let e : first_gate net + k - first_gate net ≡ k = omega arith in
     rw (le-ltb (first_gate net + k) (length net.inputs) (omega arith), le-ltb (first_gate net + k) (first_gate net) (omega arith))
-    (ap (λ i. Local (gate_name i)) e)
+    (ap (λ i. Local (gate_word i)) e)
 
 -- ---- gates
 
@@ -53,18 +53,18 @@ op-value-at f place (ops.Or m n) = refl
 
 -- a gate's local changes the value of no other place of a net
 place-kept : (net : Netlist) → IsWritable net → (n : ℕ) → n < length net.gates → (f : Frame) (value : Bool) (i : ℕ) → i < first_gate net + n
-    → place_value (record f { local = with_value (gate_name n) value f.local }) (place_of net i) ≡ place_value f (place_of net i)
+    → place_value (record f { local = with_value (gate_word n) value f.local }) (place_of net i) ≡ place_value f (place_of net i)
 place-kept net is n low f value i h =
     let few = is.is_net.numbered in
-    let g : Frame = record f { local = with_value (gate_name n) value f.local } in
+    let g : Frame = record f { local = with_value (gate_word n) value f.local } in
     net_cases net i (omega arith)
     (λ input. ap (place_value g) (place-input net i input) ∙ ap (place_value f) (sym (place-input net i input)))
     (λ j state e.
-    let at : place_of net i ≡ State (state_name j) = ap (place_of net) e ∙ place-state net j state in ap (place_value g) at ∙ ap (place_value f) (sym at))
+    let at : place_of net i ≡ State (state_word j) = ap (place_of net) e ∙ place-state net j state in ap (place_value g) at ∙ ap (place_value f) (sym at))
     (λ k gate e.
-    let at : place_of net i ≡ Local (gate_name k) = ap (place_of net) e ∙ place-gate net k gate in
-    let other : is_same_name (gate_name k) (gate_name n) ≡ false = differ-decimal k n (omega arith) (omega arith) (λ same. let l : k < n = omega arith in absurd (omega (arith, l, same))) in
-    ap (place_value g) at ∙ ap (λ b. if b then value else f.local (gate_name k)) other ∙ ap (place_value f) (sym at))
+    let at : place_of net i ≡ Local (gate_word k) = ap (place_of net) e ∙ place-gate net k gate in
+    let other : is_same_name (gate_word k) (gate_word n) ≡ false = differ-decimal k n (omega arith) (omega arith) (λ same. let l : k < n = omega arith in absurd (omega (arith, l, same))) in
+    ap (place_value g) at ∙ ap (λ b. if b then value else f.local (gate_word k)) other ∙ ap (place_value f) (sym at))
 
 pub gates-run : (net : Netlist) → IsWritable net → (n : ℕ) (gates : List Gate) (f : Frame) (values : List Bool)
     → ((k : ℕ) → k < length gates → get_or gates k any_gate ≡ get_or net.gates (n + k) any_gate) → n + length gates ≡ length net.gates
@@ -80,14 +80,14 @@ gates-run net is n (g ∷ gates) f values same all wide has i h =
     let reads : operand_end g.op ≤ first_gate net + n = subst (λ (g : Gate). operand_end g.op ≤ first_gate net + n) (sym here) (gate-low net is n low) in
     let is-v : value ≡ v = op-value-at f (place_of net) g.op ∙ op_value-same (λ i. place_value f (place_of net i)) (value_in values) g.op
     (first_gate net + n) reads has in
-    let next : Frame = record f { local = with_value (gate_name n) value f.local } in
+    let next : Frame = record f { local = with_value (gate_word n) value f.local } in
     let longer = length_push values v in
     let more : Has net (first_gate net + (n + 1)) next (values ++ v ∷ []) = λ i h. elim (cases_lt i (first_gate net + n)) [
       | inl below ↦ place-kept net is n low f value i below ∙ has i below ∙ sym (get_or_append_left values (v ∷ []) false i (omega arith))
       | inr last ↦
           let e : i ≡ first_gate net + n = omega arith in
           ap (place_value next) (ap (place_of net) e ∙ place-gate net n low)
-          ∙ ap (λ b. if b then value else f.local (gate_name n)) (same_name-self (gate_name n)) ∙ is-v ∙ sym (get_or_push values v false i (wide ∙ sym e))
+          ∙ ap (λ b. if b then value else f.local (gate_word n)) (same_name-self (gate_word n)) ∙ is-v ∙ sym (get_or_push values v false i (wide ∙ sym e))
     ] in
     let rest = gates-run net is (n + 1) gates next (values ++ v ∷ [])
     (λ k h. let s : n + suc k ≡ n + 1 + k = omega arith in same (suc k) (omega arith) ∙ ap (λ j. get_or net.gates j any_gate) s) (omega arith)

@@ -19,11 +19,11 @@ use Rattle.net_expressions.proofs.Exports.{any_latch, any_output}
 use Rattle.csub_text.specs.Machine.{Memory, with_inputs}
 use Rattle.csub_text.specs.Written.{shown_by_call}
 use Rattle.csub_embed.specs.Faults.{IsEmbeddable}
-use Rattle.csub_embed.specs.Machine.{Frame, Call, Instances, SeenCall, SeenOf, react, reset, seen, with_instance, state_after, seen_after, run_calls, seen_of, items_of}
+use Rattle.csub_embed.specs.Machine.{Frame, Call, InstanceStates, SeenCall, SeenOf, react, reset, seen, with_instance, left_state, seen_after, run_calls, own_seen, own_items}
 use Rattle.csub_embed.specs.Machine.{BeginsReset}
 use Rattle.csub_embed.specs.Texts.{Describes, first_lines, last_line}
 use Rattle.csub_embed.specs.Trees.{StateVariable, Component, name_of_state}
-use Rattle.csub_embed.specs.Written.{state_name, net_state, net_component, body_text, written, Means}
+use Rattle.csub_embed.specs.Written.{state_word, net_state, net_component, body_text, written, Means}
 use Rattle.csub_embed.proofs.Frames.{reset-set}
 use Rattle.csub_embed.proofs.NetCalls.{Keeps, Leaves, call-leaves}
 use Rattle.csub_embed.proofs.NetNames.{differ-states}
@@ -90,7 +90,7 @@ tested true here there = here refl
 tested false here there = there refl
 
 tagged-apart : (j k : ℕ) (xs : List SeenCall) (rest : List SeenOf) → nat_eq j k ≡ false
-    → seen_of k (map (λ s. record { instance = j; seen = s }) xs ++ rest) ≡ seen_of k rest
+    → own_seen k (map (λ s. record { instance = j; seen = s }) xs ++ rest) ≡ own_seen k rest
 tagged-apart j k [] rest other = refl
 tagged-apart j k (x ∷ xs) rest other =
     ap (λ b. map (λ (s : SeenOf). s.seen) (if b then record { instance = j; seen = x } ∷ filter (λ (s : SeenOf). nat_eq s.instance k)
@@ -99,7 +99,7 @@ tagged-apart j k (x ∷ xs) rest other =
     ∙ tagged-apart j k xs rest other
 
 tagged-own : (j k : ℕ) (xs : List SeenCall) (rest : List SeenOf) → nat_eq j k ≡ true
-    → seen_of k (map (λ s. record { instance = j; seen = s }) xs ++ rest) ≡ xs ++ seen_of k rest
+    → own_seen k (map (λ s. record { instance = j; seen = s }) xs ++ rest) ≡ xs ++ own_seen k rest
 tagged-own j k [] rest same = refl
 tagged-own j k (x ∷ xs) rest same =
     ap (λ b. map (λ (s : SeenOf). s.seen) (if b then record { instance = j; seen = x } ∷ filter (λ (s : SeenOf). nat_eq s.instance k)
@@ -108,12 +108,12 @@ tagged-own j k (x ∷ xs) rest same =
     ∙ ap (λ l. x ∷ l) (tagged-own j k xs rest same)
 
 -- the items of the calls from a call on
-items-apart : (k : ℕ) (x : Call) (calls : List Call) → nat_eq x.instance k ≡ false → items_of k (x ∷ calls) ≡ items_of k calls
+items-apart : (k : ℕ) (x : Call) (calls : List Call) → nat_eq x.instance k ≡ false → own_items k (x ∷ calls) ≡ own_items k calls
 items-apart k x calls other =
     ap (λ b. map (λ (y : Call). y.item) (if b then x ∷ filter (λ (y : Call). nat_eq y.instance k) calls
     else filter (λ (y : Call). nat_eq y.instance k) calls)) other
 
-items-own : (k : ℕ) (x : Call) (calls : List Call) → nat_eq x.instance k ≡ true → items_of k (x ∷ calls) ≡ x.item ∷ items_of k calls
+items-own : (k : ℕ) (x : Call) (calls : List Call) → nat_eq x.instance k ≡ true → own_items k (x ∷ calls) ≡ x.item ∷ own_items k calls
 items-own k x calls same =
     ap (λ b. map (λ (y : Call). y.item) (if b then x ∷ filter (λ (y : Call). nat_eq y.instance k) calls
     else filter (λ (y : Call). nat_eq y.instance k) calls)) same
@@ -126,23 +126,23 @@ module _ (net : Netlist) (is : IsWritable net) (k : ℕ) where
   Fits inputs = length inputs ≡ length net.inputs
 
   abbrev Told : List Call → Type 0
-  Told calls = (instances : Instances) (known : Option (List Bool)) → Knows net (instances k) known (items_of k calls) → EachEvent Fits (items_of k calls)
-      → seen_of k (run_calls c instances calls) ≡ map (λ v. shown_by_call (shown net v)) (shown_from net known (items_of k calls))
+  Told calls = (instances : InstanceStates) (known : Option (List Bool)) → Knows net (instances k) known (own_items k calls) → EachEvent Fits (own_items k calls)
+      → own_seen k (run_calls c instances calls) ≡ map (λ v. shown_by_call (shown net v)) (shown_from net known (own_items k calls))
 
   -- an own call
-  own : (x : Call) (calls : List Call) → nat_eq x.instance k ≡ true → x.instance ≡ k → Told calls → (instances : Instances) (known : Option (List Bool))
-      → Knows net (instances k) known (x.item ∷ items_of k calls) → EachEvent Fits (x.item ∷ items_of k calls)
+  own : (x : Call) (calls : List Call) → nat_eq x.instance k ≡ true → x.instance ≡ k → Told calls → (instances : InstanceStates) (known : Option (List Bool))
+      → Knows net (instances k) known (x.item ∷ own_items k calls) → EachEvent Fits (x.item ∷ own_items k calls)
       → seen_after c x.item x.around (instances x.instance)
-      ++ seen_of k (run_calls c (with_instance x.instance (state_after c x.item x.around (instances x.instance)) instances) calls)
-      ≡ map (λ v. shown_by_call (shown net v)) (shown_from net known (x.item ∷ items_of k calls))
+      ++ own_seen k (run_calls c (with_instance x.instance (left_state c x.item x.around (instances x.instance)) instances) calls)
+      ≡ map (λ v. shown_by_call (shown net v)) (shown_from net known (x.item ∷ own_items k calls))
   own x calls same at later instances known knows fits = go x.item known knows fits
     where
       here : (s : Memory) → with_instance x.instance s instances k ≡ s
       here s = ap (λ b. if b then s else instances k) same
 
-      go : (item : Item) (known : Option (List Bool)) → Knows net (instances k) known (item ∷ items_of k calls) → EachEvent Fits (item ∷ items_of k calls)
-          → seen_after c item x.around (instances x.instance) ++ seen_of k (run_calls c (with_instance x.instance (state_after c item x.around (instances x.instance)) instances) calls)
-          ≡ map (λ v. shown_by_call (shown net v)) (shown_from net known (item ∷ items_of k calls))
+      go : (item : Item) (known : Option (List Bool)) → Knows net (instances k) known (item ∷ own_items k calls) → EachEvent Fits (item ∷ own_items k calls)
+          → seen_after c item x.around (instances x.instance) ++ own_seen k (run_calls c (with_instance x.instance (left_state c item x.around (instances x.instance)) instances) calls)
+          ≡ map (λ v. shown_by_call (shown net v)) (shown_from net known (item ∷ own_items k calls))
       go (Event inputs) None knows fits = absurd knows
       go (Event inputs) (Some latches) knows fits =
           let values = net_values net latches inputs in
@@ -158,8 +158,8 @@ module _ (net : Netlist) (is : IsWritable net) (k : ℕ) where
           (subst (λ m. Keeps net m (initial_latches net)) (sym (here (reset c.states (instances x.instance)))) (kept-reset net is (instances x.instance)), wide) fits in
           rest ∙ from-reset known
         where
-          from-reset : (known : Option (List Bool)) → map (λ v. shown_by_call (shown net v)) (values_from net (initial_latches net) (items_of k calls))
-              ≡ map (λ v. shown_by_call (shown net v)) (shown_from net known (Reset ∷ items_of k calls))
+          from-reset : (known : Option (List Bool)) → map (λ v. shown_by_call (shown net v)) (values_from net (initial_latches net) (own_items k calls))
+              ≡ map (λ v. shown_by_call (shown net v)) (shown_from net known (Reset ∷ own_items k calls))
           from-reset None = refl
           from-reset (Some latches) = refl
 
@@ -168,7 +168,7 @@ module _ (net : Netlist) (is : IsWritable net) (k : ℕ) where
   calls-shown [] instances (Some latches) knows fits = refl
   calls-shown (x ∷ calls) instances known knows fits =
       let state = instances x.instance in
-      let rest = run_calls c (with_instance x.instance (state_after c x.item x.around state) instances) calls in
+      let rest = run_calls c (with_instance x.instance (left_state c x.item x.around state) instances) calls in
       let P : List Item → Type 0 = λ items. Knows net (instances k) known items in
       let Q : List Item → Type 0 = EachEvent Fits in
       tested (nat_eq x.instance k)
@@ -179,11 +179,11 @@ module _ (net : Netlist) (is : IsWritable net) (k : ℕ) where
       ∙ ap (λ l. map (λ v. shown_by_call (shown net v)) (shown_from net known l)) (sym items))
       (λ other.
       let items = items-apart k x calls other in
-      let stays : with_instance x.instance (state_after c x.item x.around state) instances k ≡ instances k =
-      ap (λ b. if b then state_after c x.item x.around state else instances k) other in
+      let stays : with_instance x.instance (left_state c x.item x.around state) instances k ≡ instances k =
+      ap (λ b. if b then left_state c x.item x.around state else instances k) other in
       tagged-apart x.instance k (seen_after c x.item x.around state) rest other
-      ∙ calls-shown calls (with_instance x.instance (state_after c x.item x.around state) instances) known
-      (subst (λ m. Knows net m known (items_of k calls)) (sym stays) (subst P items knows)) (subst Q items fits)
+      ∙ calls-shown calls (with_instance x.instance (left_state c x.item x.around state) instances) known
+      (subst (λ m. Knows net m known (own_items k calls)) (sym stays) (subst P items knows)) (subst Q items fits)
       ∙ ap (λ l. map (λ v. shown_by_call (shown net v)) (shown_from net known l)) (sym items))
 
 -- ---- the text
@@ -205,5 +205,5 @@ Means-written net is fits = record {
   outputs = refl;
   states = refl;
   shows = λ instances calls k begins widths.
-      calls-shown net is k calls instances None begins widths ∙ map-composed shown_by_call (shown net) (net_values_run net (items_of k calls));
+      calls-shown net is k calls instances None begins widths ∙ map-composed shown_by_call (shown net) (net_values_run net (own_items k calls));
 }

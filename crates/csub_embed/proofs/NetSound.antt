@@ -24,8 +24,8 @@ use Rattle.net_expressions.proofs.Exports.{among-left, among-numbered, among-rig
 use Rattle.csub_embed.specs.Faults.{IsEmbeddable, signals}
 use Rattle.csub_embed.specs.Grammar.{self_word, in_word, out_word}
 use Rattle.csub_embed.specs.Names.{IsFree, IsTypeName, IsDeclared, ReadsDeclared, LocalsRead, IsSound, is_reserved, local_names, name_of_local, parameters}
-use Rattle.csub_embed.specs.Trees.{StateVariable, Place, State, Given, Local, Value, LocalValue, Store, name_of_state}
-use Rattle.csub_embed.specs.Written.{state_name, gate_name, next_name, running_name, net_state, place_of, op_value_of, gate_local, next_local, running_local}
+use Rattle.csub_embed.specs.Trees.{StateVariable, Place, State, Given, Local, Value, LocalValue, Transfer, name_of_state}
+use Rattle.csub_embed.specs.Written.{state_word, gate_word, next_word, running_word, net_state, place_of, op_value_of, gate_local, next_local, running_local}
 use Rattle.csub_embed.specs.Written.{output_store, state_store, where_empty, where_unread, reads_input, net_ignored, net_locals, net_component}
 use Rattle.csub_embed.proofs.Lexing.{IsSpelledWord, spelled-word}
 use Rattle.csub_embed.proofs.NetFrames.{place-input, place-state, place-gate}
@@ -73,21 +73,21 @@ module _ (net : Netlist) (is : IsWritable net) where
 
   frees-locals : All IsFree (local_words net)
   frees-locals =
-      All-append IsFree (gate_words net) _ (All-numbered IsFree (λ k (gate : Gate). gate_name k) 0 net.gates (λ k d h. free-gate (0 + k) (omega (arith, few))))
-      (All-append IsFree (next_words net) (running_name ∷ [])
-      (All-numbered IsFree (λ j (latch : Latch). next_name j) 0 net.latches (λ k d h. free-next (0 + k) (omega (arith, few))))
-      (one IsFree running_name free-running))
+      All-append IsFree (gate_words net) _ (All-numbered IsFree (λ k (gate : Gate). gate_word k) 0 net.gates (λ k d h. free-gate (0 + k) (omega (arith, few))))
+      (All-append IsFree (next_words net) (running_word ∷ [])
+      (All-numbered IsFree (λ j (latch : Latch). next_word j) 0 net.latches (λ k d h. free-next (0 + k) (omega (arith, few))))
+      (one IsFree running_word free-running))
 
   -- ---- what is read is declared
 
   declared-place : (before : List (List ℕ)) (n : ℕ) → n < net_count net
-      → ((k : ℕ) → k < length net.gates → n ≡ first_gate net + k → is_among (gate_name k) before ≡ true)
+      → ((k : ℕ) → k < length net.gates → n ≡ first_gate net + k → is_among (gate_word k) before ≡ true)
       → IsDeclared (net_component net) before (place_of net n)
   declared-place before n h gates = net_cases net n h
       (λ low. subst (IsDeclared (net_component net) before) (sym (place-input net n low))
       (list_any_at (is_same_name (get_or net.inputs n [])) net.inputs n [] low (same_name-self (get_or net.inputs n []))))
       (λ j low e. subst (IsDeclared (net_component net) before) (sym (ap (place_of net) e ∙ place-state net j low))
-      (ap (is_among (state_name j)) (states-net net) ∙ among-numbered (λ j latch. state_name j) net.latches j any_latch low))
+      (ap (is_among (state_word j)) (states-net net) ∙ among-numbered (λ j latch. state_word j) net.latches j any_latch low))
       (λ k low e. subst (IsDeclared (net_component net) before) (sym (ap (place_of net) e ∙ place-gate net k low)) (gates k low e))
 
   reads-op : (before : List (List ℕ)) (op : Op) (end : ℕ) → operand_end op ≤ end
@@ -101,8 +101,8 @@ module _ (net : Netlist) (is : IsWritable net) where
   -- the gates, and what follows them
   gates-read : (before : List (List ℕ)) (n : ℕ) (gates : List Gate) (rest : List LocalValue)
       → ((k : ℕ) → k < length gates → get_or gates k any_gate ≡ get_or net.gates (n + k) any_gate) → n + length gates ≡ length net.gates
-      → ((k : ℕ) → k < n → is_among (gate_name k) before ≡ true)
-      → ((behind : List (List ℕ)) → ((k : ℕ) → k < length net.gates → is_among (gate_name k) behind ≡ true) → LocalsRead (net_component net) behind rest)
+      → ((k : ℕ) → k < n → is_among (gate_word k) before ≡ true)
+      → ((behind : List (List ℕ)) → ((k : ℕ) → k < length net.gates → is_among (gate_word k) behind ≡ true) → LocalsRead (net_component net) behind rest)
       → LocalsRead (net_component net) before (numbered (gate_local net) n gates ++ rest)
   gates-read before n [] rest same all known go = go before (λ k h. known k (omega arith))
   gates-read before n (g ∷ gates) rest same all known go =
@@ -111,27 +111,27 @@ module _ (net : Netlist) (is : IsWritable net) where
       let low : operand_end g.op ≤ first_gate net + n = subst (λ (g : Gate). operand_end g.op ≤ first_gate net + n) (sym here)
       (gate-low net is n (omega arith)) in (
         reads-op before g.op (first_gate net + n) low (λ m h. declared-place before m (omega arith) (λ k h' e. known k (omega arith))),
-        gates-read (gate_name n ∷ before) (n + 1) gates rest
+        gates-read (gate_word n ∷ before) (n + 1) gates rest
             (λ k h. let s : n + suc k ≡ n + 1 + k = omega arith in same (suc k) (omega arith) ∙ ap (λ j. get_or net.gates j any_gate) s) (omega arith)
             (λ k h. elim (cases_lt k n) [
-              | inl below ↦ or_right (is_same_name (gate_name k) (gate_name n)) (is_among (gate_name k) before) (known k below)
+              | inl below ↦ or_right (is_same_name (gate_word k) (gate_word n)) (is_among (gate_word k) before) (known k below)
               | inr last ↦
                   let e : k ≡ n = omega arith in
-                  or_left (is_same_name (gate_name k) (gate_name n)) (is_among (gate_name k) before)
-                  (ap (λ i. is_same_name (gate_name i) (gate_name n)) e ∙ same_name-self (gate_name n))
+                  or_left (is_same_name (gate_word k) (gate_word n)) (is_among (gate_word k) before)
+                  (ap (λ i. is_same_name (gate_word i) (gate_word n)) e ∙ same_name-self (gate_word n))
             ])
             go,
       )
 
   nexts-read : (before : List (List ℕ)) (n : ℕ) (latches : List Latch) (rest : List LocalValue) → All (λ l. l.from.0 < net_count net) latches
-      → ((k : ℕ) → k < length net.gates → is_among (gate_name k) before ≡ true)
-      → ((behind : List (List ℕ)) → ((k : ℕ) → k < length net.gates → is_among (gate_name k) behind ≡ true) → LocalsRead (net_component net) behind rest)
+      → ((k : ℕ) → k < length net.gates → is_among (gate_word k) before ≡ true)
+      → ((behind : List (List ℕ)) → ((k : ℕ) → k < length net.gates → is_among (gate_word k) behind ≡ true) → LocalsRead (net_component net) behind rest)
       → LocalsRead (net_component net) before (numbered (next_local net) n latches ++ rest)
   nexts-read before n [] rest range known go = go before known
   nexts-read before n (l ∷ latches) rest range known go = (
     declared-place before l.from.0 (range 0 l (omega arith)) (λ k h e. known k h),
-    nexts-read (next_name n ∷ before) (n + 1) latches rest (λ k d h. range (suc k) d (omega arith))
-        (λ k h. or_right (is_same_name (gate_name k) (next_name n)) (is_among (gate_name k) before) (known k h)) go,
+    nexts-read (next_word n ∷ before) (n + 1) latches rest (λ k d h. range (suc k) d (omega arith))
+        (λ k h. or_right (is_same_name (gate_word k) (next_word n)) (is_among (gate_word k) before) (known k h)) go,
   )
 
   locals-read : LocalsRead (net_component net) [] (net_locals net)
@@ -141,18 +141,18 @@ module _ (net : Netlist) (is : IsWritable net) where
       (λ behind known. nexts-read behind 0 net.latches (running_local net ∷ []) is.is_net.latches_in_range known
       (λ last gates. (declared-place last net.paused is.is_net.paused_in_range (λ k h e. gates k h), tt)))
 
-  gate-declared : (k : ℕ) → k < length net.gates → is_among (gate_name k) (local_names (net_component net)) ≡ true
-  gate-declared k h = ap (is_among (gate_name k)) (local_names-net net)
-      ∙ among-left (gate_name k) (gate_words net) _ (among-numbered (λ k gate. gate_name k) net.gates k any_gate h)
+  gate-declared : (k : ℕ) → k < length net.gates → is_among (gate_word k) (local_names (net_component net)) ≡ true
+  gate-declared k h = ap (is_among (gate_word k)) (local_names-net net)
+      ∙ among-left (gate_word k) (gate_words net) _ (among-numbered (λ k gate. gate_word k) net.gates k any_gate h)
 
-  next-declared : (j : ℕ) → j < length net.latches → is_among (next_name j) (local_names (net_component net)) ≡ true
-  next-declared j h = ap (is_among (next_name j)) (local_names-net net)
-      ∙ among-right (next_name j) (gate_words net) _
-      (among-left (next_name j) (next_words net) _ (among-numbered (λ j latch. next_name j) net.latches j any_latch h))
+  next-declared : (j : ℕ) → j < length net.latches → is_among (next_word j) (local_names (net_component net)) ≡ true
+  next-declared j h = ap (is_among (next_word j)) (local_names-net net)
+      ∙ among-right (next_word j) (gate_words net) _
+      (among-left (next_word j) (next_words net) _ (among-numbered (λ j latch. next_word j) net.latches j any_latch h))
 
-  running-declared : is_among running_name (local_names (net_component net)) ≡ true
-  running-declared = ap (is_among running_name) (local_names-net net)
-      ∙ among-right running_name (gate_words net) _ (among-right running_name (next_words net) (running_name ∷ []) refl)
+  running-declared : is_among running_word (local_names (net_component net)) ≡ true
+  running-declared = ap (is_among running_word) (local_names-net net)
+      ∙ among-right running_word (gate_words net) _ (among-right running_word (next_words net) (running_word ∷ []) refl)
 
   shown-read : All (λ s. IsDeclared (net_component net) (local_names (net_component net)) s.from) (map (output_store net) net.outputs)
   shown-read = All-map (λ s. IsDeclared (net_component net) (local_names (net_component net)) s.from) (output_store net) net.outputs
@@ -162,7 +162,7 @@ module _ (net : Netlist) (is : IsWritable net) where
   kept-read : All (λ s. IsDeclared (net_component net) (local_names (net_component net)) s.from) (numbered state_store 0 net.latches)
   kept-read = All-numbered (λ s. IsDeclared (net_component net) (local_names (net_component net)) s.from) state_store 0 net.latches
       (λ k d h. let z : 0 + k ≡ k = omega arith in
-      subst (λ i. is_among (next_name i) (local_names (net_component net)) ≡ true) (sym z) (next-declared k h))
+      subst (λ i. is_among (next_word i) (local_names (net_component net)) ≡ true) (sym z) (next-declared k h))
 
   -- ---- parameters
 
@@ -200,8 +200,8 @@ module _ (net : Netlist) (is : IsWritable net) where
     shown_read = all-recursive (λ s. IsDeclared (net_component net) (local_names (net_component net)) s.from) (net_component net).shown shown-read;
     kept_read = all-recursive (λ s. IsDeclared (net_component net) (local_names (net_component net)) s.from) (net_component net).kept kept-read;
     answer_read = running-declared;
-    outputs_set = sym (map-composed (λ (s : Store). s.member) (output_store net) net.outputs);
-    states_set = map-numbered (λ (s : Store). s.member) state_store 0 net.latches ∙ sym (states-net net);
+    outputs_set = sym (map-composed (λ (s : Transfer). s.member) (output_store net) net.outputs);
+    states_set = map-numbered (λ (s : Transfer). s.member) state_store 0 net.latches ∙ sym (states-net net);
   }
 
   -- ---- words
@@ -212,8 +212,8 @@ module _ (net : Netlist) (is : IsWritable net) where
   spelled-place : IsEmbeddable net → (n : ℕ) → n < net_count net → PlaceSpelled (place_of net n)
   spelled-place fits n h = net_cases net n h
       (λ low. subst PlaceSpelled (sym (place-input net n low)) (spelled-free (get_or net.inputs n []) (frees-inputs fits n [] low)))
-      (λ j low e. subst PlaceSpelled (sym (ap (place_of net) e ∙ place-state net j low)) (spelled-free (state_name j) (free-state j (omega (arith, few)))))
-      (λ k low e. subst PlaceSpelled (sym (ap (place_of net) e ∙ place-gate net k low)) (spelled-free (gate_name k) (free-gate k (omega (arith, few)))))
+      (λ j low e. subst PlaceSpelled (sym (ap (place_of net) e ∙ place-state net j low)) (spelled-free (state_word j) (free-state j (omega (arith, few)))))
+      (λ k low e. subst PlaceSpelled (sym (ap (place_of net) e ∙ place-gate net k low)) (spelled-free (gate_word k) (free-gate k (omega (arith, few)))))
 
   spelled-op : (op : Op) → operand_end op ≤ net_count net → ((n : ℕ) → n < net_count net → PlaceSpelled (place_of net n))
       → ValueSpelled (op_value_of (place_of net) op)
@@ -225,19 +225,19 @@ module _ (net : Netlist) (is : IsWritable net) where
 
   spelled-gates : IsEmbeddable net → All LocalSpelled (numbered (gate_local net) 0 net.gates)
   spelled-gates fits = All-numbered LocalSpelled (gate_local net) 0 net.gates (λ k d h. record {
-    name = spelled-free (gate_name (0 + k)) (free-gate (0 + k) (omega (arith, few)));
+    name = spelled-free (gate_word (0 + k)) (free-gate (0 + k) (omega (arith, few)));
     value = let low = is.is_net.reads_lower k d h in spelled-op (get_or net.gates k d).op (omega arith) (spelled-place fits);
   })
 
   spelled-nexts : IsEmbeddable net → All LocalSpelled (numbered (next_local net) 0 net.latches)
   spelled-nexts fits = All-numbered LocalSpelled (next_local net) 0 net.latches (λ k d h. record {
-    name = spelled-free (next_name (0 + k)) (free-next (0 + k) (omega (arith, few)));
+    name = spelled-free (next_word (0 + k)) (free-next (0 + k) (omega (arith, few)));
     value = spelled-place fits (get_or net.latches k d).from.0 (is.is_net.latches_in_range k d h);
   })
 
   spelled-running : IsEmbeddable net → LocalSpelled (running_local net)
   spelled-running fits = record {
-    name = spelled-free running_name free-running;
+    name = spelled-free running_word free-running;
     value = spelled-place fits net.paused is.is_net.paused_in_range;
   }
 
@@ -259,7 +259,7 @@ module _ (net : Netlist) (is : IsWritable net) where
   spelled-net fits = record {
     name = is.is_net.name_fits;
     states = All-numbered (λ s. IsSpelledWord s.name) net_state 0 net.latches
-        (λ k d h. spelled-free (state_name (0 + k)) (free-state (0 + k) (omega (arith, few))));
+        (λ k d h. spelled-free (state_word (0 + k)) (free-state (0 + k) (omega (arith, few))));
     inputs = λ k d h. spelled-free (get_or net.inputs k d) (frees-inputs fits k d h);
     outputs = λ k d h. spelled-free (get_or (output_names net) k d) (frees-outputs fits k d h);
     ignored = spelled-ignored;
@@ -271,10 +271,10 @@ module _ (net : Netlist) (is : IsWritable net) where
       from = spelled-place fits (get_or net.outputs k d).net.0 (is.is_net.outputs_in_range k d h);
     });
     kept = All-numbered StoreSpelled state_store 0 net.latches (λ k d h. record {
-      member = spelled-free (state_name (0 + k)) (free-state (0 + k) (omega (arith, few)));
-      from = spelled-free (next_name (0 + k)) (free-next (0 + k) (omega (arith, few)));
+      member = spelled-free (state_word (0 + k)) (free-state (0 + k) (omega (arith, few)));
+      from = spelled-free (next_word (0 + k)) (free-next (0 + k) (omega (arith, few)));
     });
-    answer = spelled-free running_name free-running;
+    answer = spelled-free running_word free-running;
   }
     where
       free-output : IsEmbeddable net → (k : ℕ) (d : NetOut) → k < length net.outputs → IsFree (get_or net.outputs k d).name

@@ -9,9 +9,9 @@ use Rattle.csub_embed.specs.Grammar.{semicolon, equals, arrow, self_word, in_wor
 use Rattle.csub_embed.specs.Grammar.{open_kinds, close_kinds, structure_kinds, ignored_kinds, untouched_kinds, first_kinds, reset_head_kinds, react_head_kinds}
 use Rattle.csub_embed.specs.Grammar.{local_kinds, store_kinds, answer_kinds, component_kinds}
 use Rattle.csub_embed.specs.Tokens.{Kind, Word, Mark, kinds}
-use Rattle.csub_embed.specs.Trees.{StateVariable, Place, State, Given, Local, Value, Const, Copy, Not, And, Or, LocalValue, Store, Component, name_of_state}
-use Rattle.csub_embed.specs.Written.{line_end, bit_text, place_text, value_text, comment, open_text, member_line, unused_line, close_text, structure_text}
-use Rattle.csub_embed.specs.Written.{reset_head, ignored_line, untouched_line, first_line, react_head, local_line, store_line, answer_lines, body_text}
+use Rattle.csub_embed.specs.Trees.{StateVariable, Place, State, Given, Local, Value, Const, Copy, Not, And, Or, LocalValue, Transfer, Component, name_of_state}
+use Rattle.csub_embed.specs.Written.{line_end, bit_text, written_place, value_text, comment, open_text, member_line, unused_line, close_text, structure_text}
+use Rattle.csub_embed.specs.Written.{reset_head, ignored_line, untouched_line, first_line, react_head, local_line, store_line, return_lines, body_text}
 use Rattle.csub_embed.proofs.Lexing.{Says, IsSpelledWord, says-word, spelled-word, spelled-more, says-comment, says-open, says-bool, says-end, says-unused}
 use Rattle.csub_embed.proofs.Lexing.{says-close, says-static-void, says-left, says-self-parameter, says-ignored, says-self-indented, says-equals}
 use Rattle.csub_embed.proofs.Lexing.{says-static-bool, says-self-const, says-in-parameter, says-out-parameter, says-const, says-not, says-and, says-or}
@@ -35,7 +35,7 @@ pub record LocalSpelled (l : LocalValue) : Type 0 where
   pub name : IsSpelledWord l.name
   pub value : ValueSpelled l.value
 
-pub record StoreSpelled (s : Store) : Type 0 where
+pub record StoreSpelled (s : Transfer) : Type 0 where
   pub member : IsSpelledWord s.member
   pub from : PlaceSpelled s.from
 
@@ -53,7 +53,7 @@ pub record IsSpelled (c : Component) : Type 0 where
 -- ---- places and values, in front of a byte that no word has
 
 says-place : (p : Place) (d : ℕ) (ds : List ℕ) (ks : List Kind) → PlaceSpelled p → is_name_byte d ≡ false → Says (d ∷ ds) ks
-    → Says (place_text p ++ d ∷ ds) (place_kinds p ++ ks)
+    → Says (written_place p ++ d ∷ ds) (place_kinds p ++ ks)
 says-place (State name) d ds ks is stops says =
     says-then (codes "self->") (name ++ d ∷ ds) (Word self_word ∷ arrow ∷ []) (Word name ∷ ks) says-self (says-word name d ds ks is stops says)
 says-place (Given name) d ds ks is stops says =
@@ -62,16 +62,16 @@ says-place (Local name) d ds ks is stops says = says-word name d ds ks is stops 
 
 says-pair : (p q : Place) (mark : List ℕ) (kind : Kind) (c : ℕ) (cs : List ℕ) (d : ℕ) (ds : List ℕ) (ks : List Kind) → mark ≡ c ∷ cs → is_name_byte c ≡ false
     → Says mark (kind ∷ []) → PlaceSpelled p → PlaceSpelled q → is_name_byte d ≡ false → Says (d ∷ ds) ks
-    → Says ((place_text p ++ (mark ++ place_text q)) ++ d ∷ ds) ((place_kinds p ++ kind ∷ place_kinds q) ++ ks)
+    → Says ((written_place p ++ (mark ++ written_place q)) ++ d ∷ ds) ((place_kinds p ++ kind ∷ place_kinds q) ++ ks)
 says-pair p q mark kind c cs d ds ks is gap says-mark first second stops says =
-    let last = says-then mark (place_text q ++ d ∷ ds) (kind ∷ []) (place_kinds q ++ ks) says-mark (says-place q d ds ks second stops says) in
-    let marked : mark ++ (place_text q ++ d ∷ ds) ≡ c ∷ (cs ++ (place_text q ++ d ∷ ds)) = ap (λ m. m ++ (place_text q ++ d ∷ ds)) is in
-    let whole = says-place p c (cs ++ (place_text q ++ d ∷ ds)) (kind ∷ (place_kinds q ++ ks)) first gap
+    let last = says-then mark (written_place q ++ d ∷ ds) (kind ∷ []) (place_kinds q ++ ks) says-mark (says-place q d ds ks second stops says) in
+    let marked : mark ++ (written_place q ++ d ∷ ds) ≡ c ∷ (cs ++ (written_place q ++ d ∷ ds)) = ap (λ m. m ++ (written_place q ++ d ∷ ds)) is in
+    let whole = says-place p c (cs ++ (written_place q ++ d ∷ ds)) (kind ∷ (place_kinds q ++ ks)) first gap
     (subst (λ t. Says t (kind ∷ (place_kinds q ++ ks))) marked last) in
     subst (λ t. Says t ((place_kinds p ++ kind ∷ place_kinds q) ++ ks))
-    (ap (λ t. place_text p ++ t) (sym marked ∙ sym (append_assoc mark (place_text q) (d ∷ ds)))
-    ∙ sym (append_assoc (place_text p) (mark ++ place_text q) (d ∷ ds)))
-    (subst (λ l. Says (place_text p ++ c ∷ (cs ++ (place_text q ++ d ∷ ds))) l) (sym (append_assoc (place_kinds p) (kind ∷ place_kinds q) ks)) whole)
+    (ap (λ t. written_place p ++ t) (sym marked ∙ sym (append_assoc mark (written_place q) (d ∷ ds)))
+    ∙ sym (append_assoc (written_place p) (mark ++ written_place q) (d ∷ ds)))
+    (subst (λ l. Says (written_place p ++ c ∷ (cs ++ (written_place q ++ d ∷ ds))) l) (sym (append_assoc (place_kinds p) (kind ∷ place_kinds q) ks)) whole)
 
 says-bit : (value : Bool) (d : ℕ) (ds : List ℕ) (ks : List Kind) → is_name_byte d ≡ false → Says (d ∷ ds) ks
     → Says (bit_text value ++ d ∷ ds) (bit_kind value ∷ ks)
@@ -83,7 +83,7 @@ says-value : (v : Value) (d : ℕ) (ds : List ℕ) (ks : List Kind) → ValueSpe
 says-value (Const value) d ds ks is stops says = says-bit value d ds ks stops says
 says-value (Copy place) d ds ks is stops says = says-place place d ds ks is stops says
 says-value (Not place) d ds ks is stops says =
-    says-then (codes "!") (place_text place ++ d ∷ ds) (Mark (codes "!") ∷ []) (place_kinds place ++ ks) says-not (says-place place d ds ks is stops says)
+    says-then (codes "!") (written_place place ++ d ∷ ds) (Mark (codes "!") ∷ []) (place_kinds place ++ ks) says-not (says-place place d ds ks is stops says)
 says-value (And p q) d ds ks is stops says =
     says-pair p q (codes " && ") (Mark (codes "&&")) 32 (codes "&& ") d ds ks refl refl says-and is.0 is.1 stops says
 says-value (Or p q) d ds ks is stops says =
@@ -125,20 +125,20 @@ says-local l is =
     (Word l.name ∷ equals ∷ (value_kinds l.value ++ semicolon ∷ [])) says-const
     (says-word l.name 32 (61 ∷ 32 ∷ (value_text l.value ++ line_end)) (equals ∷ (value_kinds l.value ++ semicolon ∷ [])) is.name refl value)
 
-says-store : (structure : List ℕ) (s : Store) → IsSpelledWord structure → StoreSpelled s → Says (store_line structure s) (store_kinds structure s)
+says-store : (structure : List ℕ) (s : Transfer) → IsSpelledWord structure → StoreSpelled s → Says (store_line structure s) (store_kinds structure s)
 says-store structure s word is =
     let last = says-place s.from 59 (10 ∷ []) (semicolon ∷ []) is.from refl says-end in
-    let value = says-then (codes " = ") (place_text s.from ++ line_end) (equals ∷ []) (place_kinds s.from ++ semicolon ∷ []) says-equals last in
-    let text1 = codes " = " ++ (place_text s.from ++ line_end) in
+    let value = says-then (codes " = ") (written_place s.from ++ line_end) (equals ∷ []) (place_kinds s.from ++ semicolon ∷ []) says-equals last in
+    let text1 = codes " = " ++ (written_place s.from ++ line_end) in
     let kinds1 = equals ∷ (place_kinds s.from ++ semicolon ∷ []) in
-    let member = says-word s.member 32 (61 ∷ 32 ∷ (place_text s.from ++ line_end)) kinds1 is.member refl value in
+    let member = says-word s.member 32 (61 ∷ 32 ∷ (written_place s.from ++ line_end)) kinds1 is.member refl value in
     let access = says-then (codes "->") (s.member ++ text1) (arrow ∷ []) (Word s.member ∷ kinds1) says-arrow member in
     says-then (codes "    ") (structure ++ (codes "->" ++ (s.member ++ text1))) [] (Word structure ∷ arrow ∷ Word s.member ∷ kinds1) says-indent
     (says-word structure 45 (62 ∷ (s.member ++ text1)) (arrow ∷ Word s.member ∷ kinds1) word refl access)
 
-says-answer : (p : Place) → PlaceSpelled p → Says (answer_lines p) (answer_kinds p)
+says-answer : (p : Place) → PlaceSpelled p → Says (return_lines p) (answer_kinds p)
 says-answer p is =
-    says-then (codes "    return ") (place_text p ++ codes ";\n}\n") (Word (codes "return") ∷ []) (place_kinds p ++ semicolon ∷ Mark (codes "}") ∷ [])
+    says-then (codes "    return ") (written_place p ++ codes ";\n}\n") (Word (codes "return") ∷ []) (place_kinds p ++ semicolon ∷ Mark (codes "}") ∷ [])
     says-return (says-place p 59 (10 ∷ 125 ∷ 10 ∷ []) (semicolon ∷ Mark (codes "}") ∷ []) is refl says-last)
 
 says-close-line : (type : List ℕ) → IsSpelledWord type → Says (close_text type) (close_kinds type)
@@ -209,7 +209,7 @@ says-component c is =
     (λ k d h. says-store out_word (get_or c.shown k d) (spelled-word out_word refl) (is.shown k d h)) in
     let kept = says-lines (store_line self_word) (store_kinds self_word) c.kept
     (λ k d h. says-store self_word (get_or c.kept k d) (spelled-word self_word refl) (is.kept k d h)) in
-    let text1 = answer_lines c.answer in
+    let text1 = return_lines c.answer in
     let kinds1 = answer_kinds c.answer in
     let text2 = flat_map (store_line self_word) c.kept ++ text1 in
     let kinds2 = flat_map (store_kinds self_word) c.kept ++ kinds1 in

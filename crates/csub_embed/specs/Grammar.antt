@@ -18,7 +18,7 @@
 use Rattle.std.specs.Prelude.{ℕ, Bool, true, false, List, [], ◌∷◌, ◌++◌, map, flat_map, codes}
 use Rattle.csub_embed.specs.Tokens.{Kind, Word, Mark}
 use Rattle.csub_embed.specs.Trees.{StateVariable, Place, State, Given, Local, Value, Const, Copy, Not, And, Or}
-use Rattle.csub_embed.specs.Trees.{LocalValue, Store, Component, name_of_state}
+use Rattle.csub_embed.specs.Trees.{LocalValue, Transfer, Component, name_of_state}
 
 abbrev pub semicolon : Kind
 semicolon = Mark (codes ";")
@@ -112,7 +112,7 @@ abbrev pub local_kinds : LocalValue → List Kind
 local_kinds l =
     Word (codes "const") ∷ Word (codes "bool") ∷ Word l.name ∷ equals ∷ (value_kinds l.value ++ semicolon ∷ [])
 
-abbrev pub store_kinds : List ℕ → Store → List Kind
+abbrev pub store_kinds : List ℕ → Transfer → List Kind
 store_kinds structure s =
     Word structure ∷ arrow ∷ Word s.member ∷ equals ∷ (place_kinds s.from ++ semicolon ∷ [])
 

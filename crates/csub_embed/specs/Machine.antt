@@ -5,7 +5,7 @@ use Rattle.base_types.specs.Items.{Item, Event, Reset}
 use Rattle.csub_text.specs.Machine.{Memory, with_value, with_inputs}
 pub use Rattle.csub_text.specs.Machine.{SeenCall}
 use Rattle.csub_embed.specs.Trees.{StateVariable, Place, State, Given, Local, Value, Const, Copy, Not, And, Or}
-use Rattle.csub_embed.specs.Trees.{LocalValue, Store, Component}
+use Rattle.csub_embed.specs.Trees.{LocalValue, Transfer, Component}
 
 -- ---- one call
 
@@ -35,12 +35,12 @@ run_locals (l ∷ locals) f =
     run_locals locals (record f { local = with_value l.name (value_at f l.value) f.local })
 
 -- the members of the outputs are set, one after another
-abbrev pub run_shown : List Store → Frame → Frame
+abbrev pub run_shown : List Transfer → Frame → Frame
 run_shown [] f = f
 run_shown (s ∷ stores) f = run_shown stores (record f { shown = with_value s.member (place_value f s.from) f.shown })
 
 -- the members of the state are set, one after another
-abbrev pub run_kept : List Store → Frame → Frame
+abbrev pub run_kept : List Transfer → Frame → Frame
 run_kept [] f = f
 run_kept (s ∷ stores) f = run_kept stores (record f { state = with_value s.member (place_value f s.from) f.state })
 
@@ -76,17 +76,17 @@ pub record Call : Type 0 where
   pub around : Frame
 
 -- the states of all instances
-abbrev pub Instances : Type 0
-Instances = ℕ → Memory
+abbrev pub InstanceStates : Type 0
+InstanceStates = ℕ → Memory
 
 -- the state of one instance is replaced, and that of no other
-abbrev pub with_instance : ℕ → Memory → Instances → Instances
+abbrev pub with_instance : ℕ → Memory → InstanceStates → InstanceStates
 with_instance k state instances = λ other. if nat_eq k other then state else instances other
 
 -- the state after a call, and what is seen of it: nothing where it is a reset
-abbrev pub state_after : Component → Item → Frame → Memory → Memory
-state_after c (Event inputs) around state = (react c inputs state around).state
-state_after c Reset around state = reset c.states state
+abbrev pub left_state : Component → Item → Frame → Memory → Memory
+left_state c (Event inputs) around state = (react c inputs state around).state
+left_state c Reset around state = reset c.states state
 
 abbrev pub seen_after : Component → Item → Frame → Memory → List SeenCall
 seen_after c (Event inputs) around state = seen c (react c inputs state around) ∷ []
@@ -98,22 +98,22 @@ pub record SeenOf : Type 0 where
   pub seen : SeenCall
 
 -- what is seen of calls, one after another
-abbrev pub run_calls : Component → Instances → List Call → List SeenOf
+abbrev pub run_calls : Component → InstanceStates → List Call → List SeenOf
 run_calls c instances [] = []
 run_calls c instances (x ∷ calls) =
     let state = instances x.instance in
     map (λ s. record { instance = x.instance; seen = s }) (seen_after c x.item x.around state)
-    ++ run_calls c (with_instance x.instance (state_after c x.item x.around state) instances) calls
+    ++ run_calls c (with_instance x.instance (left_state c x.item x.around state) instances) calls
 
 -- ---- one instance among others
 
 -- what is seen of the calls on one instance
-abbrev pub seen_of : ℕ → List SeenOf → List SeenCall
-seen_of k all = map (λ s. s.seen) (filter (λ s. nat_eq s.instance k) all)
+abbrev pub own_seen : ℕ → List SeenOf → List SeenCall
+own_seen k all = map (λ s. s.seen) (filter (λ s. nat_eq s.instance k) all)
 
 -- the items of the calls on one instance
-abbrev pub items_of : ℕ → List Call → List Item
-items_of k calls = map (λ x. x.item) (filter (λ x. nat_eq x.instance k) calls)
+abbrev pub own_items : ℕ → List Call → List Item
+own_items k calls = map (λ x. x.item) (filter (λ x. nat_eq x.instance k) calls)
 
 -- an instance is reset before its first event
 abbrev pub BeginsReset : List Item → Type 0

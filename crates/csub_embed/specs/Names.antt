@@ -9,7 +9,7 @@ use Rattle.net_ir.specs.NameLists.{is_among}
 use Rattle.net_expressions.specs.Lexemes.{begins_name}
 use Rattle.csub_embed.specs.Grammar.{self_word, in_word, out_word}
 use Rattle.csub_embed.specs.Trees.{Place, State, Given, Local, Value, Const, Copy, Not, And, Or}
-use Rattle.csub_embed.specs.Trees.{LocalValue, Store, Component, name_of_state}
+use Rattle.csub_embed.specs.Trees.{LocalValue, Transfer, Component, name_of_state}
 use Rattle.csub_embed.specs.declared.words.TheConstants.{RESERVED, TYPES}
 
 -- ---- words
@@ -23,13 +23,13 @@ unfoldable pub is_type : List ℕ → Bool
 is_type name = list_any (λ w. is_same_name name w.now) TYPES
 
 -- a letter or `_`, followed by letters, digits and `_`
-abbrev pub is_word : List ℕ → Bool
-is_word [] = false
-is_word (c ∷ cs) = begins_name c && list_all is_name_byte cs
+abbrev pub is_identifier : List ℕ → Bool
+is_identifier [] = false
+is_identifier (c ∷ cs) = begins_name c && list_all is_name_byte cs
 
 -- a word that may be a name
 pub record IsFree (name : List ℕ) : Type 0 where
-  pub word : is_word name ≡ true
+  pub word : is_identifier name ≡ true
   pub free : is_reserved name ≡ false
 
 -- a name that a component may have

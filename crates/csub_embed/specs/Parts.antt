@@ -5,10 +5,10 @@ use Rattle.net_ir.specs.Numbered.{numbered}
 use Rattle.csub_embed.specs.Trees.{Local}
 use Rattle.csub_embed.specs.Grammar.{self_word, out_word}
 use Rattle.csub_embed.specs.Texts.{first_lines, last_line}
-use Rattle.csub_embed.specs.Written.{state_name, net_state, gate_local, next_local, running_local, output_store}
-use Rattle.csub_embed.specs.Written.{state_store, net_ignored, running_name, comment, open_text, member_line}
+use Rattle.csub_embed.specs.Written.{state_word, net_state, gate_local, next_local, running_local, output_store}
+use Rattle.csub_embed.specs.Written.{state_store, net_ignored, running_word, comment, open_text, member_line}
 use Rattle.csub_embed.specs.Written.{unused_line, close_text, reset_head, ignored_line, untouched_line, first_line}
-use Rattle.csub_embed.specs.Written.{react_head, local_line, store_line, answer_lines}
+use Rattle.csub_embed.specs.Written.{react_head, local_line, store_line, return_lines}
 use Rattle.csub_embed.specs.declared.parts.EmbedSection.{EmbedSection}
 use Rattle.csub_embed.specs.declared.parts.EmbedSection.TheVariants.{Head, States, StatesEnd, Inputs, InputsEnd}
 use Rattle.csub_embed.specs.declared.parts.EmbedSection.TheVariants.{Outputs, OutputsEnd, Resets, ReactHead, Gates}
@@ -30,12 +30,12 @@ abbrev pub react_text : Netlist → List ℕ
 react_text net = untouched_line net.latches ++ (react_head net.name ++ flat_map ignored_line (net_ignored net))
 
 abbrev pub end_text : List ℕ
-end_text = answer_lines (Local running_name) ++ last_line
+end_text = return_lines (Local running_word) ++ last_line
 
 -- the parts of a section
 abbrev pub parts_in : Netlist → EmbedSection → List (List ℕ)
 parts_in net Head = head_text net.name ∷ []
-parts_in net States = numbered (λ j latch. member_line (state_name j)) 0 net.latches
+parts_in net States = numbered (λ j latch. member_line (state_word j)) 0 net.latches
 parts_in net StatesEnd = states_end net ∷ []
 parts_in net Inputs = map (λ name. member_line name) net.inputs
 parts_in net InputsEnd = inputs_end net ∷ []

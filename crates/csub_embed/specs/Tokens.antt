@@ -28,14 +28,14 @@ pair_front first second [] = Wrong
 pair_front first second (c ∷ cs) = if c == second then Lexeme 1 (Mark (first ∷ second ∷ [])) else Wrong
 
 -- ( ) { } ; = * , !
-abbrev pub is_mark : ℕ → Bool
-is_mark c =
+abbrev pub is_single_mark : ℕ → Bool
+is_single_mark c =
     c == 40 || (c == 41 || (c == 123 || (c == 125 || (c == 59 || (c == 61 || (c == 42 || (c == 44 || c == 33)))))))
 
 -- and `->`, `&&`, `||`
-abbrev pub mark_front : ℕ → List ℕ → Front Kind
-mark_front c cs =
-    if is_mark c then Lexeme 0 (Mark (c ∷ []))
+abbrev pub longest_mark : ℕ → List ℕ → Front Kind
+longest_mark c cs =
+    if is_single_mark c then Lexeme 0 (Mark (c ∷ []))
     else (if c == 45 then pair_front 45 62 cs
     else (if c == 38 then pair_front 38 38 cs
     else (if c == 124 then pair_front 124 124 cs else Wrong)))
@@ -47,7 +47,7 @@ front c cs =
     else (if c == 47 then slash_front cs
     else (if begins_name c then Lexeme (prefix_len is_name_byte cs)
     (Word (c ∷ take (prefix_len is_name_byte cs) cs))
-    else mark_front c cs))
+    else longest_mark c cs))
 
 -- the tokens of a text
 abbrev pub kinds : List ℕ → List Kind

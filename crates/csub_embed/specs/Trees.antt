@@ -22,7 +22,7 @@ pub record LocalValue : Type 0 where
   pub value : Value
 
 -- a member that gets the value of a place
-pub record Store : Type 0 where
+pub record Transfer : Type 0 where
   pub member : List ℕ
   pub from : Place
 
@@ -36,8 +36,8 @@ pub record Component : Type 0 where
   pub outputs : List (List ℕ)
   pub ignored : List (List ℕ)
   pub locals : List LocalValue
-  pub shown : List Store
-  pub kept : List Store
+  pub shown : List Transfer
+  pub kept : List Transfer
   pub answer : Place
 
 abbrev pub name_of_state : StateVariable → List ℕ

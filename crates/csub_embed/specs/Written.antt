@@ -16,36 +16,36 @@ use Rattle.net_ir.specs.Numbered.{numbered}
 use Rattle.net_ir.specs.Runs.{Shown, net_run}
 use Rattle.csub_text.specs.Written.{shown_by_call}
 use Rattle.csub_embed.specs.Trees.{StateVariable, Place, State, Given, Local, Value, Const, Copy, Not, And, Or}
-use Rattle.csub_embed.specs.Trees.{LocalValue, Store, Component, name_of_state}
+use Rattle.csub_embed.specs.Trees.{LocalValue, Transfer, Component, name_of_state}
 use Rattle.csub_embed.specs.Grammar.{self_word, in_word, out_word}
-use Rattle.csub_embed.specs.Machine.{Call, Instances, run_calls, seen_of, items_of, BeginsReset}
+use Rattle.csub_embed.specs.Machine.{Call, InstanceStates, run_calls, own_seen, own_items, BeginsReset}
 use Rattle.csub_embed.specs.Texts.{Describes, first_lines, last_line}
 
 -- ---- names
 
-abbrev pub state_name : ℕ → List ℕ
-state_name j = codes "state" ++ decimal j
+abbrev pub state_word : ℕ → List ℕ
+state_word j = codes "state" ++ decimal j
 
-abbrev pub gate_name : ℕ → List ℕ
-gate_name k = codes "g" ++ decimal k
+abbrev pub gate_word : ℕ → List ℕ
+gate_word k = codes "g" ++ decimal k
 
-abbrev pub next_name : ℕ → List ℕ
-next_name j = codes "next" ++ decimal j
+abbrev pub next_word : ℕ → List ℕ
+next_word j = codes "next" ++ decimal j
 
-abbrev pub running_name : List ℕ
-running_name = codes "running"
+abbrev pub running_word : List ℕ
+running_word = codes "running"
 
 -- ---- the component
 
 abbrev pub net_state : ℕ → Latch → StateVariable
-net_state j latch = record { name = state_name j; init = latch.init }
+net_state j latch = record { name = state_word j; init = latch.init }
 
 -- where the value of a net is, by its number
 abbrev pub place_of : Netlist → ℕ → Place
 place_of net n =
     if nat_lt n (length net.inputs) then Given (slice_index_or net.inputs n [])
-    else (if nat_lt n (first_gate net) then State (state_name (n - length net.inputs))
-    else Local (gate_name (n - first_gate net)))
+    else (if nat_lt n (first_gate net) then State (state_word (n - length net.inputs))
+    else Local (gate_word (n - first_gate net)))
 
 -- what an operator makes of the nets that it reads
 abbrev pub op_value_of : (ℕ → Place) → Op → Value
@@ -56,19 +56,19 @@ op_value_of place (ops.And m n) = And (place m.0) (place n.0)
 op_value_of place (ops.Or m n) = Or (place m.0) (place n.0)
 
 abbrev pub gate_local : Netlist → ℕ → Gate → LocalValue
-gate_local net k gate = record { name = gate_name k; value = op_value_of (place_of net) gate.op }
+gate_local net k gate = record { name = gate_word k; value = op_value_of (place_of net) gate.op }
 
 abbrev pub next_local : Netlist → ℕ → Latch → LocalValue
-next_local net j latch = record { name = next_name j; value = Copy (place_of net latch.from.0) }
+next_local net j latch = record { name = next_word j; value = Copy (place_of net latch.from.0) }
 
 abbrev pub running_local : Netlist → LocalValue
-running_local net = record { name = running_name; value = Copy (place_of net net.paused) }
+running_local net = record { name = running_word; value = Copy (place_of net net.paused) }
 
-abbrev pub output_store : Netlist → NetOut → Store
+abbrev pub output_store : Netlist → NetOut → Transfer
 output_store net output = record { member = output.name; from = place_of net output.net.0 }
 
-abbrev pub state_store : ℕ → Latch → Store
-state_store j latch = record { member = state_name j; from = Local (next_name j) }
+abbrev pub state_store : ℕ → Latch → Transfer
+state_store j latch = record { member = state_word j; from = Local (next_word j) }
 
 -- whether something reads an input
 abbrev pub op_below : ℕ → Op → Bool
@@ -111,7 +111,7 @@ net_component net = record {
   locals = net_locals net;
   shown = map (output_store net) net.outputs;
   kept = numbered state_store 0 net.latches;
-  answer = Local running_name;
+  answer = Local running_word;
 }
 
 -- ---- the text
@@ -120,17 +120,17 @@ abbrev pub bit_text : Bool → List ℕ
 bit_text true = codes "true"
 bit_text false = codes "false"
 
-abbrev pub place_text : Place → List ℕ
-place_text (State name) = codes "self->" ++ name
-place_text (Given name) = codes "in->" ++ name
-place_text (Local name) = name
+abbrev pub written_place : Place → List ℕ
+written_place (State name) = codes "self->" ++ name
+written_place (Given name) = codes "in->" ++ name
+written_place (Local name) = name
 
 abbrev pub value_text : Value → List ℕ
 value_text (Const value) = bit_text value
-value_text (Copy place) = place_text place
-value_text (Not place) = codes "!" ++ place_text place
-value_text (And first second) = place_text first ++ (codes " && " ++ place_text second)
-value_text (Or first second) = place_text first ++ (codes " || " ++ place_text second)
+value_text (Copy place) = written_place place
+value_text (Not place) = codes "!" ++ written_place place
+value_text (And first second) = written_place first ++ (codes " && " ++ written_place second)
+value_text (Or first second) = written_place first ++ (codes " || " ++ written_place second)
 
 -- the end of a line
 abbrev pub line_end : List ℕ
@@ -177,12 +177,12 @@ react_head name =
 abbrev pub local_line : LocalValue → List ℕ
 local_line l = codes "    const bool " ++ (l.name ++ (codes " = " ++ (value_text l.value ++ line_end)))
 
-abbrev pub store_line : List ℕ → Store → List ℕ
+abbrev pub store_line : List ℕ → Transfer → List ℕ
 store_line structure s =
-    codes "    " ++ (structure ++ (codes "->" ++ (s.member ++ (codes " = " ++ (place_text s.from ++ line_end)))))
+    codes "    " ++ (structure ++ (codes "->" ++ (s.member ++ (codes " = " ++ (written_place s.from ++ line_end)))))
 
-abbrev pub answer_lines : Place → List ℕ
-answer_lines place = codes "    return " ++ (place_text place ++ codes ";\n}\n")
+abbrev pub return_lines : Place → List ℕ
+return_lines place = codes "    return " ++ (written_place place ++ codes ";\n}\n")
 
 abbrev pub structure_text : List ℕ → List (List ℕ) → List ℕ
 structure_text type members =
@@ -198,7 +198,7 @@ body_text c =
     ++ (reset_head c.name ++ (flat_map first_line c.states ++ (untouched_line states
     ++ (react_head c.name ++ (flat_map ignored_line c.ignored ++ (flat_map local_line c.locals
     ++ (flat_map (store_line out_word) c.shown ++ (flat_map (store_line self_word) c.kept
-    ++ answer_lines c.answer)))))))))))
+    ++ return_lines c.answer)))))))))))
 
 abbrev pub component_text : Component → List ℕ
 component_text c = first_lines c.name ++ (body_text c ++ last_line)
@@ -219,6 +219,6 @@ pub record Means (text : List ℕ) (net : Netlist) : Type 0 where
   pub inputs : component.inputs ≡ net.inputs
   pub outputs : component.outputs ≡ output_names net
   pub states : component.states ≡ numbered net_state 0 net.latches
-  pub shows : (instances : Instances) (calls : List Call) (k : ℕ) → BeginsReset (items_of k calls)
-      → EachEvent (λ inputs. length inputs ≡ length net.inputs) (items_of k calls)
-      → seen_of k (run_calls component instances calls) ≡ map shown_by_call (net_run net (items_of k calls))
+  pub shows : (instances : InstanceStates) (calls : List Call) (k : ℕ) → BeginsReset (own_items k calls)
+      → EachEvent (λ inputs. length inputs ≡ length net.inputs) (own_items k calls)
+      → own_seen k (run_calls component instances calls) ≡ map shown_by_call (net_run net (own_items k calls))

@@ -5,8 +5,8 @@ ghost use Rattle.net_ir.specs.Gates.{operand_end};
 ghost use Rattle.net_ir.specs.Netlists.{net_count};
 ghost use Rattle.net_ir.specs.Runs.{netlist_of};
 ghost use Rattle.csub_embed.specs.Grammar.{self_word, out_word};
-ghost use Rattle.csub_embed.specs.Written.{state_name, net_state, place_of, op_value_of, gate_local, next_local};
-ghost use Rattle.csub_embed.specs.Written.{running_local, output_store, state_store, place_text, value_text};
+ghost use Rattle.csub_embed.specs.Written.{state_word, net_state, place_of, op_value_of, gate_local, next_local};
+ghost use Rattle.csub_embed.specs.Written.{running_local, output_store, state_store, written_place, value_text};
 ghost use Rattle.csub_embed.specs.Written.{member_line, first_line, local_line, store_line};
 
 use base_types::{NetId, NoMemory, Text, put, put_number};
@@ -15,7 +15,7 @@ use net_writer::{Driver, driver_of, put_named};
 
 // A latch among the members of the state.
 pub fn put_state_member(text: &mut Vec<u8>, j: usize) -> Result<(), NoMemory>
-    ensures { OnOk result (text.new.items ≡ text.old.items ++ member_line (state_name j)) }
+    ensures { OnOk result (text.new.items ≡ text.old.items ++ member_line (state_word j)) }
 {
     put_number(text, b"    bool state", j)?;
     put(text, b";\n")
@@ -82,8 +82,8 @@ fn put_pair(
     requires first { a.0 < net_count (netlist_of net.now) }
     requires second { b.0 < net_count (netlist_of net.now) }
     ensures { OnOk result (text.new.items ≡ text.old.items
-        ++ (place_text (place_of (netlist_of net.now) a.0)
-        ++ (mark.now ++ place_text (place_of (netlist_of net.now) b.0)))) }
+        ++ (written_place (place_of (netlist_of net.now) a.0)
+        ++ (mark.now ++ written_place (place_of (netlist_of net.now) b.0)))) }
 {
     put_place(text, net, a)?;
     put(text, mark)?;
@@ -93,7 +93,7 @@ fn put_pair(
 // The place of a net.
 fn put_place(text: &mut Vec<u8>, net: &Net, from: NetId) -> Result<(), NoMemory>
     requires { from.0 < net_count (netlist_of net.now) }
-    ensures { OnOk result (text.new.items ≡ text.old.items ++ place_text (place_of (netlist_of net.now) from.0)) }
+    ensures { OnOk result (text.new.items ≡ text.old.items ++ written_place (place_of (netlist_of net.now) from.0)) }
 {
     match driver_of(net, from) {
         Driver::Input(j) => {

@@ -4,8 +4,8 @@ use Rattle.base_types.specs.Items.{Item, Event, Reset}
 use Rattle.net_ir.specs.declared.netlist.Op.TheVariants as ops
 use Rattle.net_ir.specs.Netlists.{Netlist}
 use Rattle.csub_embed.specs.Grammar.{component_kinds}
-use Rattle.csub_embed.specs.Machine.{Frame, Call, SeenOf, run_calls, seen_of, items_of}
-use Rattle.csub_embed.specs.Names.{is_reserved, is_type, is_word}
+use Rattle.csub_embed.specs.Machine.{Frame, Call, SeenOf, run_calls, own_seen, own_items}
+use Rattle.csub_embed.specs.Names.{is_reserved, is_type, is_identifier}
 use Rattle.csub_embed.specs.Tokens.{Word, Mark, Bad, kinds}
 use Rattle.csub_embed.specs.Trees.{State, Given, Local, Copy, Not, And, Or, Component}
 use Rattle.csub_embed.specs.Written.{body_text, component_text, net_component, net_ignored}
@@ -75,11 +75,11 @@ the-calls : run_calls two (λ k name. true) calls
     ≡ shows 1 false false ∷ shows 2 false false ∷ shows 1 true true ∷ shows 2 false true ∷ shows 1 false false ∷ []
 the-calls = refl
 
-own-calls : seen_of 2 (run_calls two (λ k name. true) calls)
+own-calls : own_seen 2 (run_calls two (λ k name. true) calls)
     ≡ record { outputs = false ∷ []; answer = false } ∷ record { outputs = false ∷ []; answer = true } ∷ []
 own-calls = refl
 
-own-items : items_of 2 calls ≡ Reset ∷ Event (true ∷ true ∷ []) ∷ Event (false ∷ false ∷ []) ∷ []
+own-items : own_items 2 calls ≡ Reset ∷ Event (true ∷ true ∷ []) ∷ Event (false ∷ false ∷ []) ∷ []
 own-items = refl
 
 -- ---- a component with nothing
@@ -144,5 +144,5 @@ types-known : map is_type (codes "size" ∷ codes "uint8" ∷ codes "wchar" ∷ 
 unfolding is_type
 types-known = refl
 
-words : map is_word (codes "_a1" ∷ codes "1a" ∷ [] ∷ codes "a-b" ∷ []) ≡ true ∷ false ∷ false ∷ false ∷ []
+words : map is_identifier (codes "_a1" ∷ codes "1a" ∷ [] ∷ codes "a-b" ∷ []) ≡ true ∷ false ∷ false ∷ false ∷ []
 words = refl
