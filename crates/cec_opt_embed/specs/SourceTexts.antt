@@ -21,8 +21,8 @@ abbrev pub reaction_seen : SeenCall → Seen
 reaction_seen s = record { outputs = s.outputs; paused = s.answer }
 
 -- A text describes a component with the name, and with one member for each given and each outgoing signal, in declared
--- order. Any number of instances of it are called, in any order, and whatever they hold before. Take an instance that is
--- reset before its first event, and whose events are those of the program: the program's reactions to them are
+-- order. Any number of instances of it are called, in any order, and whatever they hold before. Take an instance that
+-- is reset before its first event, and whose events are those of the program: the program's reactions to them are
 -- constructive, and each call shows what the reaction's answer shows.
 pub record EmbedKeeps (text name : List ℕ) (p : Program) : Type 0 where
   pub component : Component

@@ -13,8 +13,8 @@ use std::alloc::Global;
 
 /// The embedded C of the optimized netlist of a BLIF text, under a name. An instance of it that is reset before its
 /// first event shows at each call what the circuit shows, in whatever order the instances are called
-/// (`EmbedTextKeeps`). The fault is the text's first one, else that of the name or of a signal; out of memory is the only
-/// other error.
+/// (`EmbedTextKeeps`). The fault is the text's first one, else that of the name or of a signal; out of memory is the
+/// only other error.
 ///
 /// Example: under the name `arbiter` it has the functions `arbiter_reset` and `arbiter_react`.
 pub fn embedded_of_text(

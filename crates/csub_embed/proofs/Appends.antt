@@ -1,11 +1,11 @@
 -- Inner: what is put behind a text, piece by piece.
-use Rattle.std.proofs.Common.{◌≡◌, ℕ, ◌==◌, Bool, true, false, not, List, [], ◌∷◌, ◌++◌, length, refl, sym, ap, ◌∙◌, arith, append_assoc}
-use Rattle.std.specs.Prelude.{flat_map, if◌then◌else◌}
-use Rattle.std.proofs.lemmas.Bool.{ne_eqb}
+use Rattle.std.proofs.Common.{◌≡◌, ℕ, Bool, true, false, List, [], ◌∷◌, ◌++◌, refl, sym, ap, ◌∙◌, append_assoc}
+use Rattle.std.specs.Prelude.{flat_map}
 use Rattle.std.proofs.lemmas.List.{append-nil}
 use Rattle.net_ir.specs.Netlists.{Netlist}
 use Rattle.csub_embed.specs.Grammar.{self_word, in_word, out_word}
-use Rattle.csub_embed.specs.Written.{ignored_line, where_empty, where_unread, reads_input, net_ignored}
+use Rattle.csub_embed.specs.Parts.{unread_line, unshown_line}
+use Rattle.csub_embed.specs.Written.{ignored_line, untouched_line, where_empty, where_unread, reads_input, net_ignored}
 
 pub three-pieces : (t a b c : List ℕ) → ((t ++ a) ++ b) ++ c ≡ t ++ (a ++ (b ++ c))
 three-pieces t a b c = simp append_assoc refl
@@ -27,26 +27,23 @@ front-pieces t a b c = simp append_assoc refl
 
 -- ---- parameters that nothing uses
 
-empty-lines : {X : Type 0} (xs : List X) (name : List ℕ) (rest : List (List ℕ))
-    → (if length xs == 0 then ignored_line name else []) ++ flat_map ignored_line rest ≡ flat_map ignored_line (where_empty xs name ++ rest)
-empty-lines [] name rest = refl
-empty-lines (x ∷ xs) name rest =
-    ap (λ b. (if b then ignored_line name else []) ++ flat_map ignored_line rest) (ne_eqb (length (x ∷ xs)) 0 (omega arith))
-
-unread-lines : (read : Bool) (rest : List (List ℕ))
-    → (if not read then ignored_line in_word else []) ++ flat_map ignored_line rest ≡ flat_map ignored_line (where_unread read ++ rest)
+unread-lines : (read : Bool) (rest : List (List ℕ)) → unread_line read ++ flat_map ignored_line rest ≡ flat_map ignored_line (where_unread read ++ rest)
 unread-lines true rest = refl
 unread-lines false rest = refl
 
+untouched-lines : {X : Type 0} (xs : List X) (rest : List (List ℕ))
+    → untouched_line xs ++ flat_map ignored_line rest ≡ flat_map ignored_line (where_empty xs self_word ++ rest)
+untouched-lines [] rest = refl
+untouched-lines (x ∷ xs) rest = refl
+
+unshown-lines : {X : Type 0} (xs : List X) → unshown_line xs ≡ flat_map ignored_line (where_empty xs out_word)
+unshown-lines [] = sym (append-nil (ignored_line out_word))
+unshown-lines (x ∷ xs) = refl
+
 pub ignored-lines : (net : Netlist) (read : Bool) → read ≡ reads_input net
-    → (if length net.latches == 0 then ignored_line self_word else []) ++ ((if not read then ignored_line in_word else [])
-    ++ (if length net.outputs == 0 then ignored_line out_word else [])) ≡ flat_map ignored_line (net_ignored net)
+    → untouched_line net.latches ++ (unread_line read ++ unshown_line net.outputs) ≡ flat_map ignored_line (net_ignored net)
 ignored-lines net read is =
-    let first = if length net.latches == 0 then ignored_line self_word else [] in
-    let last : (if length net.outputs == 0 then ignored_line out_word else []) ≡ flat_map ignored_line (where_empty net.outputs out_word) =
-    sym (append-nil (if length net.outputs == 0 then ignored_line out_word else [])) ∙ empty-lines net.outputs out_word []
-    ∙ ap (flat_map ignored_line) (append-nil (where_empty net.outputs out_word)) in
-    ap (λ l. first ++ ((if not read then ignored_line in_word else []) ++ l)) last
-    ∙ ap (λ l. first ++ l) (unread-lines read (where_empty net.outputs out_word))
-    ∙ empty-lines net.latches self_word (where_unread read ++ where_empty net.outputs out_word)
+    ap (λ l. untouched_line net.latches ++ (unread_line read ++ l)) (unshown-lines net.outputs)
+    ∙ ap (λ l. untouched_line net.latches ++ l) (unread-lines read (where_empty net.outputs out_word))
+    ∙ untouched-lines net.latches (where_unread read ++ where_empty net.outputs out_word)
     ∙ ap (λ b. flat_map ignored_line (where_empty net.latches self_word ++ (where_unread b ++ where_empty net.outputs out_word))) is

@@ -6,8 +6,10 @@ use Rattle.base_types.specs.Distinct.{all_differ}
 use Rattle.base_types.specs.Names.{is_same_name}
 use Rattle.base_types.proofs.Exports.{same_name-self}
 use Rattle.net_ir.specs.NameLists.{is_among}
-use Rattle.csub_text.specs.Machine.{Memory, with_value, with_inputs}
-use Rattle.csub_embed.specs.Machine.{Frame, place_value, value_at, run_locals, run_shown, run_kept, reset}
+use Rattle.net_ir.proofs.Exports.{any-none}
+use Rattle.std.specs.Cmp.Lexicographic.{nat_list_eq_equiv}
+use Rattle.csub_text.specs.Machine.{Memory, with_value}
+use Rattle.csub_embed.specs.Machine.{Frame, place_value, value_at, run_locals, run_shown, run_kept, reset, with_given}
 use Rattle.csub_embed.specs.Names.{name_of_local}
 use Rattle.csub_embed.specs.Trees.{StateVariable, Place, State, Given, Local, Copy, LocalValue, Transfer, name_of_state}
 
@@ -29,7 +31,8 @@ locals-stay (l ∷ locals) f =
     let rest = locals-stay locals (record f { local = with_value l.name (value_at f l.value) f.local }) in
     record { state = rest.state; given = rest.given; shown = rest.shown }
 
-pub local-other : (locals : List LocalValue) (f : Frame) (x : List ℕ) → is_among x (map name_of_local locals) ≡ false → (run_locals locals f).local x ≡ f.local x
+pub local-other : (locals : List LocalValue) (f : Frame) (x : List ℕ) → is_among x (map name_of_local locals) ≡ false
+    → (run_locals locals f).local x ≡ f.local x
 local-other [] f x none = refl
 local-other (l ∷ locals) f x none =
     let parts = or_parts (is_same_name x l.name) (is_among x (map name_of_local locals)) none in
@@ -139,23 +142,17 @@ kept-set (s ∷ stores) f differ (suc k) d x h is =
 
 -- ---- inputs
 
-pub inputs-other : (names : List (List ℕ)) (values : List Bool) (m : Memory) (x : List ℕ) → is_among x names ≡ false → with_inputs names values m x ≡ m x
-inputs-other [] values m x none = refl
-inputs-other (n ∷ names) [] m x none = refl
-inputs-other (n ∷ names) (v ∷ values) m x none =
-    let parts = or_parts (is_same_name x n) (is_among x names) none in
-    inputs-other names values (with_value n v m) x parts.1 ∙ ap (λ b. if b then v else m x) parts.0
-
-pub inputs-given : (names : List (List ℕ)) (values : List Bool) (m : Memory) → all_differ is_same_name names ≡ true → length values ≡ length names
-    → (k : ℕ) (d : List ℕ) → k < length names → with_inputs names values m (get_or names k d) ≡ get_or values k false
-inputs-given [] values m differ wide k d h = absurd (omega arith)
-inputs-given (n ∷ names) [] m differ wide k d h = absurd (omega arith)
-inputs-given (n ∷ names) (v ∷ values) m differ wide zero d h =
+pub given-at : (names : List (List ℕ)) (values : List Bool) (m : Memory) → all_differ is_same_name names ≡ true → length values ≡ length names
+    → (k : ℕ) → k < length names → with_given names values m (get_or names k []) ≡ get_or values k false
+given-at [] values m differ wide k h = absurd (omega arith)
+given-at (n ∷ names) [] m differ wide k h = absurd (omega arith)
+given-at (n ∷ names) (v ∷ values) m differ wide zero h = ap (λ b. if b then v else with_given names values m n) (same_name-self n)
+given-at (n ∷ names) (v ∷ values) m differ wide (suc k) h =
     let parts = and_parts (not (is_among n names)) (all_differ is_same_name names) differ in
-    inputs-other names values (with_value n v m) n (not-true (is_among n names) parts.0) ∙ ap (λ b. if b then v else m n) (same_name-self n)
-inputs-given (n ∷ names) (v ∷ values) m differ wide (suc k) d h =
-    let parts = and_parts (not (is_among n names)) (all_differ is_same_name names) differ in
-    inputs-given names values (with_value n v m) parts.1 (omega arith) k d (omega arith)
+    let other : is_same_name (get_or names k []) n ≡ false =
+    nat_list_eq_equiv.symm (get_or names k []) n
+    ∙ any-none (is_same_name n) names (not-true (is_among n names) parts.0) k [] (omega arith) in
+    ap (λ b. if b then v else with_given names values m (get_or names k [])) other ∙ given-at names values m parts.1 (omega arith) k (omega arith)
 
 -- ---- the reset
 

@@ -23,9 +23,11 @@ use Rattle.csub_embed.specs.declared.parts.TheConstants.{SECTIONS}
 
 -- the lists of the parts in their sections are those of the text
 whole-parts : {L : Type 0} (local : L → List ℕ)
-    (first comment opened states u1 c1 inputs u2 c2 outputs u3 c3 reset firsts untouched react ignored shown kept answer last : List ℕ) (gates nexts : List L) (running : L)
+    (first comment opened states u1 c1 inputs u2 c2 outputs u3 c3 reset firsts untouched react ignored shown kept answer last : List ℕ)
+    (gates nexts : List L) (running : L)
     → (first ++ (comment ++ opened)) ++ (states ++ ((u1 ++ (c1 ++ opened)) ++ (inputs ++ ((u2 ++ (c2 ++ opened)) ++ (outputs ++ ((u3 ++ (c3 ++ reset))
-    ++ (firsts ++ ((untouched ++ (react ++ ignored)) ++ (flat_map local gates ++ (flat_map local nexts ++ (local running ++ (shown ++ (kept ++ (answer ++ last))))))))))))))
+    ++ (firsts ++ ((untouched ++ (react ++ ignored)) ++ (flat_map local gates ++ (flat_map local nexts ++ (local running ++ (shown ++ (kept ++
+    (answer ++ last))))))))))))))
     ≡ first ++ ((comment ++ ((opened ++ (states ++ (u1 ++ c1))) ++ ((opened ++ (inputs ++ (u2 ++ c2))) ++ ((opened ++ (outputs ++ (u3 ++ c3)))
     ++ (reset ++ (firsts ++ (untouched ++ (react ++ (ignored ++ (flat_map local (gates ++ (nexts ++ running ∷ []))
     ++ (shown ++ (kept ++ answer)))))))))))) ++ last)
@@ -86,8 +88,10 @@ written-joined net =
     (flat_map (store_line self_word) (net_component net).kept) (return_lines (Local running_word)) last_line (numbered (gate_local net) 0 net.gates)
     (numbered (next_local net) 0 net.latches) (running_local net)
     ∙ ap (λ l. text net l (unused_line net.latches) (unused_line net.outputs) (untouched_line net.latches)) named
-    ∙ ap (λ l. text net (map name_of_state (net_component net).states) l (unused_line net.outputs) (untouched_line net.latches)) (sym (unused-states net.latches 0))
-    ∙ ap (λ l. text net (map name_of_state (net_component net).states) (unused_line (map name_of_state (net_component net).states)) l (untouched_line net.latches))
+    ∙ ap (λ l. text net (map name_of_state (net_component net).states) l (unused_line net.outputs) (untouched_line net.latches)) (sym
+    (unused-states net.latches 0))
+    ∙ ap (λ l. text net (map name_of_state (net_component net).states) (unused_line (map name_of_state (net_component net).states)) l
+    (untouched_line net.latches))
     (sym (unused-outputs net.outputs))
     ∙ ap (λ l. text net (map name_of_state (net_component net).states) (unused_line (map name_of_state (net_component net).states))
     (unused_line (output_names net)) l) (sym (untouched-states net.latches 0))

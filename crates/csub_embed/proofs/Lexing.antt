@@ -1,5 +1,6 @@
 -- The tokens of the pieces of a text.
-use Rattle.std.proofs.Common.{◌≡◌, ℕ, ◌+◌, ◌-◌, suc, Bool, true, false, not, List, [], ◌∷◌, ◌++◌, length, map, take, refl, sym, ap, ◌∙◌, subst, arith, append_assoc}
+use Rattle.std.proofs.Common.{◌≡◌, ℕ, ◌+◌, ◌-◌, suc, Bool, true, false, not, List, [], ◌∷◌, ◌++◌, length, map, take, refl, sym, ap, ◌∙◌, subst, arith}
+use Rattle.std.proofs.Common.{append_assoc}
 use Rattle.std.proofs.Common.{Option, Some, None}
 use Rattle.std.specs.Prelude.{codes, ◌==◌}
 use Rattle.std.specs.List.{list_all, prefix_len}
@@ -84,32 +85,39 @@ closed-behind (x ∷ z ∷ xs) ys n none is =
     let s : suc (length xs) + n + 1 ≡ suc (suc (length xs)) + n = omega arith in
     rw (not-true (x == 42) parts.0) (ap one_more (closed-behind (z ∷ xs) ys n parts.1 is) ∙ ap Some s)
 
+abbrev kinds_of : List (PlacedToken Kind) → List Kind
+kinds_of tokens = map (λ t. t.kind) tokens
+
 -- bytes that are passed over
-passed : (xs ys : List ℕ) (at : ℕ) → (b : ℕ) × (tokens_behind Bad front (length xs) at (xs ++ ys) ≡ tokens_behind Bad front 0 b ys)
+passed : (xs ys : List ℕ) (at : ℕ) → (b : ℕ) × (kinds_of (tokens_behind Bad front (length xs) at (xs ++ ys)) ≡ kinds_of (tokens_behind Bad front 0 b ys))
 passed [] ys at = (at, refl)
 passed (x ∷ xs) ys at = passed xs ys (at + 1)
 
 -- what stands behind the name in the comment, without the end of its line
-comment_tail : List ℕ
-comment_tail = codes ", by cec-opt 0.1.0: cec-opt c --embed. Any number of instances.\n * Reset an instance before its first call of react; react returns whether it is still running. */"
+comment_words : List ℕ
+comment_words =
+    codes ", by cec-opt 0.1.0: cec-opt c --embed. Any number of instances.\n"
+    ++ codes " * Reset an instance before its first call of react; react returns whether it is still running. */"
 
 no_star : (name : List ℕ) → list_all is_name_byte name ≡ true → list_all (λ c. not (c == 42)) name ≡ true
 no_star [] all = refl
 no_star (c ∷ cs) all =
     let parts = and_parts (is_name_byte c) (list_all is_name_byte cs) all in
     and_from (not (c == 42)) (list_all (λ d. not (d == 42)) cs)
-    (not_from_false (c == 42) (false_from_ne_true (c == 42) (λ e. both_ways (is_name_byte 42) refl (subst (λ n. is_name_byte n ≡ true) (eqb-true c 42 e) parts.0))))
+    (not_from_false (c == 42) (false_from_ne_true (c == 42) (λ e. both_ways (is_name_byte 42) refl (subst (λ n. is_name_byte n
+    ≡ true) (eqb-true c 42 e) parts.0))))
     (no_star cs parts.1)
 
 pub says-comment : (name : List ℕ) → is_name name ≡ true → Says (comment name) []
-unfolding comment_tail
+unfolding comment_words
 says-comment name fits = record {
   on = λ at rest.
-      let tail = comment_tail in
+      let tail = comment_words in
       let whole : List ℕ = name ++ (tail ++ 10 ∷ rest) in
       let n = length tail in
       let spelled : (name ++ (tail ++ 10 ∷ [])) ++ rest ≡ whole = append_assoc name (tail ++ 10 ∷ []) rest in
-      let closed : closed_after (32 ∷ whole) ≡ Some (suc (length name) + n) = closed-behind (32 ∷ name) (tail ++ 10 ∷ rest) n (no_star name (bytes-name name fits)) refl in
+      let closed : closed_after (32 ∷ whole) ≡ Some (suc (length name) + n) =
+      closed-behind (32 ∷ name) (tail ++ 10 ∷ rest) n (no_star name (bytes-name name fits)) refl in
       let xs : List ℕ = 42 ∷ 32 ∷ (name ++ tail) in
       let wide = length-append name tail in
       let count : suc (length name) + n + 1 ≡ length xs = omega arith in
@@ -121,7 +129,7 @@ says-comment name fits = record {
             (λ m. tokens_behind Bad front m (at + 1 + 1) (42 ∷ 32 ∷ whole)))) closed
             ∙ ap (λ m. map (λ (t : PlacedToken Kind). t.kind) (tokens_behind Bad front m (at + 1 + 1) (42 ∷ 32 ∷ whole))) count
             ∙ ap (λ l. map (λ (t : PlacedToken Kind). t.kind) (tokens_behind Bad front (length xs) (at + 1 + 1) l)) again
-            ∙ ap (λ ts. map (λ (t : PlacedToken Kind). t.kind) ts) more.1,
+            ∙ more.1,
       );
 }
 
@@ -201,4 +209,3 @@ says-return = record { on = λ at rest. (at + 1 + 1 + 1 + 1 + 1 + 1 + 1 + 1 + 1 
 
 pub says-last : Says (codes ";\n}\n") (semicolon ∷ Mark (codes "}") ∷ [])
 says-last = record { on = λ at rest. (at + 1 + 1 + 1 + 1, refl) }
-

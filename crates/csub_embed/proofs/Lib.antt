@@ -1,4 +1,5 @@
 mod Appends
+mod Finding
 mod Lexing
 mod Spelling
 mod Frames

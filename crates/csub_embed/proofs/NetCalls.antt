@@ -1,5 +1,6 @@
 -- What a call of a net's component leaves: the values of the nets.
-use Rattle.std.proofs.Common.{◌≡◌, ℕ, ◌+◌, ◌-◌, ◌<◌, ◌≤◌, ◌==◌, zero, suc, Bool, true, false, not, List, [], ◌∷◌, ◌++◌, length, map, get_or, refl, sym, ap, ◌∙◌, subst, arith, inl, inr}
+use Rattle.std.proofs.Common.{◌≡◌, ℕ, ◌+◌, ◌-◌, ◌<◌, ◌≤◌, ◌==◌, zero, suc, Bool, true, false, not, List, [], ◌∷◌, ◌++◌, length, map, get_or, refl, sym, ap}
+use Rattle.std.proofs.Common.{◌∙◌, subst, arith, inl, inr}
 use Rattle.std.proofs.lemmas.Bool.{cases_lt}
 use Rattle.std.proofs.lemmas.List.{length-append, length-map, get_or-map, get_or_append_left, get_or-append-add}
 use Rattle.base_facts.proofs.Lists.{map-composed}
@@ -15,14 +16,15 @@ use Rattle.net_ir.specs.Runs.{net_values}
 use Rattle.net_ir.specs.Writing.{IsWritable}
 use Rattle.net_ir.proofs.Exports.{get_or-numbered, length-numbered, map-numbered, net_cases}
 use Rattle.net_expressions.proofs.Exports.{any_gate, any_latch, any_output}
-use Rattle.csub_text.specs.Machine.{Memory, with_inputs}
-use Rattle.csub_embed.specs.Machine.{Frame, place_value, run_locals, run_shown, run_kept, run_body}
+use Rattle.csub_text.specs.Machine.{Memory}
+use Rattle.csub_embed.specs.Machine.{Frame, place_value, run_locals, run_shown, run_kept, run_body, with_given}
 use Rattle.csub_embed.specs.Names.{name_of_local}
 use Rattle.csub_embed.specs.Trees.{Place, State, Given, Local, LocalValue, Transfer, Const}
 use Rattle.csub_embed.specs.Written.{state_word, gate_word, next_word, running_word, place_of, gate_local, next_local, running_local, output_store, state_store}
 use Rattle.csub_embed.specs.Written.{net_locals, net_component}
-use Rattle.csub_embed.proofs.Frames.{Past, place-past, locals-append, local-other, locals-copy, members, shown-place, shown-set, kept-shown, kept-local, kept-set}
-use Rattle.csub_embed.proofs.Frames.{inputs-given}
+use Rattle.csub_embed.proofs.Frames.{Past, place-past, locals-append, local-other, locals-copy, members, shown-place, shown-set, kept-shown, kept-local}
+use Rattle.csub_embed.proofs.Frames.{kept-set}
+use Rattle.csub_embed.proofs.Frames.{given-at}
 use Rattle.csub_embed.proofs.NetFrames.{Has, gates-run, place-input, place-state, place-gate}
 use Rattle.csub_embed.proofs.NetNames.{next_words, state_words, differ-nexts, differ-states, gate-no_next}
 
@@ -57,12 +59,12 @@ past-running net n h = net_cases net n h
 
 -- the inputs and the states before the gates
 has-first : (net : Netlist) → IsWritable net → (latches inputs : List Bool) (f : Frame) (m : Memory) → length latches ≡ length net.latches
-    → length inputs ≡ length net.inputs → Keeps net f.state latches → f.given ≡ with_inputs net.inputs inputs m
+    → length inputs ≡ length net.inputs → Keeps net f.state latches → f.given ≡ with_given net.inputs inputs m
     → Has net (first_gate net) f (inputs ++ latches)
 has-first net is latches inputs f m wide_l wide_i keeps given i h = elim (cases_lt i (length net.inputs)) [
   | inl low ↦
       ap (place_value f) (place-input net i low) ∙ ap (λ g. g (get_or net.inputs i [])) given
-      ∙ inputs-given net.inputs inputs m is.is_net.inputs_differ wide_i i [] low
+      ∙ given-at net.inputs inputs m is.is_net.inputs_differ wide_i i low
       ∙ sym (get_or_append_left inputs latches false i (omega arith))
   | inr high ↦
       let j = i - length net.inputs in
@@ -73,7 +75,7 @@ has-first net is latches inputs f m wide_l wide_i keeps given i h = elim (cases_
 ]
 
 pub call-leaves : (net : Netlist) → IsWritable net → (latches inputs : List Bool) (f : Frame) (m : Memory) → length latches ≡ length net.latches
-    → length inputs ≡ length net.inputs → Keeps net f.state latches → f.given ≡ with_inputs net.inputs inputs m
+    → length inputs ≡ length net.inputs → Keeps net f.state latches → f.given ≡ with_given net.inputs inputs m
     → Leaves net (net_values net latches inputs) (run_body (net_component net) f)
 call-leaves net is latches inputs f m wide_l wide_i keeps given =
     let values = net_values net latches inputs in
@@ -100,7 +102,8 @@ call-leaves net is latches inputs f m wide_l wide_i keeps given =
     let z : 0 + j ≡ j = omega arith in
     let latch = get_or net.latches j any_latch in
     let range = is.is_net.latches_in_range j any_latch h in
-    let at : get_or (nexts net) j d ≡ next_local net j latch = get_or-numbered (next_local net) 0 net.latches j d any_latch h ∙ ap (λ k. next_local net k latch) z in
+    let at : get_or (nexts net) j d ≡ next_local net j latch = get_or-numbered (next_local net) 0 net.latches j d any_latch h
+    ∙ ap (λ k. next_local net k latch) z in
     local-other running f2 (next_word j) refl
     ∙ ap (λ (l : LocalValue). f2.local l.name) (sym at)
     ∙ locals-copy (nexts net) f1 (ap (all_differ is_same_name) (next_names net) ∙ differ-nexts net is) j d (place_of net latch.from.0) (omega arith)

@@ -1,5 +1,6 @@
 -- The frames of a call of a net's component: where the values of the nets are.
-use Rattle.std.proofs.Common.{◌≡◌, ℕ, ◌+◌, ◌-◌, ◌<◌, ◌≤◌, ◌^◌, zero, suc, Bool, true, false, not, ◌&&◌, ◌||◌, List, [], ◌∷◌, ◌++◌, length, map, get_or, refl, sym, ap, ap₂, ◌∙◌, subst, arith, inl, inr}
+use Rattle.std.proofs.Common.{◌≡◌, ℕ, ◌+◌, ◌-◌, ◌<◌, ◌≤◌, ◌^◌, zero, suc, Bool, true, false, not, ◌&&◌, ◌||◌, List, [], ◌∷◌, ◌++◌, length, map, get_or, refl}
+use Rattle.std.proofs.Common.{sym, ap, ap₂, ◌∙◌, subst, arith, inl, inr}
 use Rattle.std.specs.Prelude.{nat_lt, if◌then◌else◌}
 use Rattle.std.proofs.lemmas.Bool.{cases_lt, lt-ltb, le-ltb}
 use Rattle.std.proofs.lemmas.List.{length-append, length_push, get_or_append_left, get_or-append-add, get_or_push}
@@ -63,7 +64,8 @@ place-kept net is n low f value i h =
     let at : place_of net i ≡ State (state_word j) = ap (place_of net) e ∙ place-state net j state in ap (place_value g) at ∙ ap (place_value f) (sym at))
     (λ k gate e.
     let at : place_of net i ≡ Local (gate_word k) = ap (place_of net) e ∙ place-gate net k gate in
-    let other : is_same_name (gate_word k) (gate_word n) ≡ false = differ-decimal k n (omega arith) (omega arith) (λ same. let l : k < n = omega arith in absurd (omega (arith, l, same))) in
+    let other : is_same_name (gate_word k) (gate_word n) ≡ false = differ-decimal k n (omega arith) (omega arith) (λ same. let l : k < n =
+    omega arith in absurd (omega (arith, l, same))) in
     ap (place_value g) at ∙ ap (λ b. if b then value else f.local (gate_word k)) other ∙ ap (place_value f) (sym at))
 
 pub gates-run : (net : Netlist) → IsWritable net → (n : ℕ) (gates : List Gate) (f : Frame) (values : List Bool)

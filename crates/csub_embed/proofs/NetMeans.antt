@@ -1,7 +1,8 @@
 -- The text of a net that can be embedded means the net.
-use Rattle.std.proofs.Common.{◌≡◌, ℕ, ◌+◌, ◌<◌, zero, suc, Bool, true, false, List, [], ◌∷◌, ◌++◌, length, map, get_or, refl, sym, ap, ap₂, ◌∙◌, subst, arith, Option, Some, None}
+use Rattle.std.proofs.Common.{◌≡◌, ℕ, ◌+◌, ◌<◌, zero, suc, Bool, true, false, List, [], ◌∷◌, ◌++◌, length, map, get_or, refl, sym, ap, ap₂, ◌∙◌, subst, arith}
+use Rattle.std.proofs.Common.{Option, Some, None, ⊎_elim}
 use Rattle.std.specs.Prelude.{filter, nat_eq, if◌then◌else◌}
-use Rattle.std.proofs.lemmas.Bool.{eqb-true}
+use Rattle.std.proofs.lemmas.Bool.{cases_Bool, eqb-true}
 use Rattle.std.proofs.lemmas.List.{length-map, get_or-map, ext_get_or}
 use Rattle.base_types.specs.Distinct.{all_differ}
 use Rattle.base_types.specs.Names.{is_same_name}
@@ -16,11 +17,12 @@ use Rattle.net_ir.specs.Runs.{shown, net_run, net_values, net_values_run, next_l
 use Rattle.net_ir.specs.Writing.{IsWritable}
 use Rattle.net_ir.proofs.Exports.{get_or-numbered, length-next, length-numbered, map-numbered}
 use Rattle.net_expressions.proofs.Exports.{any_latch, any_output}
-use Rattle.csub_text.specs.Machine.{Memory, with_inputs}
+use Rattle.csub_text.specs.Machine.{Memory}
 use Rattle.csub_text.specs.Written.{shown_by_call}
 use Rattle.csub_embed.specs.Faults.{IsEmbeddable}
-use Rattle.csub_embed.specs.Machine.{Frame, Call, InstanceStates, SeenCall, SeenOf, react, reset, seen, with_instance, left_state, seen_after, run_calls, own_seen, own_items}
-use Rattle.csub_embed.specs.Machine.{BeginsReset}
+use Rattle.csub_embed.specs.Machine.{Frame, Call, InstanceStates, SeenCall, SeenOf, react, reset, seen, with_instance, left_state, seen_after, run_calls}
+use Rattle.csub_embed.specs.Machine.{own_seen, own_items}
+use Rattle.csub_embed.specs.Machine.{BeginsReset, with_given}
 use Rattle.csub_embed.specs.Texts.{Describes, first_lines, last_line}
 use Rattle.csub_embed.specs.Trees.{StateVariable, Component, name_of_state}
 use Rattle.csub_embed.specs.Written.{state_word, net_state, net_component, body_text, written, Means}
@@ -34,7 +36,7 @@ use Rattle.csub_embed.proofs.Spelling.{kinds-component}
 
 frame : Netlist → List Bool → Memory → Frame → Frame
 frame net inputs state around =
-    record { state = state; given = with_inputs net.inputs inputs around.given; shown = around.shown; local = around.local }
+    record { state = state; given = with_given net.inputs inputs around.given; shown = around.shown; local = around.local }
 
 react-leaves : (net : Netlist) → IsWritable net → (latches inputs : List Bool) (state : Memory) (around : Frame) → length latches ≡ length net.latches
     → length inputs ≡ length net.inputs → Keeps net state latches
@@ -66,7 +68,8 @@ kept-reset net is state j h =
     let d : StateVariable = record { name = []; init = false } in
     let n = length-numbered net_state 0 net.latches in
     let latch = get_or net.latches j any_latch in
-    let at : get_or (net_component net).states j d ≡ net_state j latch = get_or-numbered net_state 0 net.latches j d any_latch h ∙ ap (λ k. net_state k latch) z in
+    let at : get_or (net_component net).states j d ≡ net_state j latch = get_or-numbered net_state 0 net.latches j d any_latch h
+    ∙ ap (λ k. net_state k latch) z in
     ap (λ (s : StateVariable). reset (net_component net).states state s.name) (sym at)
     ∙ reset-set (net_component net).states state (ap (all_differ is_same_name) (map-numbered name_of_state net_state 0 net.latches) ∙ differ-states net is) j d
     (omega arith)
@@ -83,11 +86,6 @@ Knows net state (Some latches) items = Keeps net state latches × (length latche
 abbrev shown_from : Netlist → Option (List Bool) → List Item → List (List Bool)
 shown_from net None items = net_values_run net items
 shown_from net (Some latches) items = values_from net latches items
-
--- a test that fails, or passes
-tested : {C : Type 0} (b : Bool) → (b ≡ true → C) → (b ≡ false → C) → C
-tested true here there = here refl
-tested false here there = there refl
 
 tagged-apart : (j k : ℕ) (xs : List SeenCall) (rest : List SeenOf) → nat_eq j k ≡ false
     → own_seen k (map (λ s. record { instance = j; seen = s }) xs ++ rest) ≡ own_seen k rest
@@ -126,7 +124,8 @@ module _ (net : Netlist) (is : IsWritable net) (k : ℕ) where
   Fits inputs = length inputs ≡ length net.inputs
 
   abbrev Told : List Call → Type 0
-  Told calls = (instances : InstanceStates) (known : Option (List Bool)) → Knows net (instances k) known (own_items k calls) → EachEvent Fits (own_items k calls)
+  Told calls = (instances : InstanceStates) (known : Option (List Bool)) → Knows net (instances k) known (own_items k calls)
+      → EachEvent Fits (own_items k calls)
       → own_seen k (run_calls c instances calls) ≡ map (λ v. shown_by_call (shown net v)) (shown_from net known (own_items k calls))
 
   -- an own call
@@ -141,7 +140,8 @@ module _ (net : Netlist) (is : IsWritable net) (k : ℕ) where
       here s = ap (λ b. if b then s else instances k) same
 
       go : (item : Item) (known : Option (List Bool)) → Knows net (instances k) known (item ∷ own_items k calls) → EachEvent Fits (item ∷ own_items k calls)
-          → seen_after c item x.around (instances x.instance) ++ own_seen k (run_calls c (with_instance x.instance (left_state c item x.around (instances x.instance)) instances) calls)
+          → seen_after c item x.around (instances x.instance) ++ own_seen k (run_calls c (with_instance x.instance (left_state c item x.around
+          (instances x.instance)) instances) calls)
           ≡ map (λ v. shown_by_call (shown net v)) (shown_from net known (item ∷ own_items k calls))
       go (Event inputs) None knows fits = absurd knows
       go (Event inputs) (Some latches) knows fits =
@@ -154,8 +154,11 @@ module _ (net : Netlist) (is : IsWritable net) (k : ℕ) where
           ap₂ (λ s l. s ∷ l) (seen-net net values behind leaves) rest
       go Reset known knows fits =
           let wide = length-map net.latches (λ (l : Latch). l.init) in
-          let rest = later (with_instance x.instance (reset c.states (instances x.instance)) instances) (Some (initial_latches net))
-          (subst (λ m. Keeps net m (initial_latches net)) (sym (here (reset c.states (instances x.instance)))) (kept-reset net is (instances x.instance)), wide) fits in
+          let rest = later (with_instance x.instance (reset c.states (instances x.instance)) instances) (Some (initial_latches net)) (
+            subst (λ m. Keeps net m (initial_latches net)) (sym (here (reset c.states (instances x.instance)))) (kept-reset net is
+                (instances x.instance)),
+            wide,
+          ) fits in
           rest ∙ from-reset known
         where
           from-reset : (known : Option (List Bool)) → map (λ v. shown_by_call (shown net v)) (values_from net (initial_latches net) (own_items k calls))
@@ -171,7 +174,7 @@ module _ (net : Netlist) (is : IsWritable net) (k : ℕ) where
       let rest = run_calls c (with_instance x.instance (left_state c x.item x.around state) instances) calls in
       let P : List Item → Type 0 = λ items. Knows net (instances k) known items in
       let Q : List Item → Type 0 = EachEvent Fits in
-      tested (nat_eq x.instance k)
+      ⊎_elim
       (λ same.
       let items = items-own k x calls same in
       tagged-own x.instance k (seen_after c x.item x.around state) rest same
@@ -185,6 +188,7 @@ module _ (net : Netlist) (is : IsWritable net) (k : ℕ) where
       ∙ calls-shown calls (with_instance x.instance (left_state c x.item x.around state) instances) known
       (subst (λ m. Knows net m known (own_items k calls)) (sym stays) (subst P items knows)) (subst Q items fits)
       ∙ ap (λ l. map (λ v. shown_by_call (shown net v)) (shown_from net known l)) (sym items))
+      (cases_Bool (nat_eq x.instance k))
 
 -- ---- the text
 

@@ -1,5 +1,6 @@
 -- The component of a net that can be embedded keeps the rules on names, and is spelled with words.
-use Rattle.std.proofs.Common.{◌≡◌, ℕ, ◌+◌, ◌-◌, ◌<◌, ◌≤◌, ◌^◌, zero, suc, Bool, true, false, not, ◌||◌, List, [], ◌∷◌, ◌++◌, length, map, get_or, All, refl, sym, ap, ◌∙◌, subst, arith, inl, inr}
+use Rattle.std.proofs.Common.{◌≡◌, ℕ, ◌+◌, ◌-◌, ◌<◌, ◌≤◌, ◌^◌, zero, suc, Bool, true, false, not, ◌||◌, List, [], ◌∷◌, ◌++◌, length, map, get_or, All, refl}
+use Rattle.std.proofs.Common.{sym, ap, ◌∙◌, subst, arith, inl, inr}
 use Rattle.std.specs.List.{AllByRecursion, list_any}
 use Rattle.std.proofs.lemmas.Bool.{or_left, or_right, or_parts, cases_lt}
 use Rattle.std.proofs.lemmas.List.{length-append, length-map, get_or-map}
@@ -39,12 +40,22 @@ all-recursive : {X : Type 0} (P : X → Type 0) (xs : List X) → All P xs → A
 all-recursive P [] all = tt
 all-recursive P (x ∷ xs) all = (all 0 x (omega arith), all-recursive P xs (λ k d h. all (suc k) d (omega arith)))
 
-one : {X : Type 0} (P : X → Type 0) (x : X) → P x → All P (x ∷ [])
-one P x p zero d h = p
-one P x p (suc k) d h = absurd (omega arith)
+-- of the parameters that nothing uses
+empty-all : {X : Type 0} (P : List ℕ → Type 0) (xs : List X) (name : List ℕ) → P name → All P (where_empty xs name)
+empty-all P [] name p zero d h = p
+empty-all P [] name p (suc k) d h = absurd (omega arith)
+empty-all P (x ∷ xs) name p k d h = absurd (omega arith)
 
-none : {X : Type 0} (P : X → Type 0) → All P []
-none P k d h = absurd (omega arith)
+unread-all : (P : List ℕ → Type 0) (read : Bool) → P in_word → All P (where_unread read)
+unread-all P true p k d h = absurd (omega arith)
+unread-all P false p zero d h = p
+unread-all P false p (suc k) d h = absurd (omega arith)
+
+ignored-all : (P : List ℕ → Type 0) (net : Netlist) → P self_word → P in_word → P out_word → All P (net_ignored net)
+ignored-all P net own given shown =
+    All-append P (where_empty net.latches self_word) _ (empty-all P net.latches self_word own)
+    (All-append P (where_unread (reads_input net)) (where_empty net.outputs out_word) (unread-all P (reads_input net) given)
+    (empty-all P net.outputs out_word shown))
 
 states-net : (net : Netlist) → map name_of_state (net_component net).states ≡ state_words net
 states-net net = map-numbered name_of_state net_state 0 net.latches
@@ -76,7 +87,7 @@ module _ (net : Netlist) (is : IsWritable net) where
       All-append IsFree (gate_words net) _ (All-numbered IsFree (λ k (gate : Gate). gate_word k) 0 net.gates (λ k d h. free-gate (0 + k) (omega (arith, few))))
       (All-append IsFree (next_words net) (running_word ∷ [])
       (All-numbered IsFree (λ j (latch : Latch). next_word j) 0 net.latches (λ k d h. free-next (0 + k) (omega (arith, few))))
-      (one IsFree running_word free-running))
+      (All-numbered IsFree (λ k (n : ℕ). running_word) 0 (0 ∷ []) (λ k d h. free-running)))
 
   -- ---- what is read is declared
 
@@ -167,19 +178,7 @@ module _ (net : Netlist) (is : IsWritable net) where
   -- ---- parameters
 
   ignored-known : All (λ name. is_among name parameters ≡ true) (net_ignored net)
-  ignored-known =
-      All-append (λ name. is_among name parameters ≡ true) (where_empty net.latches self_word) _ (known-empty net.latches self_word refl)
-      (All-append (λ name. is_among name parameters ≡ true) (where_unread (reads_input net)) (where_empty net.outputs out_word)
-      (known-unread (reads_input net)) (known-empty net.outputs out_word refl))
-    where
-      known-empty : {X : Type 0} (xs : List X) (name : List ℕ) → is_among name parameters ≡ true
-          → All (λ name. is_among name parameters ≡ true) (where_empty xs name)
-      known-empty [] name known = one (λ name. is_among name parameters ≡ true) name known
-      known-empty (x ∷ xs) name known = none (λ name. is_among name parameters ≡ true)
-
-      known-unread : (read : Bool) → All (λ name. is_among name parameters ≡ true) (where_unread read)
-      known-unread true = none (λ name. is_among name parameters ≡ true)
-      known-unread false = one (λ name. is_among name parameters ≡ true) in_word refl
+  ignored-known = ignored-all (λ name. is_among name parameters ≡ true) net refl refl refl
 
   -- ---- together
 
@@ -243,17 +242,7 @@ module _ (net : Netlist) (is : IsWritable net) where
 
   spelled-ignored : All IsSpelledWord (net_ignored net)
   spelled-ignored =
-      All-append IsSpelledWord (where_empty net.latches self_word) _ (spelled-empty net.latches self_word (spelled-word self_word refl))
-      (All-append IsSpelledWord (where_unread (reads_input net)) (where_empty net.outputs out_word)
-      (spelled-unread (reads_input net)) (spelled-empty net.outputs out_word (spelled-word out_word refl)))
-    where
-      spelled-empty : {X : Type 0} (xs : List X) (name : List ℕ) → IsSpelledWord name → All IsSpelledWord (where_empty xs name)
-      spelled-empty [] name word = one IsSpelledWord name word
-      spelled-empty (x ∷ xs) name word = none IsSpelledWord
-
-      spelled-unread : (read : Bool) → All IsSpelledWord (where_unread read)
-      spelled-unread true = none IsSpelledWord
-      spelled-unread false = one IsSpelledWord in_word (spelled-word in_word refl)
+      ignored-all IsSpelledWord net (spelled-word self_word refl) (spelled-word in_word refl) (spelled-word out_word refl)
 
   pub spelled-net : IsEmbeddable net → IsSpelled (net_component net)
   spelled-net fits = record {
@@ -265,7 +254,7 @@ module _ (net : Netlist) (is : IsWritable net) where
     ignored = spelled-ignored;
     locals = All-append LocalSpelled (numbered (gate_local net) 0 net.gates) _ (spelled-gates fits)
         (All-append LocalSpelled (numbered (next_local net) 0 net.latches) (running_local net ∷ []) (spelled-nexts fits)
-        (one LocalSpelled (running_local net) (spelled-running fits)));
+        (All-numbered LocalSpelled (λ k (n : ℕ). running_local net) 0 (0 ∷ []) (λ k d h. spelled-running fits)));
     shown = All-map StoreSpelled (output_store net) net.outputs (λ k d h. record {
       member = spelled-free (get_or net.outputs k d).name (free-output fits k d h);
       from = spelled-place fits (get_or net.outputs k d).net.0 (is.is_net.outputs_in_range k d h);

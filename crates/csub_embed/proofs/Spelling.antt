@@ -4,7 +4,7 @@ use Rattle.std.specs.Prelude.{flat_map, codes}
 use Rattle.std.proofs.lemmas.List.Elements.{All-map}
 use Rattle.base_types.specs.Names.{is_name, is_name_byte}
 use Rattle.net_expressions.proofs.Exports.{says-then, says-lines, says-whole}
-use Rattle.net_expressions.proofs.Saying.{says-nothing}
+use Rattle.net_expressions.proofs.Saying as saying
 use Rattle.csub_embed.specs.Grammar.{semicolon, equals, arrow, self_word, in_word, out_word, bit_kind, place_kinds, value_kinds, member_kinds, unused_kinds}
 use Rattle.csub_embed.specs.Grammar.{open_kinds, close_kinds, structure_kinds, ignored_kinds, untouched_kinds, first_kinds, reset_head_kinds, react_head_kinds}
 use Rattle.csub_embed.specs.Grammar.{local_kinds, store_kinds, answer_kinds, component_kinds}
@@ -98,7 +98,7 @@ says-member name is =
 
 says-no-member : (names : List (List ℕ)) → Says (unused_line names) (unused_kinds names)
 says-no-member [] = says-unused
-says-no-member (name ∷ names) = says-nothing
+says-no-member (name ∷ names) = saying.says-nothing
 
 says-ignored-line : (parameter : List ℕ) → IsSpelledWord parameter → Says (ignored_line parameter) (ignored_kinds parameter)
 says-ignored-line parameter is =
@@ -107,7 +107,7 @@ says-ignored-line parameter is =
 
 says-untouched : (names : List (List ℕ)) → Says (untouched_line names) (untouched_kinds names)
 says-untouched [] = says-ignored-line self_word (spelled-word self_word refl)
-says-untouched (name ∷ names) = says-nothing
+says-untouched (name ∷ names) = saying.says-nothing
 
 says-first : (s : StateVariable) → IsSpelledWord s.name → Says (first_line s) (first_kinds s)
 says-first s is =

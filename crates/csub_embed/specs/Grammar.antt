@@ -1,5 +1,6 @@
 -- To believe: the tokens of a component, which determine it. In words, where NAME is the name of the component:
 --
+-- ```
 --   text      = structure(NAME_t) structure(NAME_inputs_t) structure(NAME_outputs_t) reset react
 --   structure(TYPE) = "typedef" "struct" "{" ( member { member } | "uint8_t" "unused" ";" ) "}" TYPE ";"
 --   member    = "bool" MEMBER ";"
@@ -14,6 +15,7 @@
 --   value     = bit | place | "!" place | place "&&" place | place "||" place
 --   place     = "self" "->" MEMBER | "in" "->" MEMBER | LOCAL
 --   bit       = "true" | "false"
+-- ```
 -- A structure without members of its own has the member `unused`, which is no state, input or output.
 use Rattle.std.specs.Prelude.{ℕ, Bool, true, false, List, [], ◌∷◌, ◌++◌, map, flat_map, codes}
 use Rattle.csub_embed.specs.Tokens.{Kind, Word, Mark}

@@ -1,8 +1,9 @@
--- To believe: what calls do on any number of instances. An instance has a value for each member of its state, and a call
--- of NAME_react or NAME_reset on it changes those alone. The structures of a call do not overlap.
+-- To believe: what calls do on any number of instances. An instance has a value for each member of its state, and a
+-- call of NAME_react or NAME_reset on it changes those alone. The structures of a call do not overlap.
 use Rattle.std.specs.Prelude.{ℕ, Bool, not, ◌&&◌, ◌||◌, List, [], ◌∷◌, ◌++◌, map, filter, nat_eq, if◌then◌else◌}
 use Rattle.base_types.specs.Items.{Item, Event, Reset}
-use Rattle.csub_text.specs.Machine.{Memory, with_value, with_inputs}
+use Rattle.base_types.specs.Names.{is_same_name}
+use Rattle.csub_text.specs.Machine.{Memory, with_value}
 pub use Rattle.csub_text.specs.Machine.{SeenCall}
 use Rattle.csub_embed.specs.Trees.{StateVariable, Place, State, Given, Local, Value, Const, Copy, Not, And, Or}
 use Rattle.csub_embed.specs.Trees.{LocalValue, Transfer, Component}
@@ -47,13 +48,19 @@ run_kept (s ∷ stores) f = run_kept stores (record f { state = with_value s.mem
 abbrev pub run_body : Component → Frame → Frame
 run_body c f = run_kept c.kept (run_shown c.shown (run_locals c.locals f))
 
--- A call of NAME_react with these inputs, on an instance with this state. What the outputs and the locals hold before is
--- `around`, of which nothing is known.
+-- the members of the inputs have these values, in declared order
+abbrev pub with_given : List (List ℕ) → List Bool → Memory → Memory
+with_given (name ∷ names) (value ∷ values) memory =
+    λ other. if is_same_name other name then value else with_given names values memory other
+with_given others more memory = memory
+
+-- A call of NAME_react with these inputs, on an instance with this state. What the outputs and the locals hold before
+-- is `around`, of which nothing is known.
 abbrev pub react : Component → List Bool → Memory → Frame → Frame
 react c inputs state around =
     run_body c (record {
       state = state;
-      given = with_inputs c.inputs inputs around.given;
+      given = with_given c.inputs inputs around.given;
       shown = around.shown;
       local = around.local;
     })

@@ -1,6 +1,6 @@
--- To believe: the rules on names, which C and C++ have. The members of a structure differ, and so do the locals. No name
--- is a word of C or of C++. What is read is a member of its structure, or a local that is declared before. Each member
--- of the outputs and of the state is set once, in declared order.
+-- To believe: the rules on names, which C and C++ have. The members of a structure differ, and so do the locals. No
+-- name is a word of C or of C++. What is read is a member of its structure, or a local that is declared before. Each
+-- member of the outputs and of the state is set once, in declared order.
 use Rattle.std.specs.Prelude.{◌≡◌, ℕ, Bool, true, false, ◌&&◌, List, [], ◌∷◌, ◌++◌, map, IsTrue, codes}
 use Rattle.std.specs.List.{list_all, list_any, AllByRecursion}
 use Rattle.base_types.specs.Distinct.{all_differ}

@@ -1,9 +1,9 @@
 -- Inner: the parts of a net's embedded text, section by section.
-use Rattle.std.specs.Prelude.{ℕ, List, [], ◌∷◌, ◌++◌, map, flat_map, codes}
+use Rattle.std.specs.Prelude.{ℕ, Bool, true, false, List, [], ◌∷◌, ◌++◌, map, flat_map, codes}
 use Rattle.net_ir.specs.Netlists.{Netlist}
 use Rattle.net_ir.specs.Numbered.{numbered}
 use Rattle.csub_embed.specs.Trees.{Local}
-use Rattle.csub_embed.specs.Grammar.{self_word, out_word}
+use Rattle.csub_embed.specs.Grammar.{self_word, in_word, out_word}
 use Rattle.csub_embed.specs.Texts.{first_lines, last_line}
 use Rattle.csub_embed.specs.Written.{state_word, net_state, gate_local, next_local, running_local, output_store}
 use Rattle.csub_embed.specs.Written.{state_store, net_ignored, running_word, comment, open_text, member_line}
@@ -25,6 +25,15 @@ inputs_end net = unused_line net.inputs ++ (close_text (net.name ++ codes "_inpu
 
 abbrev pub outputs_end : Netlist → List ℕ
 outputs_end net = unused_line net.outputs ++ (close_text (net.name ++ codes "_outputs_t") ++ reset_head net.name)
+
+-- the inputs where nothing reads one, and the outputs where there are none
+abbrev pub unread_line : Bool → List ℕ
+unread_line true = []
+unread_line false = ignored_line in_word
+
+abbrev pub unshown_line : {X : Type 0} → List X → List ℕ
+unshown_line [] = ignored_line out_word
+unshown_line (x ∷ xs) = []
 
 abbrev pub react_text : Netlist → List ℕ
 react_text net = untouched_line net.latches ++ (react_head net.name ++ flat_map ignored_line (net_ignored net))

@@ -1,5 +1,5 @@
--- To believe: the tokens of an embedded text, each as long as it can be: words, and marks of one or two bytes. Spaces and
--- comments are none.
+-- To believe: the tokens of an embedded text, each as long as it can be: words, and marks of one or two bytes. Spaces
+-- and comments are none.
 use Rattle.std.specs.Prelude.{ℕ, ◌+◌, ◌==◌, Bool, ◌||◌, List, [], ◌∷◌, take, map}
 use Rattle.std.specs.Prelude.{Option, Some, None, if◌then◌else◌}
 use Rattle.std.specs.List.{prefix_len}

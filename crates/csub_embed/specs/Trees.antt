@@ -1,5 +1,5 @@
--- To believe: embedded components as plain trees. A component is a C text with a structure for the state of an instance,
--- one for the inputs and one for the outputs of a call, and two functions, NAME_reset and NAME_react.
+-- To believe: embedded components as plain trees. A component is a C text with a structure for the state of an
+-- instance, one for the inputs and one for the outputs of a call, and two functions, NAME_reset and NAME_react.
 use Rattle.std.specs.Prelude.{ℕ, Bool, List}
 pub use Rattle.csub_text.specs.Trees.{StateVariable}
 
@@ -26,9 +26,9 @@ pub record Transfer : Type 0 where
   pub member : List ℕ
   pub from : Place
 
--- The members of the structures in their order, where a state has the value that NAME_reset gives it. NAME_react ignores
--- some of its parameters, computes its locals, sets the members of the outputs and then those of the state, and returns
--- a place.
+-- The members of the structures in their order, where a state has the value that NAME_reset gives it. NAME_react
+-- ignores some of its parameters, computes its locals, sets the members of the outputs and then those of the state, and
+-- returns a place.
 pub record Component : Type 0 where
   pub name : List ℕ
   pub states : List StateVariable

@@ -136,9 +136,13 @@ value_text (Or first second) = written_place first ++ (codes " || " ++ written_p
 abbrev pub line_end : List ℕ
 line_end = codes ";\n"
 
+abbrev pub comment_tail : List ℕ
+comment_tail =
+    codes ", by cec-opt 0.1.0: cec-opt c --embed. Any number of instances.\n"
+    ++ codes " * Reset an instance before its first call of react; react returns whether it is still running. */\n"
+
 abbrev pub comment : List ℕ → List ℕ
-comment name =
-    codes "\n/* " ++ (name ++ codes ", by cec-opt 0.1.0: cec-opt c --embed. Any number of instances.\n * Reset an instance before its first call of react; react returns whether it is still running. */\n")
+comment name = codes "\n/* " ++ (name ++ comment_tail)
 
 abbrev pub open_text : List ℕ
 open_text = codes "\ntypedef struct {\n"

@@ -3,8 +3,9 @@
 ghost use Rattle.std.specs.Prelude.{◌≡◌, [], ◌++◌, codes, flat_map, OnOk, if◌then◌else◌};
 ghost use Rattle.net_ir.specs.Runs.{netlist_of};
 ghost use Rattle.csub_embed.specs.Parts.{head_text, states_end, inputs_end, outputs_end, react_text, end_text};
+ghost use Rattle.csub_embed.specs.Parts.{unread_line, unshown_line};
 ghost use Rattle.csub_embed.specs.Texts.{first_lines};
-ghost use Rattle.csub_embed.specs.Written.{reads_input as reads_input_of, close_text, react_head, reset_head};
+ghost use Rattle.csub_embed.specs.Written.{reads_input as reads_input_of, close_text, comment, react_head, reset_head};
 ghost use Rattle.csub_embed.specs.Written.{ignored_line, net_ignored, untouched_line, unused_line};
 
 use base_types::{NoMemory, Text, put};
@@ -15,14 +16,29 @@ use net_writer::put_named;
 pub fn put_head(text: &mut Vec<u8>, name: &Text) -> Result<(), NoMemory>
     ensures { OnOk result (text.new.items ≡ text.old.items ++ head_text name.now) }
 {
-    put_first_lines(text, name.bytes())?;
+    put_head_of(text, name.bytes())
+}
+
+fn put_head_of(text: &mut Vec<u8>, name: &[u8]) -> Result<(), NoMemory>
+    ensures { OnOk result (text.new.items ≡ text.old.items ++ head_text name.now) }
+{
+    put_first_lines(text, name)?;
+    put_comment(text, name)?;
+    put(text, b"\ntypedef struct {\n")
+}
+
+// The comment about the text.
+fn put_comment(text: &mut Vec<u8>, name: &[u8]) -> Result<(), NoMemory>
+    ensures { OnOk result (text.new.items ≡ text.old.items ++ comment name.now) }
+{
     put_named(
         text,
         b"\n/* ",
-        name.bytes(),
-        b", by cec-opt 0.1.0: cec-opt c --embed. Any number of instances.\n * Reset an instance before its first call of react; react returns whether it is still running. */\n",
-    )?;
-    put(text, b"\ntypedef struct {\n")
+        name,
+        b", by cec-opt 0.1.0: cec-opt c --embed. Any number of instances.
+ * Reset an instance before its first call of react; react returns whether it is still running. */
+",
+    )
 }
 
 // The lines for the preprocessor.
@@ -122,8 +138,26 @@ fn put_ignored_lines(text: &mut Vec<u8>, net: &Net, reads_input: bool) -> Result
     ensures { OnOk result (text.new.items ≡ text.old.items
         ++ flat_map ignored_line (net_ignored (netlist_of net.now))) }
 {
-    put_ignored(text, net.latches.is_empty(), b"    (void)self;\n")?;
-    put_ignored(text, !reads_input, b"    (void)in;\n")?;
+    put_untouched(text, net)?;
+    put_unread(text, reads_input)?;
+    put_unshown(text, net)
+}
+
+// The inputs, where nothing reads one.
+fn put_unread(text: &mut Vec<u8>, reads_input: bool) -> Result<(), NoMemory>
+    ensures { OnOk result (text.new.items ≡ text.old.items ++ unread_line reads_input) }
+{
+    if reads_input {
+        Ok(())
+    } else {
+        put(text, b"    (void)in;\n")
+    }
+}
+
+// The outputs, where there are none.
+fn put_unshown(text: &mut Vec<u8>, net: &Net) -> Result<(), NoMemory>
+    ensures { OnOk result (text.new.items ≡ text.old.items ++ unshown_line net.now.outputs.items) }
+{
     put_ignored(text, net.outputs.is_empty(), b"    (void)out;\n")
 }
 

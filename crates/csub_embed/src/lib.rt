@@ -2,7 +2,7 @@
 //! call, and two functions, of which one resets an instance and one runs an instant of it.
 //!
 //! `specs/` says which component a text describes, what calls do on any number of instances of it, and what it means
-//! that a text does what a net does. `embedded_net` gives a net the name of its component, or says why it can have none;
+//! that a text does what a net does. `embedded_net` gives a net the name of its component, or says why it has none;
 //! `write_embedded` writes the text of such a net, and `embedded_text` does both.
 #![tactic(auto)]
 

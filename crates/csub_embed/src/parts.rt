@@ -4,7 +4,9 @@ ghost use Rattle.std.specs.Prelude.{◌≡◌, ◌<◌, ◌++◌, [], length, sl
 ghost use Rattle.net_ir.specs.Runs.{netlist_of};
 ghost use Rattle.csub_embed.specs.Parts.{parts_in};
 
-use crate::ends::{put_head, put_inputs_end, put_last_lines, put_outputs_end, put_react_head, put_states_end};
+use crate::ends::{
+    put_head, put_inputs_end, put_last_lines, put_outputs_end, put_react_head, put_states_end,
+};
 use crate::ignored::reads_input;
 use crate::pieces::EmbedWriter;
 use crate::writer::{

@@ -22,8 +22,8 @@ pub struct EmbedWriter {
 
 /// The embedded text of a net that has one under its name (`embedded_net`).
 ///
-/// It is a header of C99 that is C++ too. With NAME for the net's name, `NAME_t` is the state of an instance,
-/// `NAME_inputs_t` and `NAME_outputs_t` have a member for each signal, `NAME_reset` puts an instance to its start, and
+/// It is a header of C99 that is C++ too. With NAME for the net's name, `NAME_t` is the state of an instance.
+/// `NAME_inputs_t` and `NAME_outputs_t` have a member for each signal. `NAME_reset` puts an instance to its start.
 /// `NAME_react` runs one instant of it, and returns whether it is still active. The time and the memory that it takes
 /// are linear in the length of the text; out of memory is its only error.
 pub fn write_embedded(alloc: Global, net: &Net) -> Result<Vec<u8>, NoMemory>

@@ -72,13 +72,7 @@ fn put_value(text: &mut Vec<u8>, net: &Net, op: Op) -> Result<(), NoMemory>
 }
 
 // Two nets with a mark between them.
-fn put_pair(
-    text: &mut Vec<u8>,
-    net: &Net,
-    a: NetId,
-    mark: &[u8],
-    b: NetId,
-) -> Result<(), NoMemory>
+fn put_pair(text: &mut Vec<u8>, net: &Net, a: NetId, mark: &[u8], b: NetId) -> Result<(), NoMemory>
     requires first { a.0 < net_count (netlist_of net.now) }
     requires second { b.0 < net_count (netlist_of net.now) }
     ensures { OnOk result (text.new.items ≡ text.old.items
