@@ -1,2 +1,2 @@
 -- What other crates use of these proofs.
-pub use Rattle.cec_opt_texts.proofs.Keeping.{blif-keeps, c-keeps, circuit-shows, inputs-kept, named, verilog-keeps, wide}
+pub use Rattle.cec_opt_texts.proofs.Keeping.{blif-keeps, c-keeps, verilog-keeps}

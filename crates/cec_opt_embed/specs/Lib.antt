@@ -1,3 +1,0 @@
-pub mod SourceTexts
-pub mod CircuitTexts
-pub mod Stopping
