@@ -1,0 +1,9 @@
+pub mod Trees
+pub mod Tokens
+pub mod Grammar
+pub mod Names
+pub mod Texts
+pub mod Machine
+pub mod Written
+pub mod Faults
+pub mod Parts

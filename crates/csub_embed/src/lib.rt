@@ -1,0 +1,21 @@
+//! Embedded C: a text with a structure for the state of an instance, one for the inputs and one for the outputs of a
+//! call, and two functions, of which one resets an instance and one runs an instant of it.
+//!
+//! `specs/` says which component a text describes, what calls do on any number of instances of it, and what it means
+//! that a text does what a net does. `embedded_net` gives a net the name of its component, or says why it has none;
+//! `write_embedded` writes the text of such a net, and `embedded_text` does both.
+#![tactic(auto)]
+
+mod ends;
+mod fault;
+mod ignored;
+mod naming;
+mod parts;
+mod pieces;
+mod words;
+mod writer;
+
+pub use fault::EmbedFault;
+pub use naming::embedded_net;
+pub use parts::EmbedSection;
+pub use pieces::{EmbedWriter, embedded_text, write_embedded};
