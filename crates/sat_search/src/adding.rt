@@ -47,11 +47,27 @@ impl Search {
                 return Ok(None);
             }
             if !self.is_entered(number) {
-                put(&mut self.stamps, number.place(), self.stamp);
+                self.stamp_literal(number)?;
                 literals.push(number)?;
             }
         }
         Ok(Some(literals))
+    }
+
+    // Notes that the last clause has this literal. From the first clause that has it on, a variable is decided.
+    fn stamp_literal(&mut self, literal: LiteralId) -> Result<(), NoMemory> {
+        let is_first = !self.is_used(literal);
+        put(&mut self.stamps, literal.place(), self.stamp);
+        if is_first {
+            self.order.insert(literal.variable())?;
+        }
+        Ok(())
+    }
+
+    // Reports whether a clause has had this literal or its negation.
+    pub(crate) fn is_used(&self, literal: LiteralId) -> bool {
+        at(&self.stamps, literal.place(), 0) != 0
+            || at(&self.stamps, literal.opposite().place(), 0) != 0
     }
 
     // Reports whether a literal is true at level 0.

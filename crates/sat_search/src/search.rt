@@ -5,7 +5,7 @@ use crate::evidence::Evidence;
 use crate::restarts::Restarts;
 use base_types::NoMemory;
 use sat_kernel::{Literal, Premise};
-use sat_trail::{LiteralId, Order, Store, Trail, propagate, put, small};
+use sat_trail::{LiteralId, Order, Store, Trail, at, propagate, put, small};
 use std::alloc::Global;
 
 // The learned clauses before the first reduction. Each later interval is longer by REDUCE_MORE.
@@ -148,14 +148,22 @@ impl Search {
         true
     }
 
-    // The valuation of the trail. Open variables are false.
+    // The valuation of the trail. Open variables, which are in no clause, have their signs.
     pub(crate) fn valuation(&self) -> Result<Vec<bool>, NoMemory> {
         let mut values = Vec::with_capacity(self.alloc, self.trail.variables())?;
         for variable in 0..self.trail.variables() {
-            let literal = LiteralId::signed(small(variable), true);
-            values.push(self.trail.is_true(literal))?;
+            values.push(self.value_of(variable))?;
         }
         Ok(values)
+    }
+
+    fn value_of(&self, variable: usize) -> bool {
+        let literal = LiteralId::signed(small(variable), true);
+        if self.trail.is_open(literal) {
+            at(&self.signs, variable, false)
+        } else {
+            self.trail.is_true(literal)
+        }
     }
 }
 

@@ -22,7 +22,7 @@ enum Step {
     Skip,
     // The next assumption is false.
     Fails(LiteralId),
-    // All variables are assigned.
+    // All variables of clauses are assigned.
     Done,
 }
 
@@ -254,7 +254,7 @@ impl Search {
             };
             let sign = at(&self.signs, variable as usize, false);
             let literal = LiteralId::signed(variable, sign);
-            if self.trail.is_open(literal) {
+            if self.is_used(literal) && self.trail.is_open(literal) {
                 return Step::Decide(literal);
             }
         }

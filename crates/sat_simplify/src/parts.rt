@@ -98,6 +98,27 @@ impl Parts {
         at(&self.counts, literal.place(), 0)
     }
 
+    /// The number of clauses that had a literal when they were added.
+    pub fn count_all(&self, literal: LiteralId) -> usize {
+        let place = literal.place();
+        if place < self.places.len() {
+            self.places[place].len()
+        } else {
+            0
+        }
+    }
+
+    /// The clause with this number of those that had a literal when they were added.
+    #[inline(always)]
+    pub fn having(&self, literal: LiteralId, number: usize) -> u32 {
+        let place = literal.place();
+        if place < self.places.len() {
+            at(&self.places[place], number, u32::MAX)
+        } else {
+            u32::MAX
+        }
+    }
+
     /// Reports whether the clauses of a variable changed since the last call.
     pub fn take_change(&mut self, variable: usize) -> bool {
         let is_changed = at(&self.is_changed, variable, false);

@@ -42,11 +42,21 @@ impl Simplifier {
             return Ok(());
         };
         self.mark_clause(clause, None);
-        self.found.clear();
-        self.parts.put_having(rarest, &mut self.found)?;
-        self.parts.put_having(rarest.opposite(), &mut self.found)?;
-        'others: for k in 0..self.found.len() {
-            let other = at(&self.found, k, u32::MAX);
+        self.compare_all(kernel, clause, rarest)?;
+        self.compare_all(kernel, clause, rarest.opposite())
+    }
+
+    // Drops or shortens clauses that have a literal, by the marked one.
+    fn compare_all(
+        &mut self,
+        kernel: &mut Kernel,
+        clause: u32,
+        literal: LiteralId,
+    ) -> Result<(), NoMemory>
+        ensures { kernel.new.assumed ≡ kernel.old.assumed }
+    {
+        'others: for k in 0..self.parts.count_all(literal) {
+            let other = self.parts.having(literal, k);
             if other != clause {
                 self.compare(kernel, clause, other)?;
             }
