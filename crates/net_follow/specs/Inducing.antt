@@ -13,8 +13,11 @@ abbrev pub is_late : Instant → Bool
 is_late First = false
 is_late Later = true
 
--- what holds in the first instant, and in one behind an instant in which the claims hold
-abbrev pub own_equations : Instant → Netlist → List Equation → List Equation
-own_equations First net claims = net_equations false Old net ++ init_equations Old (length net.inputs) net.latches
-own_equations Later net claims = net_equations false Old net ++ map (moved_equation false) claims
-    ++ net_equations true Old net ++ link_equations Old (length net.inputs) net.latches
+-- what holds in the first instant, and in one after an instant in which the claims hold, if the known equations hold in
+-- each
+abbrev pub own_equations : Instant → Netlist → List Equation → List Equation → List Equation
+own_equations First net known claims = net_equations false Old net ++ map (moved_equation false) known
+    ++ init_equations Old (length net.inputs) net.latches
+own_equations Later net known claims = net_equations false Old net ++ map (moved_equation false) known
+    ++ map (moved_equation false) claims ++ net_equations true Old net ++ map (moved_equation true) known
+    ++ link_equations Old (length net.inputs) net.latches

@@ -36,19 +36,21 @@ pub struct Parted {
 
 /// What is left of the claims of a netlist's classes, each of which says that a net, `out`, has the value of `left`,
 /// that is of one of a lower number, or always true, or of its negation, and that comes behind those of lower nets.
-/// Where none is unshown, all of them hold in the instant: in the first one, or in one where they hold one before.
+/// Where none is unshown, all of them hold in the instant: in the first one, or in one where they hold one before, if
+/// the known equations hold in both.
 pub fn inductive_claims(
     alloc: Global,
     net: &Net,
+    known: &[Equation],
     claims: &[Equation],
     instant: Instant,
 ) -> Result<Parted, NoMemory>
     ensures holds { IfOk result (λ p. p.unshown.items ≡ []
-        → Entails (own_equations instant (netlist_of net.now) claims.now)
+        → Entails (own_equations instant (netlist_of net.now) known.now claims.now)
         (map (moved_equation (is_late instant)) claims.now)) }
 {
     let late = is_late(instant);
-    let assumed = known_equations(alloc, net, claims, instant)?;
+    let assumed = known_equations(alloc, net, known, claims, instant)?;
     let mut moved = Vec::new(alloc);
     push_moved(&mut moved, late, claims)?;
     parted_claims(alloc, net, late, &assumed, &moved)
@@ -63,29 +65,32 @@ fn is_late(instant: Instant) -> bool
     }
 }
 
-// What is known of the instant.
+// What holds in the instant, and in the one before it.
 fn known_equations(
     alloc: Global,
     net: &Net,
+    known: &[Equation],
     claims: &[Equation],
     instant: Instant,
 ) -> Result<Vec<Equation>, NoMemory>
-    ensures { IfOk result (λ v. v.items ≡ own_equations instant (netlist_of net.now) claims.now) }
+    ensures { IfOk result (λ v. v.items ≡ own_equations instant (netlist_of net.now) known.now claims.now) }
 {
-    let mut known = Vec::new(alloc);
+    let mut list = Vec::new(alloc);
     let first = net.inputs.len() + net.latches.len();
-    push_gates(&mut known, false, Side::Old, first, &net.gates)?;
+    push_gates(&mut list, false, Side::Old, first, &net.gates)?;
+    push_moved(&mut list, false, known)?;
     match instant {
         Instant::First => {
-            push_inits(&mut known, Side::Old, net.inputs.len(), &net.latches)?;
+            push_inits(&mut list, Side::Old, net.inputs.len(), &net.latches)?;
         }
         Instant::Later => {
-            push_moved(&mut known, false, claims)?;
-            push_gates(&mut known, true, Side::Old, first, &net.gates)?;
-            push_links(&mut known, Side::Old, net.inputs.len(), &net.latches)?;
+            push_moved(&mut list, false, claims)?;
+            push_gates(&mut list, true, Side::Old, first, &net.gates)?;
+            push_moved(&mut list, true, known)?;
+            push_links(&mut list, Side::Old, net.inputs.len(), &net.latches)?;
         }
     }
-    Ok(known)
+    Ok(list)
 }
 
 fn net_count(net: &Net) -> usize {
@@ -103,7 +108,7 @@ fn parted_claims(
     ensures { IfOk result (λ p. p.unshown.items ≡ [] → Entails known.now claims.now) }
 {
     let nets = net_count(net);
-    let mut prover = assuming(alloc, nets, known)?;
+    let mut prover = assuming(alloc, nets, known, true)?;
     let mut parting = Parting::new(alloc, net, late, claims)?;
     let mut unshown = Vec::new(alloc);
     for (k, claim) in claims.iter().enumerate() {

@@ -35,6 +35,13 @@ pub(crate) struct Nearby {
     // By variable: whether it is looked at.
     marks: Vec<bool>,
     active: Vec<usize>,
+    // By place of `active`: how long the trail was when the clauses of the variable were looked at.
+    lengths: Vec<usize>,
+    // By variable: whether a search was given the clauses about it.
+    given: Vec<bool>,
+    // Variables whose clauses a search is given next, and clauses that came after the others about their variable.
+    wanted: Vec<usize>,
+    late: Vec<usize>,
     trail: Trail,
     // How many questions were in vain lately, and how many came since.
     misses: usize,
@@ -60,6 +67,10 @@ impl Nearby {
             heads: Vec::new(alloc),
             marks: Vec::new(alloc),
             active: Vec::new(alloc),
+            lengths: Vec::new(alloc),
+            given: Vec::new(alloc),
+            wanted: Vec::new(alloc),
+            late: Vec::new(alloc),
             trail: Trail::new(alloc),
             misses: 0,
             skipped: 0,
@@ -81,6 +92,9 @@ impl Nearby {
             before: at(&self.heads, last, NONE),
         };
         self.literals.extend_from_slice(literals)?;
+        if at(&self.given, last, false) {
+            self.late.push(self.clauses.len())?;
+        }
         put(&mut self.heads, last, self.clauses.len());
         self.clauses.push(noted)?;
         Ok(())
@@ -90,21 +104,85 @@ impl Nearby {
         for _ in self.heads.len()..variable.saturating_add(1) {
             self.heads.push(NONE)?;
             self.marks.push(false)?;
+            self.given.push(false)?;
             self.trail.grow()?;
         }
         Ok(())
     }
 
-    /// The number of clauses.
-    pub fn count(&self) -> usize {
-        self.clauses.len()
+    /// Gives a search the clauses about the nets of these literals, and about all nets that these come from.
+    pub fn feed(&mut self, search: &mut Search, literals: &[Literal]) -> Result<(), NoMemory> {
+        for literal in literals {
+            self.want(literal.variable as usize)?;
+        }
+        for k in 0..self.late.len() {
+            let place = at(&self.late, k, NONE);
+            self.give(search, place)?;
+        }
+        self.late.clear();
+        self.give_wanted(search)
     }
 
-    /// Adds the clauses from a place on to a search.
-    pub fn feed(&self, search: &mut Search, from: usize) -> Result<(), NoMemory> {
-        for place in from..self.clauses.len() {
-            let noted = self.clauses[place];
-            search.add(part(&self.literals, noted), noted.premise)?;
+    /// Gives a search the clauses that it lacks, and reports whether there were some. If `early`, these are only those of
+    /// the first instant.
+    pub fn feed_rest(&mut self, search: &mut Search, early: bool) -> Result<bool, NoMemory> {
+        let mut is_more = false;
+        for variable in 0..self.given.len() {
+            if !early || is_early(variable) {
+                let lacks = !at(&self.given, variable, true);
+                is_more = is_more || (lacks && at(&self.heads, variable, NONE) != NONE);
+                self.want(variable)?;
+            }
+        }
+        self.give_wanted(search)?;
+        Ok(is_more)
+    }
+
+    fn want(&mut self, variable: usize) -> Result<(), NoMemory> {
+        if !at(&self.given, variable, true) {
+            put(&mut self.given, variable, true);
+            self.wanted.push(variable)?;
+        }
+        Ok(())
+    }
+
+    fn give_wanted(&mut self, search: &mut Search) -> Result<(), NoMemory> {
+        for _ in 0..usize::MAX {
+            let Some(variable) = self.wanted.pop() else {
+                return Ok(());
+            };
+            self.give_about(search, variable)?;
+        }
+        Ok(())
+    }
+
+    // Gives a search the clauses about a variable.
+    fn give_about(&mut self, search: &mut Search, variable: usize) -> Result<(), NoMemory> {
+        let mut place = at(&self.heads, variable, NONE);
+        for _ in 0..self.clauses.len() {
+            if place >= self.clauses.len() {
+                return Ok(());
+            }
+            let before = self.clauses[place].before;
+            self.give(search, place)?;
+            place = before;
+        }
+        Ok(())
+    }
+
+    // Gives a search a clause, and wants those about its nets.
+    fn give(&mut self, search: &mut Search, place: usize) -> Result<(), NoMemory> {
+        if place >= self.clauses.len() {
+            return Ok(());
+        }
+        let noted = self.clauses[place];
+        search.add(part(&self.literals, noted), noted.premise)?;
+        for k in 0..noted.length {
+            let number = noted.start.saturating_add(k);
+            if number < self.literals.len() {
+                let variable = self.literals[number].variable as usize;
+                self.want(variable)?;
+            }
         }
         Ok(())
     }
@@ -155,6 +233,7 @@ impl Nearby {
             put(&mut self.marks, *variable, false);
         }
         self.active.clear();
+        self.lengths.clear();
     }
 
     fn suppose(&mut self, literal: Literal) -> Result<(), NoMemory> {
@@ -170,6 +249,7 @@ impl Nearby {
         if self.active.len() < VARIABLES && !at(&self.marks, variable, true) {
             put(&mut self.marks, variable, true);
             self.active.push(variable)?;
+            self.lengths.push(NONE)?;
         }
         Ok(())
     }
@@ -194,14 +274,19 @@ impl Nearby {
         Ok(())
     }
 
-    // Assigns what is forced, and reports whether a clause is false.
+    // Assigns what is forced, and reports whether a clause is false. Where nothing was assigned since a variable was
+    // looked at, its clauses force nothing.
     fn settles(&mut self) -> Result<bool, NoMemory> {
         for _ in 0..SWEEPS {
             let before = self.trail.len();
             for k in 0..self.active.len() {
-                let variable = at(&self.active, k, 0);
-                if self.settles_at(variable)? {
-                    return Ok(true);
+                let length = self.trail.len();
+                if at(&self.lengths, k, length) != length {
+                    put(&mut self.lengths, k, length);
+                    let variable = at(&self.active, k, 0);
+                    if self.settles_at(variable)? {
+                        return Ok(true);
+                    }
                 }
             }
             if self.trail.len() == before {
@@ -233,6 +318,11 @@ impl Nearby {
         }
         Ok(false)
     }
+}
+
+// Whether a variable is of the first of two instants: `coding` alternates the instants.
+fn is_early(variable: usize) -> bool {
+    variable % 2 == 0
 }
 
 // What a clause tells.

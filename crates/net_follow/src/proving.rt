@@ -32,8 +32,8 @@ pub(crate) struct Prover {
     pub kernel: Kernel,
     nearby: Nearby,
     search: Search,
-    // The search has this many of the clauses of `nearby`.
-    fed: usize,
+    // A counterexample needs to meet what is known of the first of two instants alone.
+    early: bool,
     count: usize,
     patience: u64,
     /// The values of the variables in the last counterexample.
@@ -42,7 +42,7 @@ pub(crate) struct Prover {
 
 impl Prover {
     // Nothing is assumed, over this many nets in one instant of one netlist.
-    fn new(alloc: Global, nets: usize) -> Result<Prover, NoMemory>
+    fn new(alloc: Global, nets: usize, early: bool) -> Result<Prover, NoMemory>
         ensures { IfOk result (λ p. p.kernel.assumed ≡ []) }
     {
         let variables = nets.saturating_add(1).saturating_mul(4);
@@ -51,7 +51,7 @@ impl Prover {
             kernel: Kernel::new(alloc, variables, Vec::new(alloc))?,
             nearby: Nearby::new(alloc),
             search: Search::new(alloc),
-            fed: 0,
+            early,
             count: 0,
             patience: patience(nets),
             values: Vec::new(alloc),
@@ -134,14 +134,28 @@ impl Prover {
         }
     }
 
-    // The same, by search.
+    // The same, by search: first by the clauses about the nets that those of the question come from.
     fn refutes_by_search(&mut self, literals: &[sat_kernel::Literal]) -> Result<bool, NoMemory>
         ensures assumed { OnOk result (self.new.kernel.assumed ≡ self.old.kernel.assumed) }
         ensures follows { IfOk result (λ refuted. refuted ≡ true
             → IsImplied self.new.kernel.assumed (map opposite literals.now)) }
     {
-        self.nearby.feed(&mut self.search, self.fed)?;
-        self.fed = self.nearby.count();
+        self.nearby.feed(&mut self.search, literals)?;
+        if self.solves(literals)? {
+            return Ok(true);
+        }
+        if self.values.is_empty() || !self.nearby.feed_rest(&mut self.search, self.early)? {
+            return Ok(false);
+        }
+        Ok(self.solves(literals)?)
+    }
+
+    // The same, by the clauses that the search has.
+    fn solves(&mut self, literals: &[sat_kernel::Literal]) -> Result<bool, NoMemory>
+        ensures assumed { OnOk result (self.new.kernel.assumed ≡ self.old.kernel.assumed) }
+        ensures follows { IfOk result (λ refuted. refuted ≡ true
+            → IsImplied self.new.kernel.assumed (map opposite literals.now)) }
+    {
         let effort = EFFORT.max(self.patience / SHARE).min(self.patience);
         let outcome = self.search.solve(&mut self.kernel, literals, effort)?;
         let spent = effort.saturating_sub(self.search.effort_left());
@@ -228,7 +242,7 @@ pub(crate) fn unshown_claims(
 ) -> Result<Vec<usize>, NoMemory>
     ensures { IfOk result (λ places. places.items ≡ [] → Entails assumed.now claims.now) }
 {
-    let mut prover = assuming(alloc, nets, assumed)?;
+    let mut prover = assuming(alloc, nets, assumed, false)?;
     let mut places = Vec::new(alloc);
     for (k, claim) in claims.iter().enumerate() {
         claim_at(&mut prover, &mut places, k, *claim)?;
@@ -252,11 +266,16 @@ fn claim_at(
     Ok(())
 }
 
-/// A prover that assumes these equations.
-pub(crate) fn assuming(alloc: Global, nets: usize, assumed: &[Equation]) -> Result<Prover, NoMemory>
+/// A prover that assumes these equations. If `early`, its counterexamples meet those of the first of two instants alone.
+pub(crate) fn assuming(
+    alloc: Global,
+    nets: usize,
+    assumed: &[Equation],
+    early: bool,
+) -> Result<Prover, NoMemory>
     ensures { IfOk result (Begins assumed.now) }
 {
-    let mut prover = Prover::new(alloc, nets)?;
+    let mut prover = Prover::new(alloc, nets, early)?;
     for equation in assumed {
         prover.assume(*equation)?;
     }

@@ -35,24 +35,29 @@ impl Replay {
         })
     }
 
-    /// Runs the instant of a counterexample. All runs have its latches. The first has its inputs, and the inputs of the
-    /// others are random, so that one counterexample refutes many claims.
+    /// Runs the instant of a counterexample. All runs have its latches, as the nets before them give them. The first has
+    /// its inputs, and the inputs of the others are random, so that one counterexample refutes many claims.
     pub fn begin(&mut self, net: &Net, values: &[bool]) {
         self.choose_inputs();
         self.draw_inputs();
         let inputs = net.inputs.len();
         for place in 0..inputs {
-            let given: u64 = if self.value(values, place) { 1 } else { 0 };
-            let word = word_at(&self.words, place) & !1;
-            put(&mut self.words, place, word | given);
-        }
-        for place in inputs..inputs.saturating_add(net.latches.len()) {
-            let word = if self.value(values, place) {
-                u64::MAX
+            let given: u64 = if value(values, place, self.late) {
+                1
             } else {
                 0
             };
-            put(&mut self.words, place, word);
+            let word = word_at(&self.words, place) & !1;
+            put(&mut self.words, place, word | given);
+        }
+        for (k, latch) in net.latches.iter().enumerate() {
+            let place = inputs.saturating_add(k);
+            let is_true = if self.late {
+                value(values, latch.from.0 as usize, false)
+            } else {
+                value(values, place, false)
+            };
+            put(&mut self.words, place, if is_true { u64::MAX } else { 0 });
         }
         self.run_gates(net);
     }
@@ -85,14 +90,6 @@ impl Replay {
             Side::Old | Side::New => word_at(&self.words, literal.number as usize),
         };
         if literal.positive { word } else { !word }
-    }
-
-    // The value of a net in the counterexample.
-    fn value(&self, values: &[bool], place: usize) -> bool {
-        let variable = place
-            .saturating_mul(4)
-            .saturating_add(if self.late { 1 } else { 0 });
-        variable < values.len() && values[variable]
     }
 
     // Chooses how often each input is true in which runs: a quarter of the runs keeps one value, an eighth of the
@@ -129,6 +126,14 @@ impl Replay {
         self.seed = word;
         word
     }
+}
+
+// The value of a net in a counterexample, in the first of two instants or in the second one.
+fn value(values: &[bool], place: usize, late: bool) -> bool {
+    let variable = place
+        .saturating_mul(4)
+        .saturating_add(if late { 1 } else { 0 });
+    variable < values.len() && values[variable]
 }
 
 fn op_word(words: &[u64], op: Op) -> u64 {

@@ -105,10 +105,9 @@ impl Classes {
         }
     }
 
-    /// What the classes say, behind other claims: that a net has the value of the one that stands for it, or of its
-    /// negation.
-    pub fn claims(&self, alloc: Global, others: &[Equation]) -> Result<Vec<Equation>, NoMemory> {
-        let mut claims = Vec::from_slice(alloc, others)?;
+    /// What the classes say: that a net has the value of the one that stands for it, or of its negation.
+    pub fn claims(&self, alloc: Global) -> Result<Vec<Equation>, NoMemory> {
+        let mut claims = Vec::new(alloc);
         for place in 0..self.stand_ins.len() {
             let edge = edge_at(&self.stand_ins, place);
             if edge.node != place {
@@ -121,11 +120,6 @@ impl Classes {
     /// Takes up what claims say of nets in place of what the classes said.
     pub fn take_up(&mut self, claims: &[Equation]) {
         let mut next: usize = 0;
-        for claim in claims {
-            if claim.out.side == Side::Always {
-                next = next.saturating_add(1);
-            }
-        }
         for place in 0..self.stand_ins.len() {
             let mut edge = straight(place);
             if next < claims.len() && place_of(claims[next].out) == place {

@@ -103,8 +103,8 @@ fn inductive_part(
 ) -> Result<Vec<Equation>, NoMemory> {
     let mut claims = given;
     for _round in 0..ROUNDS {
-        let later = inductive_claims(alloc, net, &claims, Instant::Later)?;
-        let first = inductive_claims(alloc, net, &later.claims, Instant::First)?;
+        let later = inductive_claims(alloc, net, &[], &claims, Instant::Later)?;
+        let first = inductive_claims(alloc, net, &[], &later.claims, Instant::First)?;
         claims = first.claims;
         if later.unshown.is_empty() && first.unshown.is_empty() {
             return Ok(claims);

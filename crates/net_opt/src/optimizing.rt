@@ -362,8 +362,8 @@ fn parts(
     classes: &mut Classes,
     instant: Instant,
 ) -> Result<bool, NoMemory> {
-    let claims = classes.claims(alloc, &exclusions.claims)?;
-    let parted = inductive_claims(alloc, net, &claims, instant)?;
+    let claims = classes.claims(alloc)?;
+    let parted = inductive_claims(alloc, net, &exclusions.claims, &claims, instant)?;
     classes.take_up(&parted.claims);
     Ok(!parted.unshown.is_empty())
 }

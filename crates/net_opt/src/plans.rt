@@ -227,8 +227,7 @@ fn plain_edge(between: Between) -> Option<Edge> {
 
 // The step that leaves the least to do.
 fn best_step(between: Between, turn: usize) -> Step {
-    let first = halves_of(between, 0);
-    let mut best = step_by_choice(first, usize::MAX);
+    let mut best = no_step(halves_of(between, 0));
     for place in 0..VARIABLES {
         let variable = place.saturating_add(turn) % VARIABLES;
         if depends_on(between, variable) {
@@ -266,12 +265,12 @@ fn turned(halves: Halves) -> Halves {
 // The cheapest of a step and those by a variable.
 fn best_step_by(halves: Halves, before: Step) -> Step {
     let other = turned(halves);
-    let mut best = cheaper(before, step_by_choice(halves, 3));
+    let mut best = cheaper(before, step_by_choice(halves, before.cost));
     best = cheaper(best, step_by_difference(halves));
     best = cheaper(best, step_by_part(halves, false));
     best = cheaper(best, step_by_part(other, true));
-    best = cheaper(best, step_by_parts(halves, false));
-    cheaper(best, step_by_parts(other, true))
+    best = cheaper(best, step_by_parts(halves, false, best.cost));
+    cheaper(best, step_by_parts(other, true, best.cost))
 }
 
 fn cheaper(best: Step, step: Step) -> Step {
@@ -297,15 +296,13 @@ fn no_step(halves: Halves) -> Step {
     step_of(Form::Choice, TRUE, halves.one, halves.other, usize::MAX)
 }
 
-fn step_by_choice(halves: Halves, pairs: usize) -> Step {
+fn step_by_choice(halves: Halves, limit: usize) -> Step {
     let Halves {
         variable,
         one,
         other,
     } = halves;
-    let cost = pairs
-        .saturating_add(narrowed_width(one))
-        .saturating_add(narrowed_width(other));
+    let cost = cost_of_two(one, other, 3, limit);
     step_of(Form::Choice, literal_of(variable, false), one, other, cost)
 }
 
@@ -346,7 +343,7 @@ fn step_by_part(halves: Halves, negative: bool) -> Step {
 }
 
 // Where a function only grows with the literal: a literal less in one of two parts.
-fn step_by_parts(halves: Halves, negative: bool) -> Step {
+fn step_by_parts(halves: Halves, negative: bool, limit: usize) -> Step {
     let Halves {
         variable,
         one,
@@ -372,8 +369,8 @@ fn step_by_parts(halves: Halves, negative: bool) -> Step {
         low: other.low,
         high: other.high | !one.high,
     };
-    let outer = pair_cost(outer_one, outer_other);
-    let inner = pair_cost(inner_one, inner_other);
+    let outer = cost_of_two(outer_one, outer_other, 2, limit);
+    let inner = cost_of_two(inner_one, inner_other, 2, limit.min(outer));
     if outer <= inner {
         step_of(Form::Outer, literal, outer_one, outer_other, outer)
     } else {
@@ -381,8 +378,11 @@ fn step_by_parts(halves: Halves, negative: bool) -> Step {
     }
 }
 
-fn pair_cost(one: Between, other: Between) -> usize {
-    narrowed_width(one)
-        .saturating_add(narrowed_width(other))
-        .saturating_add(2)
+// What two functions and some pairs cost. It is not counted from a limit on.
+fn cost_of_two(one: Between, other: Between, pairs: usize, limit: usize) -> usize {
+    let first = narrowed_width(one).saturating_add(pairs);
+    if first >= limit {
+        return usize::MAX;
+    }
+    first.saturating_add(narrowed_width(other))
 }
