@@ -123,8 +123,8 @@ impl Nearby {
         self.give_wanted(search)
     }
 
-    /// Gives a search the clauses that it lacks, and reports whether there were some. If `early`, these are only those of
-    /// the first instant.
+    /// Gives a search the clauses that it lacks, and reports whether there were some. If `early`, it gives those of the
+    /// first instant only.
     pub fn feed_rest(&mut self, search: &mut Search, early: bool) -> Result<bool, NoMemory> {
         let mut is_more = false;
         for variable in 0..self.given.len() {

@@ -266,7 +266,7 @@ fn claim_at(
     Ok(())
 }
 
-/// A prover that assumes these equations. If `early`, its counterexamples meet those of the first of two instants alone.
+/// A prover that assumes these equations. If `early`, its counterexamples need only meet those of the first instant.
 pub(crate) fn assuming(
     alloc: Global,
     nets: usize,

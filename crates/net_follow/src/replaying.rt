@@ -35,8 +35,8 @@ impl Replay {
         })
     }
 
-    /// Runs the instant of a counterexample. All runs have its latches, as the nets before them give them. The first has
-    /// its inputs, and the inputs of the others are random, so that one counterexample refutes many claims.
+    /// Runs the instant of a counterexample. All runs have its latches, as the nets before them give them. The first
+    /// has its inputs, and the inputs of the others are random, so that one counterexample refutes many claims.
     pub fn begin(&mut self, net: &Net, values: &[bool]) {
         self.choose_inputs();
         self.draw_inputs();
