@@ -1,3 +1,4 @@
 mod Options
 pub mod Outcomes
-mod Comparisons
+mod Progress
+mod Writing
