@@ -1,4 +1,4 @@
+mod Answering
 mod Options
 pub mod Outcomes
 mod Progress
-mod Writing

@@ -18,7 +18,7 @@ use Rattle.cec_text_io.specs.declared.writing.Written.{Written}
 use Rattle.cec_text_io.specs.declared.writing.Written.TheVariants as ends
 use Rattle.cec_prove_sources.specs.Verdicts.{PlainQuestion}
 use Rattle.cec_prove_commands.specs.Answers.{AreHeld, GainsAll, IsWrittenBy, SaysOfTexts}
-use Rattle.cec_prove_commands.specs.Lines.{GainsJobErr, SpeaksOf, job_subject, line_of, most_further, second_of}
+use Rattle.cec_prove_commands.specs.Lines.{GainsJobErr, SpeaksOf, Subject, job_subject, line_of, most_further, second_of}
 use Rattle.cec_prove_commands.specs.Outcomes.{AgreesOnFile, AgreesOnFiles, AgreesOnTask, ClaimSays, ComparisonSays, CountsFiles, CountsJob, IsDistinction}
 use Rattle.cec_prove_commands.specs.Outcomes.{IsRefutation, IsSurveyBy, IsSurveyOf, IsTextOf, IsWriting, SurveySays, question_of}
 use Rattle.cec_prove_commands.specs.Outcomes.{CoveringSays, IsCoveringBy, IsCoveringOf}
@@ -249,12 +249,13 @@ one_held content Survey job first second one held = held
 one_held content Cover job first second one held = held
 one_held content (Compare other) job first second one held = absurd (cc)
 
-pub both_held : (content : Content) (task : Task) (job : Job) (first second : List ℕ) → is_comparison task ≡ true → IsHeld content job.name first
-    → IsHeld content (second_of task) second → AreHeld content task job first second
-both_held content (Ask claim signal) job first second two held held' = absurd (cc)
-both_held content Survey job first second two held held' = absurd (cc)
-both_held content Cover job first second two held held' = absurd (cc)
-both_held content (Compare other) job first second two held held' = (held, held')
+pub both_held : (content : Content) (task : Task) (job : Job) (first second name read : List ℕ) → is_comparison task ≡ true
+    → IsHeld content job.name first → name ≡ second_of task → second ≡ read → IsHeld content name read → AreHeld content task job first second
+both_held content (Ask claim signal) job first second name read two held same is held' = absurd (cc)
+both_held content Survey job first second name read two held same is held' = absurd (cc)
+both_held content Cover job first second name read two held same is held' = absurd (cc)
+both_held content (Compare other) job first second name read two held same is held' =
+    (held, subst (λ n. IsHeld content n second) same (subst (IsHeld content name) (sym is) held'))
 
 pub texts_read : (task : Task) (outcome : ProveOutcome) (job : Job) (first second : List ℕ) → SaysOfTexts task outcome job first second → IsRead outcome
 texts_read (Ask claim signal) outcome job first second says = claim_read (question_of claim signal job) outcome job first says
@@ -317,34 +318,42 @@ no-further : (progress : Bool) → 0 ≤ most_further progress
 no-further true = omega arith
 no-further false = omega arith
 
-pub unread_err : (progress : Bool) (content : Content) (job : Job) (fault : unread.FileFault) (source : List ℕ) (old new : Option (List ℕ)) (before now : ℕ)
-    → GainsLine old new before now (line_of (job_subject job source) (unread_outcome fault))
-    → GainsJobErr progress job content (unread_outcome fault) old new before now
-unread_err progress content job fault source old new before now gains = record {
+pub unread_err : (progress : Bool) (content : Content) (job : Job) (fault : unread.FileFault) (outcome : ProveOutcome) (subject : Subject)
+    (source : List ℕ) (old new : Option (List ℕ)) (before now : ℕ) → outcome ≡ unread_outcome fault → subject ≡ job_subject job source
+    → GainsLine old new before now (line_of subject outcome) → GainsJobErr progress job content outcome old new before now
+unread_err progress content job fault outcome subject source old new before now is about gains = record {
   source = source;
-  held = unread_speaks content job fault source;
+  held = subst (λ o. SpeaksOf content job o source) (sym is) (unread_speaks content job fault source);
   further = 0;
   few = no-further progress;
-  gains = gains;
+  gains = subst (λ s. GainsLine old new before now (line_of s outcome)) about gains;
 }
 
-pub second_err : (progress : Bool) (content : Content) (job : Job) (fault : unread.FileFault) (source : List ℕ) (old new : Option (List ℕ)) (before now : ℕ)
-    → GainsLine old new before now (line_of (job_subject job source) (second_unread_outcome fault))
-    → GainsJobErr progress job content (second_unread_outcome fault) old new before now
-second_err progress content job fault source old new before now gains = record {
+pub second_err : (progress : Bool) (content : Content) (job : Job) (fault : unread.FileFault) (outcome : ProveOutcome) (subject : Subject)
+    (source : List ℕ) (old new : Option (List ℕ)) (before now : ℕ) → outcome ≡ second_unread_outcome fault → subject ≡ job_subject job source
+    → GainsLine old new before now (line_of subject outcome) → GainsJobErr progress job content outcome old new before now
+second_err progress content job fault outcome subject source old new before now is about gains = record {
   source = source;
-  held = second_unread_speaks content job fault source;
+  held = subst (λ o. SpeaksOf content job o source) (sym is) (second_unread_speaks content job fault source);
   further = 0;
   few = no-further progress;
-  gains = gains;
+  gains = subst (λ s. GainsLine old new before now (line_of s outcome)) about gains;
 }
 
-pub second_agrees : (content : Content) (task : Task) (job : Job) (fault : unread.FileFault) → is_comparison task ≡ true
-    → Reads content (second_of task) SOURCE_BYTES (Err fault) → AgreesOnTask task content job (second_unread_outcome fault)
-second_agrees content (Ask claim signal) job fault two read = absurd (cc)
-second_agrees content Survey job fault two read = absurd (cc)
-second_agrees content Cover job fault two read = absurd (cc)
-second_agrees content (Compare other) job fault two read = second_unread_agrees content job other fault read
+pub second_agrees : (content : Content) (task : Task) (job : Job) (name : List ℕ) (fault : unread.FileFault) → is_comparison task ≡ true
+    → name ≡ second_of task → Reads content name SOURCE_BYTES (Err fault) → AgreesOnTask task content job (second_unread_outcome fault)
+second_agrees content (Ask claim signal) job name fault two same read = absurd (cc)
+second_agrees content Survey job name fault two same read = absurd (cc)
+second_agrees content Cover job name fault two same read = absurd (cc)
+second_agrees content (Compare other) job name fault two same read =
+    second_unread_agrees content job other fault (subst (λ n. Reads content n SOURCE_BYTES (Err fault)) same read)
+
+pub second_counts : (job : Job) (name : List ℕ) (fault : unread.FileFault) (before now : ℕ) (failed_before failed_now : List ℕ)
+    → name ≡ second_of job.task → Counts before now failed_before failed_now name (Err fault)
+    → CountsJob job (second_unread_outcome fault) before now failed_before failed_now
+second_counts job name fault before now failed_before failed_now same counts =
+    second_unread_counts job fault before now failed_before failed_now
+    (subst (λ n. Counts before now failed_before failed_now n (Err fault)) same counts)
 
 -- what was counted after a read that kept the counts
 pub counts-later : (asked : Option Request) (outcome : ProveOutcome) (before middle now : ℕ) (failed_before failed_middle failed_now : List ℕ)

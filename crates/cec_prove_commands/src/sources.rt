@@ -9,7 +9,7 @@ ghost use Rattle.cec_prove_sources.specs.Verdicts.{HasVerdict};
 ghost use Rattle.cec_prove_commands.specs.Answers.{IsAnswer};
 ghost use Rattle.cec_prove_commands.specs.Outcomes.{question_of};
 ghost use Rattle.cec_prove_commands.specs.Views.{job_is};
-ghost use Rattle.cec_prove_commands.specs.Words.{Ask, Compare, Cover, Survey};
+ghost use Rattle.cec_prove_commands.specs.Words.{Ask, Compare, Cover, Survey as OfSignals};
 
 use crate::answers::Answer;
 use crate::words::{Job, Task};
@@ -84,7 +84,7 @@ fn verdict(
 // The survey of a text.
 fn survey_answer(alloc: Global, job: Job<'_>, text: &[u8], effort: u64) -> Answer
     requires { length text.now ≤ Limits.SOURCE_BYTES }
-    ensures { (second : List ℕ) → IsAnswer result Survey (job_is job.entry) text.now second }
+    ensures { (second : List ℕ) → IsAnswer result OfSignals (job_is job.entry) text.now second }
 {
     match survey(alloc, job, text, effort) {
         Ok(survey) => Answer::Surveyed(survey),

@@ -56,5 +56,5 @@ returns-in-Err-clause-out g c =
 
 pub returns-in-Err-clause-err : goal.returns-in-Err-clause-err
 returns-in-Err-clause-err g c =
-    let job = job_is c.args.job in
-    rw c.unread_outcome-outcome.ensures (unread_err c.args.progress (g.F.Files.content c.args.files.now) job c.in-Err.fault _ _ _ _ _ GAINS)
+    unread_err c.args.progress (g.F.Files.content c.args.files.now) (job_is c.args.job) c.in-Err.fault _ _ _ _ _ _ _ c.unread_outcome-outcome.ensures
+    c.subject_of.ensures.subject c.report.ensures

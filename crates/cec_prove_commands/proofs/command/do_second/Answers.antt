@@ -5,7 +5,7 @@ use Rattle.cec_text_io.proofs.Exports.{held_read}
 use Rattle.cec_prove_commands.specs.Outcomes.{IsTextOf}
 use Rattle.cec_prove_commands.specs.Statuses.{second_unread_outcome}
 use Rattle.cec_prove_commands.specs.Views.{job_is}
-use Rattle.cec_prove_commands.proofs.Outcomes.{both_held, read_counts, second_agrees, second_err, second_unread_counts, second_unread_out, texts_agree}
+use Rattle.cec_prove_commands.proofs.Outcomes.{both_held, read_counts, second_agrees, second_counts, second_err, second_unread_out, texts_agree}
 use Rattle.cec_prove_commands.proofs.Outcomes.{texts_err, texts_out, texts_read}
 use Rattle.cec_prove_commands.proofs.command.do_second.Goals as goal
 
@@ -13,36 +13,51 @@ pub returns-in-Ok-clause-agrees : goal.returns-in-Ok-clause-agrees
 returns-in-Ok-clause-agrees g c =
     let content = g.F.Files.content c.args.files.now in
     let job = job_is c.args.job in
-    texts_agree content job.task job c.told_answer.result c.args.text.now _ (both_held content job.task job c.args.text.now _ c.requires.compares c.requires.held (HELD)) c.told_answer.ensures.says
+    let second = c.deref.result.now in
+    let held = held_read content _ SOURCE_BYTES c.in-Ok.second c.in-Ok.ensures.bytes in
+    let both = both_held content job.task job c.args.text.now second _ _ c.requires.compares c.requires.held c.second_of.ensures
+    c.deref.ensures.value held in
+    texts_agree content job.task job c.told_answer.result c.args.text.now second both c.told_answer.ensures.says
 
 pub returns-in-Ok-clause-files_counted : goal.returns-in-Ok-clause-files_counted
 returns-in-Ok-clause-files_counted g c =
     let job = job_is c.args.job in
-    read_counts job c.told_answer.result _ _ _ _ (texts_read job.task c.told_answer.result job c.args.text.now _ c.told_answer.ensures.says) c.in-Ok.ensures.counts
+    let second = c.deref.result.now in
+    read_counts job c.told_answer.result _ _ _ _
+    (texts_read job.task c.told_answer.result job c.args.text.now second c.told_answer.ensures.says) c.in-Ok.ensures.counts
 
 pub returns-in-Ok-clause-out : goal.returns-in-Ok-clause-out
 returns-in-Ok-clause-out g c =
     let content = g.F.Files.content c.args.files.now in
     let job = job_is c.args.job in
-    texts_out content job.task job c.told_answer.result c.args.text.now _
-    (change g.O.Sink.told g.O.Sink.faults c.args.out.now c.told_answer.new.out) (both_held content job.task job c.args.text.now _ c.requires.compares c.requires.held (HELD)) c.told_answer.ensures.out
+    let second = c.deref.result.now in
+    let held = held_read content _ SOURCE_BYTES c.in-Ok.second c.in-Ok.ensures.bytes in
+    let both = both_held content job.task job c.args.text.now second _ _ c.requires.compares c.requires.held c.second_of.ensures
+    c.deref.ensures.value held in
+    texts_out content job.task job c.told_answer.result c.args.text.now second
+    (change g.O.Sink.told g.O.Sink.faults c.args.out.now c.told_answer.new.out) both c.told_answer.ensures.out
 
 pub returns-in-Ok-clause-err : goal.returns-in-Ok-clause-err
 returns-in-Ok-clause-err g c =
     let content = g.F.Files.content c.args.files.now in
     let job = job_is c.args.job in
-    texts_err c.args.progress content job c.told_answer.result c.args.text.now _
-    (change g.E.Sink.told g.E.Sink.faults c.args.err.now c.told_answer.new.err) (both_held content job.task job c.args.text.now _ c.requires.compares c.requires.held (HELD)) c.told_answer.ensures.says c.told_answer.ensures.err
+    let second = c.deref.result.now in
+    let held = held_read content _ SOURCE_BYTES c.in-Ok.second c.in-Ok.ensures.bytes in
+    let both = both_held content job.task job c.args.text.now second _ _ c.requires.compares c.requires.held c.second_of.ensures
+    c.deref.ensures.value held in
+    texts_err c.args.progress content job c.told_answer.result c.args.text.now second
+    (change g.E.Sink.told g.E.Sink.faults c.args.err.now c.told_answer.new.err) both c.told_answer.ensures.says c.told_answer.ensures.err
 
 pub returns-in-Err-clause-agrees : goal.returns-in-Err-clause-agrees
 returns-in-Err-clause-agrees g c =
     let job = job_is c.args.job in
     rw c.second_unread_outcome-outcome.ensures
-    (second_agrees (g.F.Files.content c.args.files.now) job.task job c.in-Err.fault c.requires.compares READ)
+    (second_agrees (g.F.Files.content c.args.files.now) job.task job _ c.in-Err.fault c.requires.compares c.second_of.ensures c.in-Err.ensures.bytes)
 
 pub returns-in-Err-clause-files_counted : goal.returns-in-Err-clause-files_counted
 returns-in-Err-clause-files_counted g c =
-    rw c.second_unread_outcome-outcome.ensures (second_unread_counts (job_is c.args.job) c.in-Err.fault _ _ _ _ COUNTS)
+    rw c.second_unread_outcome-outcome.ensures
+    (second_counts (job_is c.args.job) _ c.in-Err.fault _ _ _ _ c.second_of.ensures c.in-Err.ensures.counts)
 
 pub returns-in-Err-clause-out : goal.returns-in-Err-clause-out
 returns-in-Err-clause-out g c =
@@ -54,6 +69,5 @@ returns-in-Err-clause-out g c =
 
 pub returns-in-Err-clause-err : goal.returns-in-Err-clause-err
 returns-in-Err-clause-err g c =
-    let job = job_is c.args.job in
-    rw c.second_unread_outcome-outcome.ensures
-    (second_err c.args.progress (g.F.Files.content c.args.files.now) job c.in-Err.fault _ _ _ _ _ GAINS)
+    second_err c.args.progress (g.F.Files.content c.args.files.now) (job_is c.args.job) c.in-Err.fault _ _ _ _ _ _ _
+    c.second_unread_outcome-outcome.ensures c.subject_of.ensures.subject c.report.ensures

@@ -4,12 +4,17 @@ use Rattle.cec_prove_commands.proofs.Progress.{all-told}
 use Rattle.cec_prove_commands.proofs.command.told_answer.Goals as goal
 
 pub returns-clause-says : goal.returns-clause-says
-returns-clause-says g c = let job = job_is c.args.job in c.answer_outcome.ensures.says job.task job _ _ c.patient_answer.ensures.answers
+returns-clause-says g c =
+    let job = job_is c.args.job in
+    c.answer_outcome-outcome.ensures.says job.task job _ _ c.patient_answer-answer.ensures.answers
 
 pub returns-clause-out : goal.returns-clause-out
-returns-clause-out g c = let job = job_is c.args.job in c.answer_outcome.ensures.out job.task job _ _ c.patient_answer.ensures.answers
+returns-clause-out g c =
+    let job = job_is c.args.job in
+    c.answer_outcome-outcome.ensures.out job.task job _ _ c.patient_answer-answer.ensures.answers
 
 pub returns-clause-err : goal.returns-clause-err
 returns-clause-err g c =
-    all-told c.args.progress c.patient_answer.result.told (change g.E.Sink.told g.E.Sink.faults c.args.err.now c.patient_answer.new.err) _ _ _ c.patient_answer.ensures.told
-    (c.report_after.ensures _ _ _ c.patient_answer.ensures.told.wrote)
+    let told = c.patient_answer-answer.ensures.told in
+    let s = change g.E.Sink.told g.E.Sink.faults c.args.err.now c.patient_answer-answer.new.err in
+    all-told c.args.progress c.patient_answer-answer.result.told s _ _ _ told (c.report_after.ensures _ _ _ told.wrote)

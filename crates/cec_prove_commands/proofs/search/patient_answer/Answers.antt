@@ -7,4 +7,4 @@ loop-further-init g c = appends-nothing _ _
 
 pub loop-further-preserved : goal.loop-further-preserved
 loop-further-preserved g c =
-    one-further c.loop-further.further _ _ _ _ c.told_further.result (c.told_further.ensures _ _ _ c.loop-further.invariant)
+    one-further c.loop-further.further _ _ _ _ c.told_further-told.result (c.told_further-told.ensures _ _ _ c.loop-further.invariant)

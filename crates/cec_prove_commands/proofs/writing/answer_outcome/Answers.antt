@@ -6,8 +6,8 @@ use Rattle.cec_prove_commands.specs.Answers.{IsAnswer, IsWrittenBy, SaysOfTexts}
 use Rattle.cec_prove_commands.specs.Statuses.{written_of}
 use Rattle.cec_prove_commands.specs.declared.answers.Answer.{Answer}
 use Rattle.cec_prove_commands.specs.declared.outcome.ProveOutcome.{ProveOutcome}
-use Rattle.cec_prove_commands.proofs.Writing.{asked_out, asked_says, compared_out, compared_says, covered_out, covered_says, refusal_leaves}
-use Rattle.cec_prove_commands.proofs.Writing.{refused_says, second_leaves, second_refused_says, surveyed_out, surveyed_says}
+use Rattle.cec_prove_commands.proofs.Answering.{asked_out, asked_says, compared_out, compared_says, covered_out, covered_says, refusal_leaves}
+use Rattle.cec_prove_commands.proofs.Answering.{refused_says, second_leaves, second_refused_says, surveyed_out, surveyed_says}
 use Rattle.cec_prove_commands.proofs.writing.answer_outcome.Goals as goal
 
 pub returns-in-Asked-clause-says : goal.returns-in-Asked-clause-says

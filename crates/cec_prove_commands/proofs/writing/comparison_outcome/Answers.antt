@@ -8,7 +8,7 @@ use Rattle.cec_prove_sources.specs.Sameness.{AreDifferent, AreSame, SharesInterf
 use Rattle.cec_prove_commands.specs.Outcomes.{ComparisonSays, IsDistinction}
 use Rattle.cec_prove_commands.specs.Statuses.{written_of}
 use Rattle.cec_prove_commands.specs.declared.outcome.ProveOutcome.{ProveOutcome}
-use Rattle.cec_prove_commands.proofs.Writing.{comparison_says, comparison_writes, trace_left}
+use Rattle.cec_prove_commands.proofs.Answering.{comparison_says, comparison_writes, trace_left}
 use Rattle.cec_prove_commands.proofs.writing.comparison_outcome.Goals as goal
 
 pub returns-in-Same-clause-says : goal.returns-in-Same-clause-says

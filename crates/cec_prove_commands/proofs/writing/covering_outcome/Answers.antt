@@ -7,7 +7,7 @@ use Rattle.cec_prove_sources.specs.Verdicts.{IsNone}
 use Rattle.cec_prove_commands.specs.Outcomes.{CoveringSays, IsCoveringBy}
 use Rattle.cec_prove_commands.specs.Statuses.{written_of}
 use Rattle.cec_prove_commands.specs.declared.outcome.ProveOutcome.{ProveOutcome}
-use Rattle.cec_prove_commands.proofs.Writing.{covering_part_left, covering_part_writes, covering_says, covering_left, covering_writes}
+use Rattle.cec_prove_commands.proofs.Answering.{covering_part_left, covering_part_writes, covering_says, covering_left, covering_writes}
 use Rattle.cec_prove_commands.proofs.writing.covering_outcome.Goals as goal
 
 pub returns-in-Whole-clause-says : goal.returns-in-Whole-clause-says

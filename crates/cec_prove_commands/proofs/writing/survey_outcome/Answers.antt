@@ -8,7 +8,7 @@ use Rattle.cec_prove_sources.specs.Verdicts.{IsNone}
 use Rattle.cec_prove_commands.specs.Outcomes.{SurveySays, IsSurveyBy}
 use Rattle.cec_prove_commands.specs.Statuses.{written_of}
 use Rattle.cec_prove_commands.specs.declared.outcome.ProveOutcome.{ProveOutcome}
-use Rattle.cec_prove_commands.proofs.Writing.{part_left, part_writes, survey_says, survey_left, survey_writes}
+use Rattle.cec_prove_commands.proofs.Answering.{part_left, part_writes, survey_says, survey_left, survey_writes}
 use Rattle.cec_prove_commands.proofs.writing.survey_outcome.Goals as goal
 
 pub returns-in-Whole-clause-says : goal.returns-in-Whole-clause-says

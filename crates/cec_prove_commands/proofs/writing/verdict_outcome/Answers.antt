@@ -10,7 +10,7 @@ use Rattle.cec_prove_sources.specs.declared.questions.Layout.TheVariants.{LinePe
 use Rattle.cec_prove_commands.specs.Outcomes.{ClaimSays, IsRefutation}
 use Rattle.cec_prove_commands.specs.Statuses.{written_of}
 use Rattle.cec_prove_commands.specs.declared.outcome.ProveOutcome.{ProveOutcome}
-use Rattle.cec_prove_commands.proofs.Writing.{claim_writes, trace_left, verdict_says}
+use Rattle.cec_prove_commands.proofs.Answering.{claim_writes, trace_left, verdict_says}
 use Rattle.cec_prove_commands.proofs.writing.verdict_outcome.Goals as goal
 
 pub returns-in-Holds-clause-says : goal.returns-in-Holds-clause-says
