@@ -62,6 +62,22 @@ def run(words, text="", folder=None, timeout=300):
     )
 
 
+def run_on_terminal(words, folder=None, timeout=300):
+    """The same with no input, where standard error is a terminal."""
+    seen, terminal = os.openpty()
+    told = subprocess.run(
+        list(map(str, words)), stdin=subprocess.DEVNULL, cwd=folder, stdout=subprocess.PIPE, stderr=terminal, text=True, timeout=timeout, check=False
+    )
+    os.write(terminal, b"\n.")
+    os.close(terminal)
+    shown = b""
+    while not shown.endswith(b"\r\n."):
+        shown += os.read(seen, 65536)
+    os.close(seen)
+    told.stderr = shown[:-3].decode(errors="replace").replace("\r\n", "\n")
+    return told
+
+
 def tool(name, *words, text="", folder=None):
     """A run of a script of tools/."""
     return run([TOP / "tools" / name, *words], text, folder)

@@ -5,6 +5,7 @@
 use base_types::{DiskFiles, WriterSink, write_pieces};
 use cec_prove_commands::cec_prove;
 use std::env;
+use std::io::IsTerminal;
 use std::process::ExitCode;
 use std::rt::Env;
 
@@ -22,7 +23,15 @@ fn main(rt: HostRuntime) -> ExitCode {
     };
     let mut files = DiskFiles::new(&rt);
     let mut out = WriterSink::new(rt.stdout());
-    let outcome = cec_prove(rt.alloc(), &words, &mut files, &mut out, &mut err);
+    let progress = rt.stderr().is_terminal();
+    let outcome = cec_prove(
+        rt.alloc(),
+        &words,
+        &mut files,
+        &mut out,
+        &mut err,
+        progress,
+    );
     ExitCode::from(outcome.number())
 }
 

@@ -1,3 +1,4 @@
+mod Answering
 mod Options
 pub mod Outcomes
-mod Comparisons
+mod Progress

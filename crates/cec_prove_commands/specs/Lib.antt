@@ -4,3 +4,4 @@ pub mod HelpTexts
 pub mod Outcomes
 pub mod Lines
 pub mod Views
+pub mod Answers

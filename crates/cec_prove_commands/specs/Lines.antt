@@ -1,5 +1,6 @@
 -- To believe: the line that is written about an outcome.
-use Rattle.std.specs.Prelude.{⊤, ℕ, List, [], ◌++◌, Option, Some, None, codes, decimal, unwrap_or}
+use Rattle.std.specs.Prelude.{⊤, ℕ, ◌+◌, ◌≤◌, Bool, true, false, List, [], ◌++◌, Option, Some, None, codes, decimal, zero, suc}
+use Rattle.std.specs.Prelude.{unwrap_or}
 use Rattle.cec_compile.specs.declared.refusal.Refusal.TheVariants as refusing
 use Rattle.cec_refusals.specs.RefusalLines.{RefusalSubject, refusal_line}
 use Rattle.cec_text_io.specs.Contents.{Content, IsHeld}
@@ -91,19 +92,38 @@ job_subject job source = record {
   source = source;
 }
 
--- What `err` gained about a task: the whole line, or a prefix of it where its count of faults rose. A source of
--- which the line speaks is the one that the file holds.
-pub record GainsJobErr (job : Job) (content : Content) (outcome : ProveOutcome) (old new : Option (List ℕ))
-    (before now : ℕ) : Type 0 where
+-- ---- progress
+
+-- the line that is written before a try, from the second one on
+abbrev pub progress_line : (number : ℕ) → List ℕ
+progress_line number = own_line (codes "not decided yet, searching longer (" ++ (decimal number ++ codes " of 4)"))
+
+-- the lines before the tries that follow the first one, where this is their number
+abbrev pub progress_lines : (further : ℕ) → List ℕ
+progress_lines zero = []
+progress_lines (suc n) = progress_lines n ++ progress_line (n + 2)
+
+-- how many tries may follow the first one: none where no progress is asked for
+abbrev pub most_further : (progress : Bool) → ℕ
+most_further true = 3
+most_further false = 0
+
+-- What `err` gained about a task: a line for each try that followed the first one, and the line of the outcome, or a
+-- prefix of these where its count of faults rose. A source of which the line speaks is the one that the file holds.
+pub record GainsJobErr (progress : Bool) (job : Job) (content : Content) (outcome : ProveOutcome)
+    (old new : Option (List ℕ)) (before now : ℕ) : Type 0 where
   pub source : List ℕ
   pub held : SpeaksOf content job outcome source
-  pub gains : GainsLine old new before now (line_of (job_subject job source) outcome)
+  pub further : ℕ
+  pub few : further ≤ most_further progress
+  pub gains : GainsLine old new before now (progress_lines further ++ line_of (job_subject job source) outcome)
 
 -- the same about a request; of words without a meaning the line says what is wrong with them
-abbrev pub GainsErr : List (List ℕ) → Option Request → Content → ProveOutcome → (old new : Option (List ℕ))
-    → (before now : ℕ) → Type 0
-GainsErr words None content outcome old new before now =
+abbrev pub GainsErr : (progress : Bool) → List (List ℕ) → Option Request → Content → ProveOutcome
+    → (old new : Option (List ℕ)) → (before now : ℕ) → Type 0
+GainsErr progress words None content outcome old new before now =
     GainsLine old new before now (own_line (misuse_of words ++ codes ", see cec-prove --help"))
-GainsErr words (Some (Tell about)) content outcome old new before now =
+GainsErr progress words (Some (Tell about)) content outcome old new before now =
     GainsLine old new before now (line_of nothing outcome)
-GainsErr words (Some (Do job)) content outcome old new before now = GainsJobErr job content outcome old new before now
+GainsErr progress words (Some (Do job)) content outcome old new before now =
+    GainsJobErr progress job content outcome old new before now

@@ -1,27 +1,26 @@
 // The top call: what the words ask for, done.
 
-ghost use Rattle.std.specs.Prelude.{◌≡◌, ◌≤◌, ◌↔◌, length, map, Some, None};
+ghost use Rattle.std.specs.Prelude.{◌≡◌, ◌≤◌, ◌↔◌, true, length, map, Some, None};
 ghost use Rattle.std.specs.String.{string_bytes};
 ghost use Rattle.base_types.specs.SinkChanges.{change};
 ghost use Rattle.cec_text_io.specs.Contents.{IsHeld};
 ghost use Rattle.cec_text_io.specs.ErrorLines.{GainsLine};
+ghost use Rattle.cec_prove_commands.specs.Answers.{GainsAll, IsWrittenBy, SaysOfTexts};
 ghost use Rattle.cec_prove_commands.specs.HelpTexts.{own_text};
 ghost use Rattle.cec_prove_commands.specs.Lines.{GainsErr, GainsJobErr, job_subject, line_of, nothing, second_of};
 ghost use Rattle.cec_prove_commands.specs.Lines.{asked_signal};
 ghost use Rattle.cec_text_io.specs.Writings.{LeavesText};
-ghost use Rattle.cec_prove_commands.specs.Outcomes.{ClaimSays, ComparisonSays, CountsFiles, CoveringSays, GainsOut};
-ghost use Rattle.cec_prove_commands.specs.Outcomes.{IsCoveringBy, IsDistinction};
-ghost use Rattle.cec_prove_commands.specs.Outcomes.{IsOutcomeOf, IsRefutation, IsSurveyBy, SurveySays, question_of};
+ghost use Rattle.cec_prove_commands.specs.Outcomes.{CountsFiles, GainsOut, IsOutcomeOf};
 ghost use Rattle.cec_prove_commands.specs.Statuses.{written_of};
 ghost use Rattle.cec_prove_commands.specs.Views.{job_is, spoken_of, subject_is, task_is};
-ghost use Rattle.cec_prove_commands.specs.Words.{request_by, Compare, Do, Tell};
+ghost use Rattle.cec_prove_commands.specs.Words.{is_comparison, request_by, Do, Tell};
 
-use crate::lines::{Subject, report, report_misuse};
+use crate::lines::{Subject, report, report_after, report_misuse};
 use crate::outcome::{ProveOutcome, second_unread_outcome, unread_outcome, written_outcome};
-use crate::sources::{do_claim, do_comparison, do_covering, do_survey};
-use crate::words::{About, Job, Request, Task, request_by};
+use crate::search::{Searched, patient_answer};
+use crate::words::{About, Job, Request, Task, is_comparison, request_by};
+use crate::writing::answer_outcome;
 use base_types::{Files, Limits, Sink};
-use cec_prove_sources::Claim;
 use cec_text_io::write_whole;
 use std::alloc::Global;
 
@@ -55,6 +54,10 @@ const VERSION: &[u8] = b"cec-prove 0.1.0\n";
 /// Every other list of words is `Usage`. For every outcome but `Told` one line goes to `err`, which for `Usage` names
 /// the word at fault; a write to `err` that fails changes no outcome.
 ///
+/// With `progress`, for a person who waits, the search begins with a thousandth of the effort. Before it goes on with a
+/// hundredth, a tenth and the whole, a line says so. Nothing of an earlier try is written to `out`. Nothing more goes to
+/// `err` once it has failed.
+///
 /// `Proved` of a claim holds of every list of events that meet the source's relations, and resets: each reaction is
 /// constructive, and in each the signal is as claimed (`ClaimHolds`), whatever the search does. For `Refuted` the trace
 /// that `out` gained leads to a reaction in which it is not (`IsBroken`). Of a comparison `Proved` says that both
@@ -66,6 +69,7 @@ pub fn cec_prove<F: Files, O: Sink, E: Sink>(
     files: &mut F,
     out: &mut O,
     err: &mut E,
+    progress: bool,
 ) -> ProveOutcome
     ensures usage { (result ≡ ProveOutcome.Usage) ↔ (request_by (map string_bytes words.now) ≡ None) }
     ensures agrees { IsOutcomeOf (request_by (map string_bytes words.now)) (F.content files.old) result }
@@ -74,12 +78,12 @@ pub fn cec_prove<F: Files, O: Sink, E: Sink>(
     ensures files_stay { F.content files.new ≡ F.content files.old }
     ensures out { GainsOut (request_by (map string_bytes words.now)) (F.content files.old) result
         (change O.told O.faults out.old out.new) }
-    ensures err { GainsErr (map string_bytes words.now) (request_by (map string_bytes words.now))
+    ensures err { GainsErr progress (map string_bytes words.now) (request_by (map string_bytes words.now))
         (F.content files.old) result
         (E.told err.old) (E.told err.new) (E.faults err.old) (E.faults err.new) }
 {
     match request_by(words) {
-        Some(Request::Do(job)) => do_file(alloc, job, files, out, err),
+        Some(Request::Do(job)) => do_file(alloc, job, files, progress, out, err),
         Some(Request::Tell(about)) => tell(about, out, err),
         None => {
             report_misuse(err, words);
@@ -164,6 +168,7 @@ fn do_file<F: Files, O: Sink, E: Sink>(
     alloc: Global,
     job: Job<'_>,
     files: &mut F,
+    progress: bool,
     out: &mut O,
     err: &mut E,
 ) -> ProveOutcome
@@ -173,11 +178,11 @@ fn do_file<F: Files, O: Sink, E: Sink>(
     ensures files_stay { F.content files.new ≡ F.content files.old }
     ensures out { GainsOut (Some (Do (job_is job.entry))) (F.content files.old) result
         (change O.told O.faults out.old out.new) }
-    ensures err { GainsJobErr (job_is job.entry) (F.content files.old) result
+    ensures err { GainsJobErr progress (job_is job.entry) (F.content files.old) result
         (E.told err.old) (E.told err.new) (E.faults err.old) (E.faults err.new) }
 {
     match files.read(alloc, job.name, Limits::SOURCE_BYTES) {
-        Ok(text) => do_text(alloc, job, &text, files, out, err),
+        Ok(text) => do_text(alloc, job, &text, files, progress, out, err),
         Err(fault) => {
             let outcome = unread_outcome(fault);
             report(err, subject_of(job, b""), &outcome);
@@ -192,6 +197,7 @@ fn do_text<F: Files, O: Sink, E: Sink>(
     job: Job<'_>,
     text: &[u8],
     files: &mut F,
+    progress: bool,
     out: &mut O,
     err: &mut E,
 ) -> ProveOutcome
@@ -203,136 +209,75 @@ fn do_text<F: Files, O: Sink, E: Sink>(
     ensures files_stay { F.content files.new ≡ F.content files.old }
     ensures out { GainsOut (Some (Do (job_is job.entry))) (F.content files.old) result
         (change O.told O.faults out.old out.new) }
-    ensures err { GainsJobErr (job_is job.entry) (F.content files.old) result
+    ensures err { GainsJobErr progress (job_is job.entry) (F.content files.old) result
         (E.told err.old) (E.told err.new) (E.faults err.old) (E.faults err.new) }
 {
-    match job.task {
-        Task::Ask(claim, signal) => told_claim(alloc, job, claim, signal, text, out, err),
-        Task::Survey => told_survey(alloc, job, text, out, err),
-        Task::Cover => told_covering(alloc, job, text, out, err),
-        Task::Compare(other) => do_second(alloc, job, other, text, files, out, err),
+    if is_comparison(job.task) {
+        do_second(alloc, job, text, files, progress, out, err)
+    } else {
+        told_answer(alloc, job, text, b"", progress, out, err)
     }
 }
 
-// Answers a claim about a text, and writes the line of the outcome.
-fn told_claim<O: Sink, E: Sink>(
-    alloc: Global,
-    job: Job<'_>,
-    claim: Claim,
-    signal: &[u8],
-    text: &[u8],
-    out: &mut O,
-    err: &mut E,
-) -> ProveOutcome
-    requires { length text.now ≤ Limits.SOURCE_BYTES }
-    ensures says { ClaimSays (question_of claim signal.now (job_is job.entry)) result (job_is job.entry) text.now }
-    ensures out { LeavesText
-        (IsRefutation (question_of claim signal.now (job_is job.entry)) (job_is job.entry) text.now)
-        (change O.told O.faults out.old out.new) (written_of result) }
-    ensures err { GainsLine (E.told err.old) (E.told err.new) (E.faults err.old) (E.faults err.new)
-        (line_of (job_subject (job_is job.entry) text.now) result) }
-{
-    let outcome = do_claim(alloc, job, claim, signal, text, out);
-    report(err, subject_of(job, text), &outcome);
-    outcome
-}
-
-// Writes the survey of a text, and the line of the outcome.
-fn told_survey<O: Sink, E: Sink>(
-    alloc: Global,
-    job: Job<'_>,
-    text: &[u8],
-    out: &mut O,
-    err: &mut E,
-) -> ProveOutcome
-    requires { length text.now ≤ Limits.SOURCE_BYTES }
-    ensures says { SurveySays result (job_is job.entry) text.now }
-    ensures out { LeavesText (IsSurveyBy result (job_is job.entry) text.now)
-        (change O.told O.faults out.old out.new) (written_of result) }
-    ensures err { GainsLine (E.told err.old) (E.told err.new) (E.faults err.old) (E.faults err.new)
-        (line_of (job_subject (job_is job.entry) text.now) result) }
-{
-    let outcome = do_survey(alloc, job, text, out);
-    report(err, subject_of(job, text), &outcome);
-    outcome
-}
-
-// Writes the covering of a text, and the line of the outcome.
-fn told_covering<O: Sink, E: Sink>(
-    alloc: Global,
-    job: Job<'_>,
-    text: &[u8],
-    out: &mut O,
-    err: &mut E,
-) -> ProveOutcome
-    requires { length text.now ≤ Limits.SOURCE_BYTES }
-    ensures says { CoveringSays result (job_is job.entry) text.now }
-    ensures out { LeavesText (IsCoveringBy result (job_is job.entry) text.now)
-        (change O.told O.faults out.old out.new) (written_of result) }
-    ensures err { GainsLine (E.told err.old) (E.told err.new) (E.faults err.old) (E.faults err.new)
-        (line_of (job_subject (job_is job.entry) text.now) result) }
-{
-    let outcome = do_covering(alloc, job, text, out);
-    report(err, subject_of(job, text), &outcome);
-    outcome
-}
-
-// Compares two texts, and writes the line of the outcome.
-fn told_comparison<O: Sink, E: Sink>(
-    alloc: Global,
-    job: Job<'_>,
-    first: &[u8],
-    second: &[u8],
-    out: &mut O,
-    err: &mut E,
-) -> ProveOutcome
-    requires first { length first.now ≤ Limits.SOURCE_BYTES }
-    requires second { length second.now ≤ Limits.SOURCE_BYTES }
-    ensures says { ComparisonSays result (job_is job.entry) first.now second.now }
-    ensures out { LeavesText (IsDistinction (job_is job.entry) first.now second.now)
-        (change O.told O.faults out.old out.new) (written_of result) }
-    ensures err { GainsLine (E.told err.old) (E.told err.new) (E.faults err.old) (E.faults err.new)
-        (line_of (job_subject (job_is job.entry) (spoken_of result first.now second.now)) result) }
-{
-    let outcome = do_comparison(alloc, job, first, second, out);
-    report(
-        err,
-        subject_of(job, spoken_of(&outcome, first, second)),
-        &outcome,
-    );
-    outcome
-}
-
-// Does a comparison of the source that was read with that in a file.
+// Does a comparison of the source that was read with that in the second file.
 fn do_second<F: Files, O: Sink, E: Sink>(
     alloc: Global,
     job: Job<'_>,
-    other: &str,
     text: &[u8],
     files: &mut F,
+    progress: bool,
     out: &mut O,
     err: &mut E,
 ) -> ProveOutcome
     requires short { length text.now ≤ Limits.SOURCE_BYTES }
     requires held { IsHeld (F.content files.old) job.name.now text.now }
-    requires compares { task_is job.task ≡ Compare other.now }
+    requires compares { is_comparison (task_is job.task) ≡ true }
     ensures agrees { IsOutcomeOf (Some (Do (job_is job.entry))) (F.content files.old) result }
     ensures files_counted { CountsFiles (Some (Do (job_is job.entry))) result
         (F.faults files.old) (F.faults files.new) (F.last_failed files.old) (F.last_failed files.new) }
     ensures files_stay { F.content files.new ≡ F.content files.old }
     ensures out { GainsOut (Some (Do (job_is job.entry))) (F.content files.old) result
         (change O.told O.faults out.old out.new) }
-    ensures err { GainsJobErr (job_is job.entry) (F.content files.old) result
+    ensures err { GainsJobErr progress (job_is job.entry) (F.content files.old) result
         (E.told err.old) (E.told err.new) (E.faults err.old) (E.faults err.new) }
 {
-    match files.read(alloc, other, Limits::SOURCE_BYTES) {
-        Ok(second) => told_comparison(alloc, job, text, &second, out, err),
+    match files.read(alloc, second_of(job.task), Limits::SOURCE_BYTES) {
+        Ok(second) => told_answer(alloc, job, text, &second, progress, out, err),
         Err(fault) => {
             let outcome = second_unread_outcome(fault);
             report(err, subject_of(job, b""), &outcome);
             outcome
         }
     }
+}
+
+// Does a task about these texts, the second of which a comparison alone reads, and writes the line of the outcome.
+fn told_answer<O: Sink, E: Sink>(
+    alloc: Global,
+    job: Job<'_>,
+    first: &[u8],
+    second: &[u8],
+    progress: bool,
+    out: &mut O,
+    err: &mut E,
+) -> ProveOutcome
+    requires first { length first.now ≤ Limits.SOURCE_BYTES }
+    requires second { length second.now ≤ Limits.SOURCE_BYTES }
+    ensures says { SaysOfTexts (job_is job.entry).task result (job_is job.entry) first.now second.now }
+    ensures out { LeavesText (IsWrittenBy (job_is job.entry).task result (job_is job.entry) first.now second.now)
+        (change O.told O.faults out.old out.new) (written_of result) }
+    ensures err { GainsAll progress (change E.told E.faults err.old err.new)
+        (line_of (job_subject (job_is job.entry) (spoken_of result first.now second.now)) result) }
+{
+    let Searched { answer, told } = patient_answer(alloc, job, first, second, progress, err);
+    let outcome = answer_outcome(answer, out);
+    report_after(
+        err,
+        told,
+        subject_of(job, spoken_of(&outcome, first, second)),
+        &outcome,
+    );
+    outcome
 }
 
 // The source that a line speaks of: the second one where it is refused.

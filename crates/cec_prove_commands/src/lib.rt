@@ -6,11 +6,14 @@
 //! otherwise.
 #![tactic(auto)]
 
+mod answers;
 mod command;
 mod lines;
 mod outcome;
+mod search;
 mod sources;
 mod words;
+mod writing;
 
 pub use command::cec_prove;
 pub use outcome::ProveOutcome;

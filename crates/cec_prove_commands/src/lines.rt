@@ -1,11 +1,11 @@
 // The line about an outcome.
 
-ghost use Rattle.std.specs.Prelude.{◌≡◌, ◌≤◌, ◌++◌, codes, decimal, length, map};
+ghost use Rattle.std.specs.Prelude.{◌≡◌, ◌≤◌, ◌++◌, ℕ, List, Option, codes, decimal, length, map};
 ghost use Rattle.std.specs.String.{string_bytes};
 ghost use Rattle.base_types.specs.Writing.{Wrote};
 ghost use Rattle.cec_text_io.specs.ErrorLines.{GainsLine};
 ghost use Rattle.cec_refusals.specs.Views.{refused_is};
-ghost use Rattle.cec_prove_commands.specs.Lines.{line_of, own_line, refused_of};
+ghost use Rattle.cec_prove_commands.specs.Lines.{line_of, own_line, progress_line, refused_of};
 ghost use Rattle.cec_prove_commands.specs.Views.{subject_is};
 ghost use Rattle.cec_prove_commands.specs.Words.{misuse_of};
 
@@ -33,6 +33,44 @@ pub(crate) fn report<E: Sink>(err: &mut E, subject: Subject<'_>, outcome: &Prove
         (line_of (subject_is subject.entry) outcome.now) }
 {
     let _ = put_line(err, subject, outcome);
+}
+
+/// The same after other lines, whose writing ended so. Where the sink failed on them, nothing is written.
+pub(crate) fn report_after<E: Sink>(
+    err: &mut E,
+    told: Result<(), SinkFault>,
+    subject: Subject<'_>,
+    outcome: &ProveOutcome,
+)
+    requires { length subject.source.now ≤ Limits.SOURCE_BYTES }
+    ensures { (before : Option (List ℕ)) (faults : ℕ) (lines : List ℕ)
+        → Wrote before (E.told err.old) faults (E.faults err.old) lines told
+        → GainsLine before (E.told err.new) faults (E.faults err.new)
+            (lines ++ line_of (subject_is subject.entry) outcome.now) }
+{
+    match told {
+        Ok(()) => report(err, subject, outcome),
+        Err(_) => (),
+    }
+}
+
+/// Writes the line before the try of this number; a prefix of the line was appended where the sink failed.
+pub(crate) fn put_progress<E: Sink>(err: &mut E, number: usize) -> Result<(), SinkFault>
+    ensures { Wrote (E.told err.old) (E.told err.new) (E.faults err.old) (E.faults err.new)
+        (progress_line number) result }
+{
+    let mut shown = Buffer::new();
+    let shown = shown.format(number).as_bytes();
+    write_pieces(
+        err,
+        &[
+            b"cec-prove: ",
+            b"not decided yet, searching longer (",
+            shown,
+            b" of 4)",
+            b"\n",
+        ],
+    )
 }
 
 /// Writes the line about words that have no meaning; a sink that fails changes nothing.

@@ -250,8 +250,8 @@ fn with_option<'a>(job: Job<'a>, key: &[u8], value: &'a [u8]) -> Option<Job<'a>>
     }
 }
 
-// Whether a task is a comparison, which assumes nothing.
-fn is_comparison(task: Task<'_>) -> bool
+/// Whether a task is a comparison, which assumes nothing.
+pub(crate) fn is_comparison(task: Task<'_>) -> bool
     ensures { result ≡ is_comparison (task_is task.entry) }
 {
     match task {

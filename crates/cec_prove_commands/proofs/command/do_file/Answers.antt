@@ -9,7 +9,7 @@ use Rattle.cec_prove_commands.specs.Outcomes.{GainsOut, IsOutcomeOf, IsTextOf}
 use Rattle.cec_prove_commands.specs.Statuses.{unread_outcome}
 use Rattle.cec_prove_commands.specs.Views.{job_is}
 use Rattle.cec_prove_commands.specs.Words.{Do}
-use Rattle.cec_prove_commands.proofs.Outcomes.{counts-later, unread_agrees, unread_counts, unread_out}
+use Rattle.cec_prove_commands.proofs.Outcomes.{counts-later, unread_agrees, unread_counts, unread_err, unread_out}
 use Rattle.cec_prove_commands.proofs.command.do_file.Goals as goal
 
 pub do_text-requires-clause-held : goal.do_text-requires-clause-held
@@ -34,7 +34,7 @@ returns-in-Ok-clause-out g c =
 
 pub returns-in-Ok-clause-err : goal.returns-in-Ok-clause-err
 returns-in-Ok-clause-err g c =
-    subst (λ (k : Content). GainsJobErr (job_is c.args.job) k c.do_text.result (g.E.Sink.told c.args.err.now) (g.E.Sink.told c.do_text.new.err)
+    subst (λ (k : Content). GainsJobErr c.args.progress (job_is c.args.job) k c.do_text.result (g.E.Sink.told c.args.err.now) (g.E.Sink.told c.do_text.new.err)
     (g.E.Sink.faults c.args.err.now) (g.E.Sink.faults c.do_text.new.err)) c.in-Ok.ensures.content_stays c.do_text.ensures.err
 
 pub returns-in-Err-clause-agrees : goal.returns-in-Err-clause-agrees
@@ -53,3 +53,8 @@ returns-in-Err-clause-out g c =
     (unread_out (IsTextOf job.task job (g.F.Files.content c.args.files.now) (unread_outcome c.in-Err.fault)) c.in-Err.fault
     (change g.O.Sink.told g.O.Sink.faults c.args.out.now c.args.out.now)
     (appends-nothing (g.O.Sink.told c.args.out.now) (g.O.Sink.faults c.args.out.now)))
+
+pub returns-in-Err-clause-err : goal.returns-in-Err-clause-err
+returns-in-Err-clause-err g c =
+    unread_err c.args.progress (g.F.Files.content c.args.files.now) (job_is c.args.job) c.in-Err.fault _ _ _ _ _ _ _ c.unread_outcome-outcome.ensures
+    c.subject_of.ensures.subject c.report.ensures

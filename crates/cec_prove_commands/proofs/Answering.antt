@@ -1,0 +1,273 @@
+-- What an outcome says of an answer, and what is left of its text in a sink.
+use Rattle.std.proofs.Common.{◌≡◌, ℕ, true, false, List, [], Option, Some, sym, subst, ◌∙◌}
+use Rattle.base_types.specs.SinkChanges.{SinkChange}
+use Rattle.base_types.specs.Writing.{Appends}
+use Rattle.est_kernel.specs.Plain.{Program}
+use Rattle.cec_compile.specs.Refusals.{IsRefused}
+use Rattle.cec_compile.specs.declared.refusal.Refusal.{Refusal}
+use Rattle.cec_compile.specs.declared.refusal.Refusal.TheVariants as refusing
+use Rattle.cec_text_io.proofs.Pieces.{text_as}
+use Rattle.cec_text_io.specs.Writings.{LeavesText}
+use Rattle.cec_text_io.specs.declared.writing.Written.{Written}
+use Rattle.cec_text_io.specs.declared.writing.Written.TheVariants as ends
+use Rattle.cec_prove_covers.specs.Coverings.{HasCovering, SaysCovering}
+use Rattle.cec_prove_covers.specs.declared.coverings.Covering.{Covering}
+use Rattle.cec_prove_sources.specs.Sameness.{HasComparison, IsComparison}
+use Rattle.cec_prove_sources.specs.Surveys.{HasSurvey, IsSurvey}
+use Rattle.cec_prove_sources.specs.Verdicts.{HasVerdict, IsVerdict, PlainQuestion}
+use Rattle.cec_prove_sources.specs.declared.questions.Comparison.{Comparison}
+use Rattle.cec_prove_sources.specs.declared.questions.Survey.{Survey}
+use Rattle.cec_prove_sources.specs.declared.questions.Verdict.{Verdict}
+use Rattle.cec_prove_commands.specs.Answers.{IsAnswer, IsWrittenBy, SaysOfTexts}
+use Rattle.cec_prove_commands.specs.Outcomes.{Answered, ClaimSays, Compared, ComparisonSays, CoveringSays, IsCoveringBy, IsCoveringOf, IsDistinction}
+use Rattle.cec_prove_commands.specs.Outcomes.{IsRefutation, IsSurveyBy, IsSurveyOf, SurveySays, question_of}
+use Rattle.cec_prove_commands.specs.Statuses.{refusal_outcome, second_refusal_outcome, written_of, written_outcome}
+use Rattle.cec_prove_commands.specs.Words.{Job, Task, Ask, Survey as Surveys, Cover, Compare}
+use Rattle.cec_prove_commands.specs.declared.answers.Answer.TheVariants as answers
+use Rattle.cec_prove_commands.specs.declared.outcome.ProveOutcome.{ProveOutcome}
+use Rattle.cec_prove_commands.specs.declared.outcome.ProveOutcome.TheVariants.{Refuted, Surveyed, PartlySurveyed, Covered, PartlyCovered}
+
+-- ---- what an answer says of the program
+
+pub verdict_says : (text : List ℕ) (job : Job) (q : PlainQuestion) (verdict v : Verdict) (Says : Program → Type 0) → HasVerdict text job.main q verdict
+    → verdict ≡ v → ((p : Program) → IsVerdict p q v → Says p) → Answered text job Says
+verdict_says text job q verdict v Says h is says = record {
+  program = h.program;
+  source = h.source;
+  compiles = h.compiles;
+  says = says h.program (subst (IsVerdict h.program q) is h.says);
+}
+
+pub survey_says : (text : List ℕ) (job : Job) (survey v : Survey) (Says : Program → Type 0) → HasSurvey text job.main job.assumed survey
+    → survey ≡ v → ((p : Program) → IsSurvey p job.assumed v → Says p) → Answered text job Says
+survey_says text job survey v Says h is says = record {
+  program = h.program;
+  source = h.source;
+  compiles = h.compiles;
+  says = says h.program (subst (IsSurvey h.program job.assumed) is h.says);
+}
+
+pub covering_says : (text : List ℕ) (job : Job) (covering v : Covering) (Says : Program → Type 0) → HasCovering text job.main job.assumed covering
+    → covering ≡ v → ((p : Program) → SaysCovering text job.main job.assumed p v → Says p) → Answered text job Says
+covering_says text job covering v Says h is says = record {
+  program = h.program;
+  source = h.stands;
+  compiles = h.compiles;
+  says = says h.program (subst (SaysCovering text job.main job.assumed h.program) is h.says);
+}
+
+pub comparison_says : (first second : List ℕ) (job : Job) (comparison v : Comparison) (Says : Program → Program → Type 0)
+    → HasComparison first second job.main comparison → comparison ≡ v → ((p q : Program) → IsComparison p q v → Says p q)
+    → Compared first second job Says
+comparison_says first second job comparison v Says h is says = record {
+  left = h.left;
+  left_source = h.left_source;
+  left_compiles = h.left_compiles;
+  right = h.right;
+  right_source = h.right_source;
+  right_compiles = h.right_compiles;
+  says = says h.left h.right (subst (IsComparison h.left h.right) is h.says);
+}
+
+-- ---- what the outcome of a writing says
+
+pub claim_writes : (ended : Written) (q : PlainQuestion) (job : Job) (text trace : List ℕ) → IsRefutation q job text trace
+    → ClaimSays q (written_outcome Refuted ended) job text
+claim_writes ends.Done q job text trace is = (trace, is)
+claim_writes ends.WriteFault q job text trace is = (trace, is)
+claim_writes ends.NoMemory q job text trace is = tt
+
+pub survey_writes : (ended : Written) (job : Job) (text lines : List ℕ) → IsSurveyOf job true text lines → SurveySays (written_outcome Surveyed ended) job text
+survey_writes ends.Done job text lines is = (lines, is)
+survey_writes ends.WriteFault job text lines is = (true, (lines, is))
+survey_writes ends.NoMemory job text lines is = tt
+
+pub part_writes : (ended : Written) (job : Job) (text lines : List ℕ) → IsSurveyOf job false text lines
+    → SurveySays (written_outcome PartlySurveyed ended) job text
+part_writes ends.Done job text lines is = (lines, is)
+part_writes ends.WriteFault job text lines is = (false, (lines, is))
+part_writes ends.NoMemory job text lines is = tt
+
+pub covering_writes : (ended : Written) (job : Job) (text lines : List ℕ) → IsCoveringOf job true text lines
+    → CoveringSays (written_outcome Covered ended) job text
+covering_writes ends.Done job text lines is = (lines, is)
+covering_writes ends.WriteFault job text lines is = (true, (lines, is))
+covering_writes ends.NoMemory job text lines is = tt
+
+pub covering_part_writes : (ended : Written) (job : Job) (text lines : List ℕ) → IsCoveringOf job false text lines
+    → CoveringSays (written_outcome PartlyCovered ended) job text
+covering_part_writes ends.Done job text lines is = (lines, is)
+covering_part_writes ends.WriteFault job text lines is = (false, (lines, is))
+covering_part_writes ends.NoMemory job text lines is = tt
+
+pub comparison_writes : (ended : Written) (job : Job) (first second trace : List ℕ) → IsDistinction job first second trace
+    → ComparisonSays (written_outcome Refuted ended) job first second
+comparison_writes ends.Done job first second trace is = (trace, is)
+comparison_writes ends.WriteFault job first second trace is = (trace, is)
+comparison_writes ends.NoMemory job first second trace is = tt
+
+-- ---- what is left of a text
+
+-- a text of which this is so
+left_as : (P : List ℕ → Type 0) (bytes text : List ℕ) (s : SinkChange) (ended : Written) → P text → bytes ≡ text
+    → LeavesText (λ t. t ≡ bytes) s (Some ended) → LeavesText P s (Some ended)
+left_as P bytes text s ended p same = text_as (λ t. t ≡ bytes) P s (Some ended) (λ t is. subst P (sym (is ∙ same)) p)
+
+pub trace_left : (P : List ℕ → Type 0) (bytes text : List ℕ) (s : SinkChange) (ended : Written) → P text → bytes ≡ text
+    → LeavesText (λ t. t ≡ bytes) s (Some ended) → LeavesText P s (written_of (written_outcome Refuted ended))
+trace_left P bytes text s ends.Done p same l = left_as P bytes text s ends.Done p same l
+trace_left P bytes text s ends.WriteFault p same l = left_as P bytes text s ends.WriteFault p same l
+trace_left P bytes text s ends.NoMemory p same l = l
+
+pub survey_left : (bytes text : List ℕ) (job : Job) (source : List ℕ) (s : SinkChange) (ended : Written) → IsSurveyOf job true source text → bytes ≡ text
+    → LeavesText (λ t. t ≡ bytes) s (Some ended) → LeavesText (IsSurveyBy (written_outcome Surveyed ended) job source) s (written_of (written_outcome Surveyed ended))
+survey_left bytes text job source s ends.Done p same l = left_as (IsSurveyOf job true source) bytes text s ends.Done p same l
+survey_left bytes text job source s ends.WriteFault p same l =
+    left_as (IsSurveyBy (written_outcome Surveyed ends.WriteFault) job source) bytes text s ends.WriteFault (true, p) same l
+survey_left bytes text job source s ends.NoMemory p same l = l
+
+pub part_left : (bytes text : List ℕ) (job : Job) (source : List ℕ) (s : SinkChange) (ended : Written) → IsSurveyOf job false source text → bytes ≡ text
+    → LeavesText (λ t. t ≡ bytes) s (Some ended) → LeavesText (IsSurveyBy (written_outcome PartlySurveyed ended) job source) s (written_of (written_outcome PartlySurveyed ended))
+part_left bytes text job source s ends.Done p same l = left_as (IsSurveyOf job false source) bytes text s ends.Done p same l
+part_left bytes text job source s ends.WriteFault p same l =
+    left_as (IsSurveyBy (written_outcome PartlySurveyed ends.WriteFault) job source) bytes text s ends.WriteFault (false, p) same l
+part_left bytes text job source s ends.NoMemory p same l = l
+
+pub covering_left : (bytes text : List ℕ) (job : Job) (source : List ℕ) (s : SinkChange) (ended : Written) → IsCoveringOf job true source text → bytes ≡ text
+    → LeavesText (λ t. t ≡ bytes) s (Some ended) → LeavesText (IsCoveringBy (written_outcome Covered ended) job source) s (written_of (written_outcome Covered ended))
+covering_left bytes text job source s ends.Done p same l = left_as (IsCoveringOf job true source) bytes text s ends.Done p same l
+covering_left bytes text job source s ends.WriteFault p same l =
+    left_as (IsCoveringBy (written_outcome Covered ends.WriteFault) job source) bytes text s ends.WriteFault (true, p) same l
+covering_left bytes text job source s ends.NoMemory p same l = l
+
+pub covering_part_left : (bytes text : List ℕ) (job : Job) (source : List ℕ) (s : SinkChange) (ended : Written) → IsCoveringOf job false source text → bytes ≡ text
+    → LeavesText (λ t. t ≡ bytes) s (Some ended) → LeavesText (IsCoveringBy (written_outcome PartlyCovered ended) job source) s (written_of (written_outcome PartlyCovered ended))
+covering_part_left bytes text job source s ends.Done p same l = left_as (IsCoveringOf job false source) bytes text s ends.Done p same l
+covering_part_left bytes text job source s ends.WriteFault p same l =
+    left_as (IsCoveringBy (written_outcome PartlyCovered ends.WriteFault) job source) bytes text s ends.WriteFault (false, p) same l
+covering_part_left bytes text job source s ends.NoMemory p same l = l
+
+-- ---- refusals
+
+pub claim_refused : (refusal : Refusal) (q : PlainQuestion) (job : Job) (text : List ℕ) → IsRefused text job.main refusal
+    → ClaimSays q (refusal_outcome refusal) job text
+claim_refused (refusing.Static fault) q job text is = is
+claim_refused (refusing.Cyclic cycle) q job text is = is
+claim_refused (refusing.Limit limit) q job text is = is
+claim_refused refusing.NoMemory q job text is = tt
+
+survey_refused : (refusal : Refusal) (job : Job) (text : List ℕ) → IsRefused text job.main refusal → SurveySays (refusal_outcome refusal) job text
+survey_refused (refusing.Static fault) job text is = is
+survey_refused (refusing.Cyclic cycle) job text is = is
+survey_refused (refusing.Limit limit) job text is = is
+survey_refused refusing.NoMemory job text is = tt
+
+covering_refused : (refusal : Refusal) (job : Job) (text : List ℕ) → IsRefused text job.main refusal → CoveringSays (refusal_outcome refusal) job text
+covering_refused (refusing.Static fault) job text is = is
+covering_refused (refusing.Cyclic cycle) job text is = is
+covering_refused (refusing.Limit limit) job text is = is
+covering_refused refusing.NoMemory job text is = tt
+
+first_refused : (refusal : Refusal) (job : Job) (first second : List ℕ) → IsRefused first job.main refusal
+    → ComparisonSays (refusal_outcome refusal) job first second
+first_refused (refusing.Static fault) job first second is = is
+first_refused (refusing.Cyclic cycle) job first second is = is
+first_refused (refusing.Limit limit) job first second is = is
+first_refused refusing.NoMemory job first second is = tt
+
+second_refused : (refusal : Refusal) (job : Job) (first second : List ℕ) → IsRefused second job.main refusal
+    → ComparisonSays (second_refusal_outcome refusal) job first second
+second_refused (refusing.Static fault) job first second is = is
+second_refused (refusing.Cyclic cycle) job first second is = is
+second_refused (refusing.Limit limit) job first second is = is
+second_refused refusing.NoMemory job first second is = tt
+
+pub refusal_leaves : (refusal : Refusal) (P : List ℕ → Type 0) (s : SinkChange) → Appends s.before s.after s.faults_before s.faults_now []
+    → LeavesText P s (written_of (refusal_outcome refusal))
+refusal_leaves (refusing.Static fault) P s a = a
+refusal_leaves (refusing.Cyclic cycle) P s a = a
+refusal_leaves (refusing.Limit limit) P s a = a
+refusal_leaves refusing.NoMemory P s a = a
+
+pub second_leaves : (refusal : Refusal) (P : List ℕ → Type 0) (s : SinkChange) → Appends s.before s.after s.faults_before s.faults_now []
+    → LeavesText P s (written_of (second_refusal_outcome refusal))
+second_leaves (refusing.Static fault) P s a = a
+second_leaves (refusing.Cyclic cycle) P s a = a
+second_leaves (refusing.Limit limit) P s a = a
+second_leaves refusing.NoMemory P s a = a
+
+-- ---- answers to a task
+
+pub asked_says : (v : Verdict) (o : ProveOutcome) (task : Task) (job : Job) (first second : List ℕ) → ((q : PlainQuestion) (job : Job) (text : List ℕ) → HasVerdict text job.main q v → ClaimSays q o job text)
+    → IsAnswer (answers.Asked v) task job first second → SaysOfTexts task o job first second
+asked_says v o (Ask claim signal) job first second f h = f (question_of claim signal job) job first h
+asked_says v o Surveys job first second f h = absurd h
+asked_says v o Cover job first second f h = absurd h
+asked_says v o (Compare other) job first second f h = absurd h
+
+pub asked_out : (v : Verdict) (o : ProveOutcome) (s : SinkChange) (task : Task) (job : Job) (first second : List ℕ)
+    → ((q : PlainQuestion) (job : Job) (text : List ℕ) → HasVerdict text job.main q v → LeavesText (IsRefutation q job text) s (written_of o))
+    → IsAnswer (answers.Asked v) task job first second → LeavesText (IsWrittenBy task o job first second) s (written_of o)
+asked_out v o s (Ask claim signal) job first second f h = f (question_of claim signal job) job first h
+asked_out v o s Surveys job first second f h = absurd h
+asked_out v o s Cover job first second f h = absurd h
+asked_out v o s (Compare other) job first second f h = absurd h
+
+pub surveyed_says : (v : Survey) (o : ProveOutcome) (task : Task) (job : Job) (first second : List ℕ) → ((job : Job) (text : List ℕ) → HasSurvey text job.main job.assumed v → SurveySays o job text)
+    → IsAnswer (answers.Surveyed v) task job first second → SaysOfTexts task o job first second
+surveyed_says v o (Ask claim signal) job first second f h = absurd h
+surveyed_says v o Surveys job first second f h = f job first h
+surveyed_says v o Cover job first second f h = absurd h
+surveyed_says v o (Compare other) job first second f h = absurd h
+
+pub surveyed_out : (v : Survey) (o : ProveOutcome) (s : SinkChange) (task : Task) (job : Job) (first second : List ℕ)
+    → ((job : Job) (text : List ℕ) → HasSurvey text job.main job.assumed v → LeavesText (IsSurveyBy o job text) s (written_of o))
+    → IsAnswer (answers.Surveyed v) task job first second → LeavesText (IsWrittenBy task o job first second) s (written_of o)
+surveyed_out v o s (Ask claim signal) job first second f h = absurd h
+surveyed_out v o s Surveys job first second f h = f job first h
+surveyed_out v o s Cover job first second f h = absurd h
+surveyed_out v o s (Compare other) job first second f h = absurd h
+
+pub covered_says : (v : Covering) (o : ProveOutcome) (task : Task) (job : Job) (first second : List ℕ) → ((job : Job) (text : List ℕ) → HasCovering text job.main job.assumed v → CoveringSays o job text)
+    → IsAnswer (answers.Covered v) task job first second → SaysOfTexts task o job first second
+covered_says v o (Ask claim signal) job first second f h = absurd h
+covered_says v o Surveys job first second f h = absurd h
+covered_says v o Cover job first second f h = f job first h
+covered_says v o (Compare other) job first second f h = absurd h
+
+pub covered_out : (v : Covering) (o : ProveOutcome) (s : SinkChange) (task : Task) (job : Job) (first second : List ℕ)
+    → ((job : Job) (text : List ℕ) → HasCovering text job.main job.assumed v → LeavesText (IsCoveringBy o job text) s (written_of o))
+    → IsAnswer (answers.Covered v) task job first second → LeavesText (IsWrittenBy task o job first second) s (written_of o)
+covered_out v o s (Ask claim signal) job first second f h = absurd h
+covered_out v o s Surveys job first second f h = absurd h
+covered_out v o s Cover job first second f h = f job first h
+covered_out v o s (Compare other) job first second f h = absurd h
+
+pub compared_says : (v : Comparison) (o : ProveOutcome) (task : Task) (job : Job) (first second : List ℕ) → ((first second : List ℕ) (job : Job) → HasComparison first second job.main v → ComparisonSays o job first second)
+    → IsAnswer (answers.Compared v) task job first second → SaysOfTexts task o job first second
+compared_says v o (Ask claim signal) job first second f h = absurd h
+compared_says v o Surveys job first second f h = absurd h
+compared_says v o Cover job first second f h = absurd h
+compared_says v o (Compare other) job first second f h = f first second job h
+
+pub compared_out : (v : Comparison) (o : ProveOutcome) (s : SinkChange) (task : Task) (job : Job) (first second : List ℕ)
+    → ((first second : List ℕ) (job : Job) → HasComparison first second job.main v → LeavesText (IsDistinction job first second) s (written_of o))
+    → IsAnswer (answers.Compared v) task job first second → LeavesText (IsWrittenBy task o job first second) s (written_of o)
+compared_out v o s (Ask claim signal) job first second f h = absurd h
+compared_out v o s Surveys job first second f h = absurd h
+compared_out v o s Cover job first second f h = absurd h
+compared_out v o s (Compare other) job first second f h = f first second job h
+
+pub refused_says : (refusal : Refusal) (task : Task) (job : Job) (first second : List ℕ) → IsAnswer (answers.Refused refusal) task job first second
+    → SaysOfTexts task (refusal_outcome refusal) job first second
+refused_says refusal (Ask claim signal) job first second h = claim_refused refusal (question_of claim signal job) job first h
+refused_says refusal Surveys job first second h = survey_refused refusal job first h
+refused_says refusal Cover job first second h = covering_refused refusal job first h
+refused_says refusal (Compare other) job first second h = first_refused refusal job first second h
+
+pub second_refused_says : (refusal : Refusal) (task : Task) (job : Job) (first second : List ℕ)
+    → IsAnswer (answers.SecondRefused refusal) task job first second → SaysOfTexts task (second_refusal_outcome refusal) job first second
+second_refused_says refusal (Ask claim signal) job first second h = absurd h
+second_refused_says refusal Surveys job first second h = absurd h
+second_refused_says refusal Cover job first second h = absurd h
+second_refused_says refusal (Compare other) job first second h = second_refused refusal job first second h

@@ -1,0 +1,73 @@
+use Rattle.std.proofs.Common.{ℕ, List, sym, subst}
+use Rattle.base_types.specs.SinkChanges.{change}
+use Rattle.base_types.proofs.Exports.{appends-nothing}
+use Rattle.cec_text_io.specs.Writings.{LeavesText}
+use Rattle.cec_prove_commands.specs.Answers.{IsAnswer, IsWrittenBy, SaysOfTexts}
+use Rattle.cec_prove_commands.specs.Statuses.{written_of}
+use Rattle.cec_prove_commands.specs.declared.answers.Answer.{Answer}
+use Rattle.cec_prove_commands.specs.declared.outcome.ProveOutcome.{ProveOutcome}
+use Rattle.cec_prove_commands.proofs.Answering.{asked_out, asked_says, compared_out, compared_says, covered_out, covered_says, refusal_leaves}
+use Rattle.cec_prove_commands.proofs.Answering.{refused_says, second_leaves, second_refused_says, surveyed_out, surveyed_says}
+use Rattle.cec_prove_commands.proofs.writing.answer_outcome.Goals as goal
+
+pub returns-in-Asked-clause-says : goal.returns-in-Asked-clause-says
+returns-in-Asked-clause-says g c = λ task job first second h.
+    asked_says c.in-Asked.verdict c.verdict_outcome.result task job first second c.verdict_outcome.ensures.says
+    (subst (λ (a : Answer). IsAnswer a task job first second) c.in-Asked.is h)
+
+pub returns-in-Asked-clause-out : goal.returns-in-Asked-clause-out
+returns-in-Asked-clause-out g c = λ task job first second h.
+    asked_out c.in-Asked.verdict c.verdict_outcome.result (change g.O.Sink.told g.O.Sink.faults c.args.out.now c.verdict_outcome.new.out) task job first second
+    c.verdict_outcome.ensures.out (subst (λ (a : Answer). IsAnswer a task job first second) c.in-Asked.is h)
+
+pub returns-in-Surveyed-clause-says : goal.returns-in-Surveyed-clause-says
+returns-in-Surveyed-clause-says g c = λ task job first second h.
+    surveyed_says c.in-Surveyed.survey c.survey_outcome.result task job first second c.survey_outcome.ensures.says
+    (subst (λ (a : Answer). IsAnswer a task job first second) c.in-Surveyed.is h)
+
+pub returns-in-Surveyed-clause-out : goal.returns-in-Surveyed-clause-out
+returns-in-Surveyed-clause-out g c = λ task job first second h.
+    surveyed_out c.in-Surveyed.survey c.survey_outcome.result (change g.O.Sink.told g.O.Sink.faults c.args.out.now c.survey_outcome.new.out) task job first second
+    c.survey_outcome.ensures.out (subst (λ (a : Answer). IsAnswer a task job first second) c.in-Surveyed.is h)
+
+pub returns-in-Covered-clause-says : goal.returns-in-Covered-clause-says
+returns-in-Covered-clause-says g c = λ task job first second h.
+    covered_says c.in-Covered.covering c.covering_outcome.result task job first second c.covering_outcome.ensures.says
+    (subst (λ (a : Answer). IsAnswer a task job first second) c.in-Covered.is h)
+
+pub returns-in-Covered-clause-out : goal.returns-in-Covered-clause-out
+returns-in-Covered-clause-out g c = λ task job first second h.
+    covered_out c.in-Covered.covering c.covering_outcome.result (change g.O.Sink.told g.O.Sink.faults c.args.out.now c.covering_outcome.new.out) task job first second
+    c.covering_outcome.ensures.out (subst (λ (a : Answer). IsAnswer a task job first second) c.in-Covered.is h)
+
+pub returns-in-Compared-clause-says : goal.returns-in-Compared-clause-says
+returns-in-Compared-clause-says g c = λ task job first second h.
+    compared_says c.in-Compared.comparison c.comparison_outcome.result task job first second c.comparison_outcome.ensures.says
+    (subst (λ (a : Answer). IsAnswer a task job first second) c.in-Compared.is h)
+
+pub returns-in-Compared-clause-out : goal.returns-in-Compared-clause-out
+returns-in-Compared-clause-out g c = λ task job first second h.
+    compared_out c.in-Compared.comparison c.comparison_outcome.result (change g.O.Sink.told g.O.Sink.faults c.args.out.now c.comparison_outcome.new.out) task job first second
+    c.comparison_outcome.ensures.out (subst (λ (a : Answer). IsAnswer a task job first second) c.in-Compared.is h)
+
+pub returns-in-Refused-clause-says : goal.returns-in-Refused-clause-says
+returns-in-Refused-clause-says g c = λ task job first second h.
+    subst (λ (o : ProveOutcome). SaysOfTexts task o job first second) (sym c.refusal_outcome.ensures)
+    (refused_says c.in-Refused.refusal task job first second (subst (λ (a : Answer). IsAnswer a task job first second) c.in-Refused.is h))
+
+pub returns-in-Refused-clause-out : goal.returns-in-Refused-clause-out
+returns-in-Refused-clause-out g c = λ task job first second h.
+    let s = change g.O.Sink.told g.O.Sink.faults c.args.out.now c.args.out.now in
+    subst (λ (o : ProveOutcome). LeavesText (IsWrittenBy task o job first second) s (written_of o)) (sym c.refusal_outcome.ensures)
+    (refusal_leaves c.in-Refused.refusal _ s (appends-nothing _ _))
+
+pub returns-in-SecondRefused-clause-says : goal.returns-in-SecondRefused-clause-says
+returns-in-SecondRefused-clause-says g c = λ task job first second h.
+    subst (λ (o : ProveOutcome). SaysOfTexts task o job first second) (sym c.second_refusal_outcome.ensures)
+    (second_refused_says c.in-SecondRefused.refusal task job first second (subst (λ (a : Answer). IsAnswer a task job first second) c.in-SecondRefused.is h))
+
+pub returns-in-SecondRefused-clause-out : goal.returns-in-SecondRefused-clause-out
+returns-in-SecondRefused-clause-out g c = λ task job first second h.
+    let s = change g.O.Sink.told g.O.Sink.faults c.args.out.now c.args.out.now in
+    subst (λ (o : ProveOutcome). LeavesText (IsWrittenBy task o job first second) s (written_of o)) (sym c.second_refusal_outcome.ensures)
+    (second_leaves c.in-SecondRefused.refusal _ s (appends-nothing _ _))

@@ -1,0 +1,77 @@
+-- Inner: what the answer to a task says, before any of it is written, and what a search told meanwhile.
+use Rattle.std.specs.Prelude.{ℕ, ◌≤◌, Bool, true, false, List, ◌++◌, Result}
+use Rattle.base_types.specs.Writing.{Wrote}
+use Rattle.base_types.specs.declared.sinks.writing.SinkFault.{SinkFault}
+use Rattle.base_types.specs.SinkChanges.{SinkChange}
+use Rattle.cec_compile.specs.Refusals.{IsRefused}
+use Rattle.cec_prove_covers.specs.Coverings.{HasCovering}
+use Rattle.cec_prove_covers.specs.declared.coverings.Covering.TheVariants as covering
+use Rattle.cec_prove_sources.specs.Sameness.{HasComparison}
+use Rattle.cec_prove_sources.specs.Surveys.{HasSurvey}
+use Rattle.cec_prove_sources.specs.Verdicts.{HasVerdict}
+use Rattle.cec_prove_sources.specs.declared.questions.Comparison.TheVariants as comparing
+use Rattle.cec_prove_sources.specs.declared.questions.Survey.TheVariants as surveying
+use Rattle.cec_prove_sources.specs.declared.questions.Verdict.TheVariants as deciding
+use Rattle.cec_text_io.specs.Contents.{Content, IsHeld}
+use Rattle.cec_text_io.specs.ErrorLines.{GainsLine}
+use Rattle.cec_prove_commands.specs.Lines.{most_further, progress_lines}
+use Rattle.cec_prove_commands.specs.Outcomes.{ClaimSays, ComparisonSays, CoveringSays, SurveySays, question_of}
+use Rattle.cec_prove_commands.specs.Outcomes.{IsCoveringBy, IsDistinction, IsRefutation, IsSurveyBy}
+use Rattle.cec_prove_commands.specs.Words.{Job, Task, Ask, Survey, Cover, Compare}
+use Rattle.cec_prove_commands.specs.declared.answers.Answer.{Answer}
+use Rattle.cec_prove_commands.specs.declared.answers.Answer.TheVariants as answers
+use Rattle.cec_prove_commands.specs.declared.outcome.ProveOutcome.{ProveOutcome}
+
+-- an answer is one to a task about these texts, the second of which a comparison alone reads
+abbrev pub IsAnswer : Answer → Task → Job → (first second : List ℕ) → Type 0
+IsAnswer (answers.Asked verdict) (Ask claim signal) job first second =
+    HasVerdict first job.main (question_of claim signal job) verdict
+IsAnswer (answers.Surveyed survey) Survey job first second = HasSurvey first job.main job.assumed survey
+IsAnswer (answers.Covered covering) Cover job first second = HasCovering first job.main job.assumed covering
+IsAnswer (answers.Compared comparison) (Compare other) job first second =
+    HasComparison first second job.main comparison
+IsAnswer (answers.Refused refusal) task job first second = IsRefused first job.main refusal
+IsAnswer (answers.SecondRefused refusal) (Compare other) job first second = IsRefused second job.main refusal
+IsAnswer others task job first second = ⊥
+
+-- an answer leaves something undecided
+abbrev pub is_open : Answer → Bool
+is_open (answers.Asked (deciding.Open depth)) = true
+is_open (answers.Surveyed (surveying.Partly lines)) = true
+is_open (answers.Covered (covering.Partly lines)) = true
+is_open (answers.Compared (comparing.Open depth)) = true
+is_open others = false
+
+-- what the outcome of a task says of these texts
+abbrev pub SaysOfTexts : Task → ProveOutcome → Job → (first second : List ℕ) → Type 0
+SaysOfTexts (Ask claim signal) outcome job first second = ClaimSays (question_of claim signal job) outcome job first
+SaysOfTexts Survey outcome job first second = SurveySays outcome job first
+SaysOfTexts Cover outcome job first second = CoveringSays outcome job first
+SaysOfTexts (Compare other) outcome job first second = ComparisonSays outcome job first second
+
+-- what a task writes about these texts, where it ends with an outcome
+abbrev pub IsWrittenBy : Task → ProveOutcome → Job → (first second written : List ℕ) → Type 0
+IsWrittenBy (Ask claim signal) outcome job first second written =
+    IsRefutation (question_of claim signal job) job first written
+IsWrittenBy Survey outcome job first second written = IsSurveyBy outcome job first written
+IsWrittenBy Cover outcome job first second written = IsCoveringBy outcome job first written
+IsWrittenBy (Compare other) outcome job first second written = IsDistinction job first second written
+
+-- A sink gained the lines of a search so far, or a prefix of them, as the last write of one ended.
+pub record HasTold (progress : Bool) (told : Result (Unit {0}) SinkFault) (s : SinkChange) : Type 0 where
+  pub further : ℕ
+  pub few : further ≤ most_further progress
+  pub wrote : Wrote s.before s.after s.faults_before s.faults_now (progress_lines further) told
+
+-- The same with a last line, or a prefix of all of that where the count of faults rose.
+pub record GainsAll (progress : Bool) (s : SinkChange) (last : List ℕ) : Type 0 where
+  pub further : ℕ
+  pub few : further ≤ most_further progress
+  pub gains : GainsLine s.before s.after s.faults_before s.faults_now (progress_lines further ++ last)
+
+-- the files of a task hold these texts
+abbrev pub AreHeld : Content → Task → Job → (first second : List ℕ) → Type 0
+AreHeld content (Ask claim signal) job first second = IsHeld content job.name first
+AreHeld content Survey job first second = IsHeld content job.name first
+AreHeld content Cover job first second = IsHeld content job.name first
+AreHeld content (Compare other) job first second = IsHeld content job.name first × IsHeld content other second

@@ -1,0 +1,38 @@
+// The answer to a task, before any of it is written.
+
+ghost use Rattle.std.specs.Prelude.{◌≡◌};
+ghost use Rattle.cec_prove_commands.specs.Answers.{is_open};
+
+use cec_compile::Refusal;
+use cec_prove_covers::Covering;
+use cec_prove_sources::{Comparison, Survey, Verdict};
+
+/// The answer to a task.
+#[derive(Drop)]
+pub(crate) enum Answer {
+    /// To a claim about an outgoing signal.
+    Asked(Verdict),
+    /// About all outgoing signals.
+    Surveyed(Survey),
+    /// About all points.
+    Covered(Covering),
+    /// About two sources.
+    Compared(Comparison),
+    /// The source is refused.
+    Refused(Refusal),
+    /// The second source of a comparison is refused.
+    SecondRefused(Refusal),
+}
+
+/// Whether an answer leaves something undecided.
+pub(crate) fn is_open(answer: &Answer) -> bool
+    ensures { result ≡ is_open answer.now }
+{
+    match answer {
+        Answer::Asked(Verdict::Open(_)) => true,
+        Answer::Surveyed(Survey::Partly(_)) => true,
+        Answer::Covered(Covering::Partly(_)) => true,
+        Answer::Compared(Comparison::Open(_)) => true,
+        _ => false,
+    }
+}
