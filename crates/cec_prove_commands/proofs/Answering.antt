@@ -6,7 +6,7 @@ use Rattle.est_kernel.specs.Plain.{Program}
 use Rattle.cec_compile.specs.Refusals.{IsRefused}
 use Rattle.cec_compile.specs.declared.refusal.Refusal.{Refusal}
 use Rattle.cec_compile.specs.declared.refusal.Refusal.TheVariants as refusing
-use Rattle.cec_text_io.proofs.Pieces.{text_as}
+use Rattle.cec_text_io.proofs.Pieces as texts
 use Rattle.cec_text_io.specs.Writings.{LeavesText}
 use Rattle.cec_text_io.specs.declared.writing.Written.{Written}
 use Rattle.cec_text_io.specs.declared.writing.Written.TheVariants as ends
@@ -77,7 +77,8 @@ claim_writes ends.Done q job text trace is = (trace, is)
 claim_writes ends.WriteFault q job text trace is = (trace, is)
 claim_writes ends.NoMemory q job text trace is = tt
 
-pub survey_writes : (ended : Written) (job : Job) (text lines : List ℕ) → IsSurveyOf job true text lines → SurveySays (written_outcome Surveyed ended) job text
+pub survey_writes : (ended : Written) (job : Job) (text lines : List ℕ) → IsSurveyOf job true text lines
+    → SurveySays (written_outcome Surveyed ended) job text
 survey_writes ends.Done job text lines is = (lines, is)
 survey_writes ends.WriteFault job text lines is = (true, (lines, is))
 survey_writes ends.NoMemory job text lines is = tt
@@ -111,7 +112,7 @@ comparison_writes ends.NoMemory job first second trace is = tt
 -- a text of which this is so
 left_as : (P : List ℕ → Type 0) (bytes text : List ℕ) (s : SinkChange) (ended : Written) → P text → bytes ≡ text
     → LeavesText (λ t. t ≡ bytes) s (Some ended) → LeavesText P s (Some ended)
-left_as P bytes text s ended p same = text_as (λ t. t ≡ bytes) P s (Some ended) (λ t is. subst P (sym (is ∙ same)) p)
+left_as P bytes text s ended p same = texts.text_as (λ t. t ≡ bytes) P s (Some ended) (λ t is. subst P (sym (is ∙ same)) p)
 
 pub trace_left : (P : List ℕ → Type 0) (bytes text : List ℕ) (s : SinkChange) (ended : Written) → P text → bytes ≡ text
     → LeavesText (λ t. t ≡ bytes) s (Some ended) → LeavesText P s (written_of (written_outcome Refuted ended))
@@ -120,28 +121,34 @@ trace_left P bytes text s ends.WriteFault p same l = left_as P bytes text s ends
 trace_left P bytes text s ends.NoMemory p same l = l
 
 pub survey_left : (bytes text : List ℕ) (job : Job) (source : List ℕ) (s : SinkChange) (ended : Written) → IsSurveyOf job true source text → bytes ≡ text
-    → LeavesText (λ t. t ≡ bytes) s (Some ended) → LeavesText (IsSurveyBy (written_outcome Surveyed ended) job source) s (written_of (written_outcome Surveyed ended))
+    → LeavesText (λ t. t ≡ bytes) s (Some ended)
+    → LeavesText (IsSurveyBy (written_outcome Surveyed ended) job source) s (written_of (written_outcome Surveyed ended))
 survey_left bytes text job source s ends.Done p same l = left_as (IsSurveyOf job true source) bytes text s ends.Done p same l
 survey_left bytes text job source s ends.WriteFault p same l =
     left_as (IsSurveyBy (written_outcome Surveyed ends.WriteFault) job source) bytes text s ends.WriteFault (true, p) same l
 survey_left bytes text job source s ends.NoMemory p same l = l
 
 pub part_left : (bytes text : List ℕ) (job : Job) (source : List ℕ) (s : SinkChange) (ended : Written) → IsSurveyOf job false source text → bytes ≡ text
-    → LeavesText (λ t. t ≡ bytes) s (Some ended) → LeavesText (IsSurveyBy (written_outcome PartlySurveyed ended) job source) s (written_of (written_outcome PartlySurveyed ended))
+    → LeavesText (λ t. t ≡ bytes) s (Some ended)
+    → LeavesText (IsSurveyBy (written_outcome PartlySurveyed ended) job source) s (written_of (written_outcome PartlySurveyed ended))
 part_left bytes text job source s ends.Done p same l = left_as (IsSurveyOf job false source) bytes text s ends.Done p same l
 part_left bytes text job source s ends.WriteFault p same l =
     left_as (IsSurveyBy (written_outcome PartlySurveyed ends.WriteFault) job source) bytes text s ends.WriteFault (false, p) same l
 part_left bytes text job source s ends.NoMemory p same l = l
 
-pub covering_left : (bytes text : List ℕ) (job : Job) (source : List ℕ) (s : SinkChange) (ended : Written) → IsCoveringOf job true source text → bytes ≡ text
-    → LeavesText (λ t. t ≡ bytes) s (Some ended) → LeavesText (IsCoveringBy (written_outcome Covered ended) job source) s (written_of (written_outcome Covered ended))
+pub covering_left : (bytes text : List ℕ) (job : Job) (source : List ℕ) (s : SinkChange) (ended : Written) → IsCoveringOf job true source text
+    → bytes ≡ text
+    → LeavesText (λ t. t ≡ bytes) s (Some ended)
+    → LeavesText (IsCoveringBy (written_outcome Covered ended) job source) s (written_of (written_outcome Covered ended))
 covering_left bytes text job source s ends.Done p same l = left_as (IsCoveringOf job true source) bytes text s ends.Done p same l
 covering_left bytes text job source s ends.WriteFault p same l =
     left_as (IsCoveringBy (written_outcome Covered ends.WriteFault) job source) bytes text s ends.WriteFault (true, p) same l
 covering_left bytes text job source s ends.NoMemory p same l = l
 
-pub covering_part_left : (bytes text : List ℕ) (job : Job) (source : List ℕ) (s : SinkChange) (ended : Written) → IsCoveringOf job false source text → bytes ≡ text
-    → LeavesText (λ t. t ≡ bytes) s (Some ended) → LeavesText (IsCoveringBy (written_outcome PartlyCovered ended) job source) s (written_of (written_outcome PartlyCovered ended))
+pub covering_part_left : (bytes text : List ℕ) (job : Job) (source : List ℕ) (s : SinkChange) (ended : Written) → IsCoveringOf job false source text
+    → bytes ≡ text
+    → LeavesText (λ t. t ≡ bytes) s (Some ended)
+    → LeavesText (IsCoveringBy (written_outcome PartlyCovered ended) job source) s (written_of (written_outcome PartlyCovered ended))
 covering_part_left bytes text job source s ends.Done p same l = left_as (IsCoveringOf job false source) bytes text s ends.Done p same l
 covering_part_left bytes text job source s ends.WriteFault p same l =
     left_as (IsCoveringBy (written_outcome PartlyCovered ends.WriteFault) job source) bytes text s ends.WriteFault (false, p) same l
@@ -198,7 +205,8 @@ second_leaves refusing.NoMemory P s a = a
 
 -- ---- answers to a task
 
-pub asked_says : (v : Verdict) (o : ProveOutcome) (task : Task) (job : Job) (first second : List ℕ) → ((q : PlainQuestion) (job : Job) (text : List ℕ) → HasVerdict text job.main q v → ClaimSays q o job text)
+pub asked_says : (v : Verdict) (o : ProveOutcome) (task : Task) (job : Job) (first second : List ℕ)
+    → ((q : PlainQuestion) (job : Job) (text : List ℕ) → HasVerdict text job.main q v → ClaimSays q o job text)
     → IsAnswer (answers.Asked v) task job first second → SaysOfTexts task o job first second
 asked_says v o (Ask claim signal) job first second f h = f (question_of claim signal job) job first h
 asked_says v o Surveys job first second f h = absurd h
@@ -213,7 +221,8 @@ asked_out v o s Surveys job first second f h = absurd h
 asked_out v o s Cover job first second f h = absurd h
 asked_out v o s (Compare other) job first second f h = absurd h
 
-pub surveyed_says : (v : Survey) (o : ProveOutcome) (task : Task) (job : Job) (first second : List ℕ) → ((job : Job) (text : List ℕ) → HasSurvey text job.main job.assumed v → SurveySays o job text)
+pub surveyed_says : (v : Survey) (o : ProveOutcome) (task : Task) (job : Job) (first second : List ℕ)
+    → ((job : Job) (text : List ℕ) → HasSurvey text job.main job.assumed v → SurveySays o job text)
     → IsAnswer (answers.Surveyed v) task job first second → SaysOfTexts task o job first second
 surveyed_says v o (Ask claim signal) job first second f h = absurd h
 surveyed_says v o Surveys job first second f h = f job first h
@@ -228,7 +237,8 @@ surveyed_out v o s Surveys job first second f h = f job first h
 surveyed_out v o s Cover job first second f h = absurd h
 surveyed_out v o s (Compare other) job first second f h = absurd h
 
-pub covered_says : (v : Covering) (o : ProveOutcome) (task : Task) (job : Job) (first second : List ℕ) → ((job : Job) (text : List ℕ) → HasCovering text job.main job.assumed v → CoveringSays o job text)
+pub covered_says : (v : Covering) (o : ProveOutcome) (task : Task) (job : Job) (first second : List ℕ)
+    → ((job : Job) (text : List ℕ) → HasCovering text job.main job.assumed v → CoveringSays o job text)
     → IsAnswer (answers.Covered v) task job first second → SaysOfTexts task o job first second
 covered_says v o (Ask claim signal) job first second f h = absurd h
 covered_says v o Surveys job first second f h = absurd h
@@ -243,7 +253,8 @@ covered_out v o s Surveys job first second f h = absurd h
 covered_out v o s Cover job first second f h = f job first h
 covered_out v o s (Compare other) job first second f h = absurd h
 
-pub compared_says : (v : Comparison) (o : ProveOutcome) (task : Task) (job : Job) (first second : List ℕ) → ((first second : List ℕ) (job : Job) → HasComparison first second job.main v → ComparisonSays o job first second)
+pub compared_says : (v : Comparison) (o : ProveOutcome) (task : Task) (job : Job) (first second : List ℕ)
+    → ((first second : List ℕ) (job : Job) → HasComparison first second job.main v → ComparisonSays o job first second)
     → IsAnswer (answers.Compared v) task job first second → SaysOfTexts task o job first second
 compared_says v o (Ask claim signal) job first second f h = absurd h
 compared_says v o Surveys job first second f h = absurd h

@@ -8,7 +8,8 @@ pub returns-else-is_comparison-clause-agrees : goal.returns-else-is_comparison-c
 returns-else-is_comparison-clause-agrees g c =
     let content = g.F.Files.content c.args.files.now in
     let job = job_is c.args.job in
-    texts_agree content job.task job c.told_answer.result c.args.text.now _ (one_held content job.task job c.args.text.now _ (sym c.is_comparison.ensures ∙ c.if-is_comparison.false) c.requires.held) c.told_answer.ensures.says
+    texts_agree content job.task job c.told_answer.result c.args.text.now _
+    (one_held content job.task job c.args.text.now _ (sym c.is_comparison.ensures ∙ c.if-is_comparison.false) c.requires.held) c.told_answer.ensures.says
 
 pub returns-else-is_comparison-clause-files_counted : goal.returns-else-is_comparison-clause-files_counted
 returns-else-is_comparison-clause-files_counted g c =
@@ -20,11 +21,14 @@ returns-else-is_comparison-clause-out g c =
     let content = g.F.Files.content c.args.files.now in
     let job = job_is c.args.job in
     texts_out content job.task job c.told_answer.result c.args.text.now _
-    (change g.O.Sink.told g.O.Sink.faults c.args.out.now c.told_answer.new.out) (one_held content job.task job c.args.text.now _ (sym c.is_comparison.ensures ∙ c.if-is_comparison.false) c.requires.held) c.told_answer.ensures.out
+    (change g.O.Sink.told g.O.Sink.faults c.args.out.now c.told_answer.new.out)
+    (one_held content job.task job c.args.text.now _ (sym c.is_comparison.ensures ∙ c.if-is_comparison.false) c.requires.held) c.told_answer.ensures.out
 
 pub returns-else-is_comparison-clause-err : goal.returns-else-is_comparison-clause-err
 returns-else-is_comparison-clause-err g c =
     let content = g.F.Files.content c.args.files.now in
     let job = job_is c.args.job in
     texts_err c.args.progress content job c.told_answer.result c.args.text.now _
-    (change g.E.Sink.told g.E.Sink.faults c.args.err.now c.told_answer.new.err) (one_held content job.task job c.args.text.now _ (sym c.is_comparison.ensures ∙ c.if-is_comparison.false) c.requires.held) c.told_answer.ensures.says c.told_answer.ensures.err
+    (change g.E.Sink.told g.E.Sink.faults c.args.err.now c.told_answer.new.err)
+    (one_held content job.task job c.args.text.now _ (sym c.is_comparison.ensures ∙ c.if-is_comparison.false) c.requires.held)
+    c.told_answer.ensures.says c.told_answer.ensures.err

@@ -17,7 +17,8 @@ returns-in-Asked-clause-says g c = λ task job first second h.
 
 pub returns-in-Asked-clause-out : goal.returns-in-Asked-clause-out
 returns-in-Asked-clause-out g c = λ task job first second h.
-    asked_out c.in-Asked.verdict c.verdict_outcome.result (change g.O.Sink.told g.O.Sink.faults c.args.out.now c.verdict_outcome.new.out) task job first second
+    asked_out c.in-Asked.verdict c.verdict_outcome.result (change g.O.Sink.told g.O.Sink.faults c.args.out.now c.verdict_outcome.new.out) task job
+    first second
     c.verdict_outcome.ensures.out (subst (λ (a : Answer). IsAnswer a task job first second) c.in-Asked.is h)
 
 pub returns-in-Surveyed-clause-says : goal.returns-in-Surveyed-clause-says
@@ -27,7 +28,8 @@ returns-in-Surveyed-clause-says g c = λ task job first second h.
 
 pub returns-in-Surveyed-clause-out : goal.returns-in-Surveyed-clause-out
 returns-in-Surveyed-clause-out g c = λ task job first second h.
-    surveyed_out c.in-Surveyed.survey c.survey_outcome.result (change g.O.Sink.told g.O.Sink.faults c.args.out.now c.survey_outcome.new.out) task job first second
+    surveyed_out c.in-Surveyed.survey c.survey_outcome.result (change g.O.Sink.told g.O.Sink.faults c.args.out.now c.survey_outcome.new.out) task job
+    first second
     c.survey_outcome.ensures.out (subst (λ (a : Answer). IsAnswer a task job first second) c.in-Surveyed.is h)
 
 pub returns-in-Covered-clause-says : goal.returns-in-Covered-clause-says
@@ -37,7 +39,8 @@ returns-in-Covered-clause-says g c = λ task job first second h.
 
 pub returns-in-Covered-clause-out : goal.returns-in-Covered-clause-out
 returns-in-Covered-clause-out g c = λ task job first second h.
-    covered_out c.in-Covered.covering c.covering_outcome.result (change g.O.Sink.told g.O.Sink.faults c.args.out.now c.covering_outcome.new.out) task job first second
+    covered_out c.in-Covered.covering c.covering_outcome.result (change g.O.Sink.told g.O.Sink.faults c.args.out.now c.covering_outcome.new.out) task
+    job first second
     c.covering_outcome.ensures.out (subst (λ (a : Answer). IsAnswer a task job first second) c.in-Covered.is h)
 
 pub returns-in-Compared-clause-says : goal.returns-in-Compared-clause-says
@@ -47,7 +50,8 @@ returns-in-Compared-clause-says g c = λ task job first second h.
 
 pub returns-in-Compared-clause-out : goal.returns-in-Compared-clause-out
 returns-in-Compared-clause-out g c = λ task job first second h.
-    compared_out c.in-Compared.comparison c.comparison_outcome.result (change g.O.Sink.told g.O.Sink.faults c.args.out.now c.comparison_outcome.new.out) task job first second
+    compared_out c.in-Compared.comparison c.comparison_outcome.result
+    (change g.O.Sink.told g.O.Sink.faults c.args.out.now c.comparison_outcome.new.out) task job first second
     c.comparison_outcome.ensures.out (subst (λ (a : Answer). IsAnswer a task job first second) c.in-Compared.is h)
 
 pub returns-in-Refused-clause-says : goal.returns-in-Refused-clause-says

@@ -24,19 +24,22 @@ pub returns-in-Open-clause-out : goal.returns-in-Open-clause-out
 returns-in-Open-clause-out g c = λ first second job h. appends-nothing _ _
 
 pub returns-in-OtherGiven-clause-says : goal.returns-in-OtherGiven-clause-says
-returns-in-OtherGiven-clause-says g c = λ first second job h. comparison_says first second job _ _ (λ p q. given_names p ≢ given_names q) h c.in-OtherGiven.is (λ p q is. is)
+returns-in-OtherGiven-clause-says g c = λ first second job h. comparison_says first second job _ _
+    (λ p q. given_names p ≢ given_names q) h c.in-OtherGiven.is (λ p q is. is)
 
 pub returns-in-OtherGiven-clause-out : goal.returns-in-OtherGiven-clause-out
 returns-in-OtherGiven-clause-out g c = λ first second job h. appends-nothing _ _
 
 pub returns-in-OtherOutgoing-clause-says : goal.returns-in-OtherOutgoing-clause-says
-returns-in-OtherOutgoing-clause-says g c = λ first second job h. comparison_says first second job _ _ (λ p q. outgoing_names p ≢ outgoing_names q) h c.in-OtherOutgoing.is (λ p q is. is)
+returns-in-OtherOutgoing-clause-says g c = λ first second job h. comparison_says first second job _ _
+    (λ p q. outgoing_names p ≢ outgoing_names q) h c.in-OtherOutgoing.is (λ p q is. is)
 
 pub returns-in-OtherOutgoing-clause-out : goal.returns-in-OtherOutgoing-clause-out
 returns-in-OtherOutgoing-clause-out g c = λ first second job h. appends-nothing _ _
 
 pub returns-in-OtherRelations-clause-says : goal.returns-in-OtherRelations-clause-says
-returns-in-OtherRelations-clause-says g c = λ first second job h. comparison_says first second job _ _ (λ p q. p.relations ≢ q.relations) h c.in-OtherRelations.is (λ p q is. is)
+returns-in-OtherRelations-clause-says g c = λ first second job h. comparison_says first second job _ _
+    (λ p q. p.relations ≢ q.relations) h c.in-OtherRelations.is (λ p q is. is)
 
 pub returns-in-OtherRelations-clause-out : goal.returns-in-OtherRelations-clause-out
 returns-in-OtherRelations-clause-out g c = λ first second job h. appends-nothing _ _

@@ -26,7 +26,8 @@ pub returns-in-Open-clause-out : goal.returns-in-Open-clause-out
 returns-in-Open-clause-out g c = λ q job text h. appends-nothing _ _
 
 pub returns-in-NoSignal-clause-says : goal.returns-in-NoSignal-clause-says
-returns-in-NoSignal-clause-says g c = λ q job text h. verdict_says text job q _ _ (λ p. is_among q.signal (outgoing_names p) ≡ false) h c.in-NoSignal.is (λ p is. is)
+returns-in-NoSignal-clause-says g c = λ q job text h. verdict_says text job q _ _ (λ p. is_among q.signal (outgoing_names p) ≡ false) h
+    c.in-NoSignal.is (λ p is. is)
 
 pub returns-in-NoSignal-clause-out : goal.returns-in-NoSignal-clause-out
 returns-in-NoSignal-clause-out g c = λ q job text h. appends-nothing _ _
