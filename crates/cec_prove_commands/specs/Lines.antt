@@ -1,6 +1,6 @@
 -- To believe: the line that is written about an outcome.
-use Rattle.std.specs.Prelude.{⊤, ℕ, ◌+◌, ◌≤◌, Bool, true, false, List, [], ◌++◌, Option, Some, None, codes, decimal, zero, suc}
-use Rattle.std.specs.Prelude.{unwrap_or}
+use Rattle.std.specs.Prelude.{⊤, ℕ, ◌+◌, ◌≤◌, Bool, true, false, List, [], ◌++◌, Option, Some, None, codes}
+use Rattle.std.specs.Prelude.{decimal, zero, suc, unwrap_or}
 use Rattle.cec_compile.specs.declared.refusal.Refusal.TheVariants as refusing
 use Rattle.cec_refusals.specs.RefusalLines.{RefusalSubject, refusal_line}
 use Rattle.cec_text_io.specs.Contents.{Content, IsHeld}

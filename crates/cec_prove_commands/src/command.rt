@@ -54,9 +54,9 @@ const VERSION: &[u8] = b"cec-prove 0.1.0\n";
 /// Every other list of words is `Usage`. For every outcome but `Told` one line goes to `err`, which for `Usage` names
 /// the word at fault; a write to `err` that fails changes no outcome.
 ///
-/// With `progress`, for a person who waits, the search begins with a thousandth of the effort. Before it goes on with a
-/// hundredth, a tenth and the whole, a line says so. Nothing of an earlier try is written to `out`. Nothing more goes to
-/// `err` once it has failed.
+/// With `progress`, for a person who waits, the search begins with a thousandth of the effort. Before it goes on with
+/// a hundredth, a tenth and the whole, a line says so. Nothing of an earlier try is written to `out`. Nothing more goes
+/// to `err` once it has failed.
 ///
 /// `Proved` of a claim holds of every list of events that meet the source's relations, and resets: each reaction is
 /// constructive, and in each the signal is as claimed (`ClaimHolds`), whatever the search does. For `Refuted` the trace
