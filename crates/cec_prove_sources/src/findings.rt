@@ -45,7 +45,7 @@ fn claimed(claim: Claim) -> bool
 }
 
 /// What breaks a claim about the output with this place.
-pub(crate) fn bad_literal(net: &Net, claim: Claim, place: usize) -> Literal
+pub fn bad_literal(net: &Net, claim: Claim, place: usize) -> Literal
     ensures { result ≡ bad_literal net.now.outputs.items claim place }
 {
     Literal {
@@ -69,8 +69,8 @@ pub(crate) fn allowed_clauses(
     Ok(list)
 }
 
-// The output that is assumed is true.
-fn push_assumed(
+/// Appends the clause that the output that is assumed is true, if one is assumed.
+pub fn push_assumed(
     alloc: Global,
     list: &mut Vec<Clause>,
     net: &Net,
