@@ -69,8 +69,21 @@ pub(crate) fn allowed_clauses(
     Ok(list)
 }
 
-/// Appends the clause that the output that is assumed is true, if one is assumed.
-pub fn push_assumed(
+/// The clause that the output that is assumed is true, if one is assumed.
+pub fn assumed_clauses(
+    alloc: Global,
+    net: &Net,
+    assumed: Option<usize>,
+) -> Result<Vec<Clause>, NoMemory>
+    ensures { IfOk result (λ list. plain_assumed list.items ≡ assumed_clauses net.now.outputs.items assumed) }
+{
+    let mut list = Vec::new(alloc);
+    push_assumed(alloc, &mut list, net, assumed)?;
+    Ok(list)
+}
+
+// The output that is assumed is true.
+fn push_assumed(
     alloc: Global,
     list: &mut Vec<Clause>,
     net: &Net,

@@ -21,7 +21,7 @@ mod traces;
 mod verdicts;
 
 pub use comparing::{comparison_of, small_pair};
-pub use findings::{PlacedQuestion, bad_literal, found, push_assumed};
+pub use findings::{PlacedQuestion, assumed_clauses, bad_literal, found};
 pub use interfaces::{are_same_names, are_same_outputs};
 pub use places::{place_among, place_of};
 pub use presences::{Signal, is_known, push_presence, question_about};

@@ -29,7 +29,7 @@ circuit_device c names = record {
 
 -- A text describes a circuit. Its outputs have these names, each a letter and then letters, digits and `_`, and after
 -- them comes `_paused`. A name that an input has too is written with `.out` in the text.
-pub record Describes (text : List ℕ) (circuit : Circuit) (names : List (List ℕ)) : Type 0 where
+pub record DescribesNamed (text : List ℕ) (circuit : Circuit) (names : List (List ℕ)) : Type 0 where
   pub reads : reading text ≡ Ok circuit
   pub named : HasOutputs circuit names
   pub fit : All (λ name. IsTrue (is_name name)) names

@@ -7,7 +7,7 @@ use Rattle.cec_prove_sources.specs.declared.questions.Layout.TheVariants.{LinePe
 use Rattle.cec_prove_sources.specs.declared.questions.Comparison.{Comparison}
 use Rattle.cec_prove_sources.specs.declared.questions.Comparison.TheVariants.{Same, Different, Open, OtherGiven}
 use Rattle.cec_prove_sources.specs.declared.questions.Comparison.TheVariants.{OtherOutgoing, OtherRelations}
-use Rattle.cec_prove_texts.specs.Devices.{Describes, Device, FitsDevice, circuit_device}
+use Rattle.cec_prove_texts.specs.Devices.{DescribesNamed, Device, FitsDevice, circuit_device}
 use Rattle.cec_prove_texts.specs.Verdicts.{IsDeviceTrace}
 
 -- the inputs and the outputs have the same names, each in order
@@ -54,8 +54,8 @@ IsDeviceComparison d e OtherRelations = ⊥
 pub record HasTextComparison (first second : List ℕ) (comparison : Comparison) : Type 0 where
   pub left : Circuit
   pub left_names : List (List ℕ)
-  pub left_describes : Describes first left left_names
+  pub left_describes : DescribesNamed first left left_names
   pub right : Circuit
   pub right_names : List (List ℕ)
-  pub right_describes : Describes second right right_names
+  pub right_describes : DescribesNamed second right right_names
   pub says : IsDeviceComparison (circuit_device left left_names) (circuit_device right right_names) comparison

@@ -1,6 +1,6 @@
 -- To believe: what a survey says of the outputs of a BLIF text.
-use Rattle.std.specs.Prelude.{◌≡◌, ℕ, Bool, true, false, List, [], ◌∷◌, Option, IfSome, ⊤}
-use Rattle.std.specs.List.{list_all}
+use Rattle.std.specs.Prelude.{◌≡◌, ℕ, Bool, true, false, List, Option, IfSome}
+use Rattle.std.specs.List.{AllZip, list_all}
 use Rattle.blif_text.specs.Circuits.{Circuit}
 use Rattle.cec_prove_sources.specs.Surveys.{Presence, Never, Always, Found, about, is_known, survey_text}
 use Rattle.cec_prove_sources.specs.declared.questions.Claim.{Claim}
@@ -8,7 +8,7 @@ use Rattle.cec_prove_sources.specs.declared.questions.Claim.TheVariants as claim
 use Rattle.cec_prove_sources.specs.declared.questions.Layout.TheVariants.{OneLine}
 use Rattle.cec_prove_sources.specs.declared.questions.Survey.{Survey}
 use Rattle.cec_prove_sources.specs.declared.questions.Survey.TheVariants.{Whole, Partly, NoAssumed}
-use Rattle.cec_prove_texts.specs.Devices.{Describes, Device, circuit_device}
+use Rattle.cec_prove_texts.specs.Devices.{DescribesNamed, Device, circuit_device}
 use Rattle.cec_prove_texts.specs.Verdicts.{AnswersDeviceBroken, AnswersDeviceHolds, IsNoOutput}
 
 -- a trace to a row that breaks the claim about an output, if there is one
@@ -23,19 +23,11 @@ IsDevicePresence d assumed name Always = AnswersDeviceHolds d (about claims.Alwa
 IsDevicePresence d assumed name (Found present absent) =
     BreaksDeviceIfAny d claims.Never name assumed present × BreaksDeviceIfAny d claims.Always name assumed absent
 
--- the same of several outputs, in order
-abbrev pub AreDevicePresences : Device → Option (List ℕ) → List (List ℕ) → List Presence → Type 0
-AreDevicePresences d assumed [] [] = ⊤
-AreDevicePresences d assumed (name ∷ names) (known ∷ others) =
-    IsDevicePresence d assumed name known × AreDevicePresences d assumed names others
-AreDevicePresences d assumed [] (known ∷ others) = ⊥
-AreDevicePresences d assumed (name ∷ names) [] = ⊥
-
--- A text is the survey of these outputs, and whether it is whole: each of them is known.
+-- A text is the survey of these outputs, with what is known of each, and whether it is whole: each of them is known.
 pub record IsDeviceSurveyText (d : Device) (assumed : Option (List ℕ)) (names : List (List ℕ)) (text : List ℕ)
     (whole : Bool) : Type 0 where
   pub presences : List Presence
-  pub known : AreDevicePresences d assumed names presences
+  pub known : AllZip (IsDevicePresence d assumed) names presences
   pub written : text ≡ survey_text names presences
   pub each_known : whole ≡ list_all is_known presences
 
@@ -48,5 +40,5 @@ IsDeviceSurvey d assumed NoAssumed = IsNoOutput d assumed
 pub record HasTextSurvey (text : List ℕ) (assumed : Option (List ℕ)) (survey : Survey) : Type 0 where
   pub circuit : Circuit
   pub names : List (List ℕ)
-  pub describes : Describes text circuit names
+  pub describes : DescribesNamed text circuit names
   pub says : IsDeviceSurvey (circuit_device circuit names) assumed survey

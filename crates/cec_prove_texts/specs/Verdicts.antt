@@ -12,7 +12,7 @@ use Rattle.cec_prove_sources.specs.declared.questions.Layout.TheVariants.{LinePe
 use Rattle.cec_prove_sources.specs.declared.questions.Verdict.{Verdict}
 use Rattle.cec_prove_sources.specs.declared.questions.Verdict.TheVariants.{Holds, Broken, Open, NoSignal, NoAssumed}
 use Rattle.cec_prove_texts.specs.Claims.{BreaksDevice, DeviceHolds}
-use Rattle.cec_prove_texts.specs.Devices.{Describes, Device, circuit_device}
+use Rattle.cec_prove_texts.specs.Devices.{DescribesNamed, Device, circuit_device}
 
 -- the places of the signals of a question among the outputs of a device
 pub record AsksDevice (d : Device) (q : PlainQuestion) (place : ℕ) (assumed : Option ℕ) : Type 0 where
@@ -64,5 +64,5 @@ IsDeviceVerdict d q NoAssumed = IsNoOutput d q.assumed
 pub record HasTextVerdict (text : List ℕ) (q : PlainQuestion) (verdict : Verdict) : Type 0 where
   pub circuit : Circuit
   pub names : List (List ℕ)
-  pub describes : Describes text circuit names
+  pub describes : DescribesNamed text circuit names
   pub says : IsDeviceVerdict (circuit_device circuit names) q verdict

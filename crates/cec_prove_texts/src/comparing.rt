@@ -14,12 +14,12 @@ ghost use Rattle.cec_prove_texts.specs.NetDevices.{net_device};
 ghost use Rattle.cec_prove_texts.specs.Sameness.{HasTextComparison, IsDeviceComparison, SharesNames};
 
 use crate::fault::PairFault;
-use crate::findings::assumed_clauses;
 use crate::traces::trace_of;
 use base_types::{Limits, NoMemory, Stop};
 use cec_opt_texts::{OptFault, text_net};
 use cec_prove_sources::{
-    Claim, Comparison, Layout, are_same_names, are_same_outputs, bad_literal, small_pair,
+    Claim, Comparison, Layout, are_same_names, are_same_outputs, assumed_clauses, bad_literal,
+    small_pair,
 };
 use net_ir::Net;
 use net_search::{Decision, decide};

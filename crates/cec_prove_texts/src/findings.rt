@@ -1,8 +1,7 @@
 // What is asked of a netlist, and what is found.
 
-ghost use Rattle.std.specs.Prelude.{◌≡◌, IfOk, IsTrue};
+ghost use Rattle.std.specs.Prelude.{IfOk, IsTrue};
 ghost use Rattle.net_ir.specs.Runs.{netlist_of};
-ghost use Rattle.sat_kernel.specs.Clauses.{plain_assumed};
 ghost use Rattle.net_never.specs.Reached.{events_of, is_reached};
 ghost use Rattle.cec_prove_sources.specs.NetClaims.{assumed_clauses, bad_literal};
 ghost use Rattle.cec_prove_sources.specs.Views.{plain_question};
@@ -12,24 +11,10 @@ ghost use Rattle.cec_prove_texts.specs.Verdicts.{AsksDevice};
 
 use crate::traces::trace_of;
 use base_types::NoMemory;
-use cec_prove_sources::{Finding, PlacedQuestion, bad_literal, push_assumed};
+use cec_prove_sources::{Finding, PlacedQuestion, assumed_clauses, bad_literal};
 use net_ir::Net;
 use net_search::{Decision, decide};
-use sat_kernel::Clause;
 use std::alloc::Global;
-
-/// The clauses of the output that is assumed.
-pub(crate) fn assumed_clauses(
-    alloc: Global,
-    net: &Net,
-    assumed: Option<usize>,
-) -> Result<Vec<Clause>, NoMemory>
-    ensures { IfOk result (λ list. plain_assumed list.items ≡ assumed_clauses net.now.outputs.items assumed) }
-{
-    let mut list = Vec::new(alloc);
-    push_assumed(alloc, &mut list, net, assumed)?;
-    Ok(list)
-}
 
 // What is found where events break the claim. The trace is read again.
 fn broken_by(
