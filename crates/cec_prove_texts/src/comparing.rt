@@ -1,6 +1,6 @@
 // Whether two texts do the same.
 
-ghost use Rattle.std.specs.Prelude.{◌≡◌, ◌≤◌, length, None, IfOk, IsTrue};
+ghost use Rattle.std.specs.Prelude.{◌≤◌, ℕ, List, length, None, IfOk, IsTrue};
 ghost use Rattle.base_types.specs.Stops.{FaultIs, IfFault};
 ghost use Rattle.net_ir.specs.Netlists.{Netlist};
 ghost use Rattle.net_ir.specs.Runs.{netlist_of};

@@ -10,6 +10,7 @@
 mod comparing;
 mod fault;
 mod findings;
+mod places;
 mod presences;
 mod surveys;
 mod traces;

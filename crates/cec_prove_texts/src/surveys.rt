@@ -9,10 +9,11 @@ ghost use Rattle.cec_prove_sources.specs.Verdicts.{HasPlaceIfAny};
 ghost use Rattle.cec_prove_texts.specs.NetDevices.{net_device};
 ghost use Rattle.cec_prove_texts.specs.Surveys.{HasTextSurvey, IsDeviceSurvey, IsDeviceSurveyText};
 
+use crate::places::place_of;
 use crate::presences::push_signal;
 use base_types::{Limits, NoMemory, Stop};
 use cec_opt_texts::{OptFault, text_net};
-use cec_prove_sources::{Signal, Survey, place_among};
+use cec_prove_sources::{Signal, Survey};
 use net_ir::Net;
 use net_opt::optimize;
 use std::alloc::Global;
@@ -89,7 +90,7 @@ fn net_survey(
     let Some(name) = assumed else {
         return placed_survey(alloc, net, None, None, effort);
     };
-    match place_among(&net.outputs, name) {
+    match place_of(net, name) {
         None => Ok(Survey::NoAssumed),
         Some(at) => placed_survey(alloc, net, Some(name), Some(at), effort),
     }

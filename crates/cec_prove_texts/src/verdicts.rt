@@ -11,9 +11,10 @@ ghost use Rattle.cec_prove_texts.specs.NetDevices.{net_device};
 ghost use Rattle.cec_prove_texts.specs.Verdicts.{AsksDevice, HasTextVerdict, IsDeviceVerdict};
 
 use crate::findings::found;
+use crate::places::place_of;
 use base_types::{Limits, NoMemory, Stop};
 use cec_opt_texts::{OptFault, text_net};
-use cec_prove_sources::{Finding, Layout, PlacedQuestion, Question, Verdict, place_among};
+use cec_prove_sources::{Finding, Layout, PlacedQuestion, Question, Verdict};
 use net_ir::Net;
 use net_opt::optimize;
 use std::alloc::Global;
@@ -57,7 +58,7 @@ fn placed_verdict(
     let Some(name) = question.assumed else {
         return decided(alloc, net, question, place, None, effort);
     };
-    match place_among(&net.outputs, name) {
+    match place_of(net, name) {
         None => Ok(Verdict::NoAssumed),
         Some(at) => decided(alloc, net, question, place, Some(at), effort),
     }
@@ -72,7 +73,7 @@ fn net_verdict(
 ) -> Result<Verdict, NoMemory>
     ensures { IfOk result (IsDeviceVerdict (net_device (netlist_of net.now)) (plain_question question.entry)) }
 {
-    match place_among(&net.outputs, question.signal) {
+    match place_of(net, question.signal) {
         None => Ok(Verdict::NoSignal),
         Some(place) => placed_verdict(alloc, net, question, place, effort),
     }

@@ -15,5 +15,5 @@ returns-in-Some c =
       names = c.requires.names;
       events = events;
       difference = pair-different left (netlist_of c.args.right.now) (netlist_of c.args.net.now) events c.requires.pair c.requires.reached;
-      is_trace = subst (λ o. IfSome o (λ t. IsDeviceTrace LinePerInstant left.inputs events t.items)) c.in-Some.is c.in_ok-trace_of.ensures;
+      is_trace = subst (λ o. IfSome o (λ t. IsDeviceTrace LinePerInstant left.inputs events t.items)) c.in-Some.is c.in_ok-trace.ensures;
     }

@@ -13,4 +13,4 @@ returns-in-Some c =
     let net = netlist_of c.args.net.now in
     let events = events_of c.args.events.now in
     device-broken asked.layout net (plain_question asked.question) asked.place asked.assumed events c.in-Some.trace.items c.requires.asks
-    c.requires.reached (subst (λ o. IfSome o (λ t. IsDeviceTrace asked.layout net.inputs events t.items)) c.in-Some.is c.in_ok-trace_of.ensures)
+    c.requires.reached (subst (λ o. IfSome o (λ t. IsDeviceTrace asked.layout net.inputs events t.items)) c.in-Some.is c.in_ok-trace.ensures)

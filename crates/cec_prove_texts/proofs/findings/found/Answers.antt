@@ -10,6 +10,6 @@ pub returns-in-Never : goal.returns-in-Never
 returns-in-Never c =
     let net = netlist_of c.args.net.now in
     let asked = c.args.asked in
-    device-holds net (plain_question asked.question) asked.place asked.assumed _ _ c.requires
+    device-holds net (plain_question asked.question) asked.place asked.assumed _ _ c.requires.asks
     (ap plain_assumed c.deref.ensures.value ∙ c.in_ok-allowed.ensures) c.bad_literal-bad.ensures
     (subst (IsDecision net (plain_assumed c.deref.result.now) c.bad_literal-bad.result) c.in-Never.is c.in_ok-decide.ensures)
