@@ -1,5 +1,5 @@
 -- A circuit shows what its netlist shows.
-use Rattle.std.proofs.Common.{◌≡◌, ℕ, Bool, List, [], ◌∷◌, ◌++◌, map, refl, sym, ap, subst, ◌∙◌}
+use Rattle.std.proofs.Common.{◌≡◌, ℕ, Option, List, [], ◌∷◌, ◌++◌, length, map, refl, sym, ap, subst, ◌∙◌}
 use Rattle.std.specs.Prelude.{IsTrue}
 use Rattle.std.proofs.lemmas.List.Elements.{All-map}
 use Rattle.base_facts.proofs.Lists.{map-twice}
@@ -20,7 +20,6 @@ use Rattle.cec_prove_sources.specs.Verdicts.{PlainQuestion}
 use Rattle.cec_prove_sources.specs.declared.questions.Comparison.{Comparison}
 use Rattle.cec_prove_sources.specs.declared.questions.Survey.{Survey}
 use Rattle.cec_prove_sources.specs.declared.questions.Verdict.{Verdict}
-use Rattle.std.proofs.Common.{Option}
 use Rattle.cec_prove_texts.specs.Devices.{DescribesNamed, circuit_device}
 use Rattle.cec_prove_texts.specs.NetDevices.{Renders, net_device, net_rows, row_of}
 use Rattle.cec_prove_texts.specs.Sameness.{HasTextComparison, IsDeviceComparison}

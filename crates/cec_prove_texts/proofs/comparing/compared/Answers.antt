@@ -28,8 +28,8 @@ returns-then-not-are_same_outputs c =
           ((λ i. pointwise is_same_name (sym l i) (sym r i)) ∙ sym c.are_same_outputs.ensures ∙ c.if-not-are_same_outputs.true),
     )
 
-pub paired-requires-clause-names : goal.paired-requires-clause-names
-paired-requires-clause-names c =
+pub paired-requires : goal.paired-requires
+paired-requires c =
     let left = netlist_of c.args.left.now in
     let right = netlist_of c.args.right.now in
     let l = ap (map (λ (o : NetOut). o.name)) c.deref-3.ensures.value in
