@@ -35,9 +35,11 @@ paired-requires c =
     let l = ap (map (λ (o : NetOut). o.name)) c.deref-3.ensures.value in
     let r = ap (map (λ (o : NetOut). o.name)) c.deref-4.ensures.value in
     record {
-      inputs = names-same left.inputs right.inputs
-          ((λ i. pointwise is_same_name (sym c.deref.ensures.value i) (sym c.deref-2.ensures.value i)) ∙ sym c.are_same_names.ensures
-          ∙ c.if-not-are_same_names.false);
-      outputs = names-same (output_names left) (output_names right)
-          ((λ i. pointwise is_same_name (sym l i) (sym r i)) ∙ sym c.are_same_outputs.ensures ∙ c.if-not-are_same_outputs.false);
+      names = record {
+        inputs = names-same left.inputs right.inputs
+            ((λ i. pointwise is_same_name (sym c.deref.ensures.value i) (sym c.deref-2.ensures.value i)) ∙ sym c.are_same_names.ensures
+            ∙ c.if-not-are_same_names.false);
+        outputs = names-same (output_names left) (output_names right)
+            ((λ i. pointwise is_same_name (sym l i) (sym r i)) ∙ sym c.are_same_outputs.ensures ∙ c.if-not-are_same_outputs.false);
+      };
     }
