@@ -67,12 +67,12 @@ breaking Never b e = e
 breaking Always true e = sym e
 breaking Always false e = refl
 
-keeping : (claim : Claim) (b : Bool) → broken_value claim b ≡ false → b ≡ claimed claim
+pub keeping : (claim : Claim) (b : Bool) → broken_value claim b ≡ false → b ≡ claimed claim
 keeping Never b e = e
 keeping Always true e = refl
 keeping Always false e = sym e
 
-unbroken : (claim : Claim) → broken_value claim (claimed claim) ≡ false
+pub unbroken : (claim : Claim) → broken_value claim (claimed claim) ≡ false
 unbroken Never = refl
 unbroken Always = refl
 
@@ -103,11 +103,11 @@ presents-shown net k low (v ∷ runs) (a ∷ answers) e =
     λ i. one i ∷ others i
 
 -- the clause of one net
-one-true : (b : Bool) → b ≡ true → ((b || false) && true) ≡ true
+pub one-true : (b : Bool) → b ≡ true → ((b || false) && true) ≡ true
 one-true true e = refl
 one-true false e = e
 
-true-one : (b : Bool) → ((b || false) && true) ≡ true → b ≡ true
+pub true-one : (b : Bool) → ((b || false) && true) ≡ true → b ≡ true
 true-one true e = refl
 true-one false e = e
 
@@ -167,7 +167,7 @@ all-assumed net known assumed low (v ∷ runs) (a ∷ answers) e met =
     and_from (meets_assumed assumed a) (list_all (meets_assumed assumed) answers)
     (model-assumed net assumed low v a here model.1) (all-assumed net known assumed low runs answers rest parts.1)
 
-last-broken : (claim : Claim) (n : ℕ) (b : Bool) (runs : List (List Bool))
+pub last-broken : (claim : Claim) (n : ℕ) (b : Bool) (runs : List (List Bool))
     → last_or (broken_value claim b) (map (λ values. literal_value (value_in values) (signed n (not (claimed claim)))) runs) ≡ true
     → last_or b (map (λ values. value_in values n) runs) ≡ not (claimed claim)
 last-broken claim n b [] e = breaking claim b e

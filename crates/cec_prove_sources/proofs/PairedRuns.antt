@@ -49,7 +49,7 @@ pub optimized-outputs : (old new : Netlist) → Optimizes old new → length new
 optimized-outputs old new o =
     sym (length-map new.outputs (λ (o : NetOut). o.name)) ∙ ap length o.replaces.interface.outputs ∙ length-map old.outputs (λ (o : NetOut). o.name)
 
-runs-long : (a b : Netlist) (items : List Item) → length (net_run a items) ≡ length (net_run b items)
+pub runs-long : (a b : Netlist) (items : List Item) → length (net_run a items) ≡ length (net_run b items)
 runs-long a b items =
     length-map (net_values_run a items) (shown a) ∙ length-runs a b (initial_latches a) (initial_latches b) items
     ∙ sym (length-map (net_values_run b items) (shown b))
@@ -103,7 +103,7 @@ shown-output net one values d here =
     sym (get_or-map (λ (o : NetOut). value_in values o.net.0) net.outputs 0 (record { name = []; net = record { 0 = 0 } }) false (omega arith))
     ∙ ap (λ l. get_or l 0 false) outputs
 
-never-different : (net : Netlist) → length net.outputs ≡ 1 → (runs : List (List Bool)) (ds : List Bool) → map (shown net) runs ≡ map shown_difference ds
+pub never-different : (net : Netlist) → length net.outputs ≡ 1 → (runs : List (List Bool)) (ds : List Bool) → map (shown net) runs ≡ map shown_difference ds
     → AllByRecursion (λ values. literal_value (value_in values) (bad_literal net.outputs Never 0) ≡ false) runs → AllByRecursion (λ d. d ≡ false) ds
 never-different net one runs [] e never = tt
 never-different net one [] (d ∷ ds) e never = cc
@@ -112,7 +112,7 @@ never-different net one (v ∷ runs) (d ∷ ds) e never =
     let rest : map (shown net) runs ≡ map shown_difference ds = cc in
     (sym (shown-output net one v d here) ∙ never.0, never-different net one runs ds rest never.1)
 
-shown-outputs : (net : Netlist) → length net.outputs ≡ 1 → (runs : List (List Bool)) (ds : List Bool) → map (shown net) runs ≡ map shown_difference ds
+pub shown-outputs : (net : Netlist) → length net.outputs ≡ 1 → (runs : List (List Bool)) (ds : List Bool) → map (shown net) runs ≡ map shown_difference ds
     → map (λ values. literal_value (value_in values) (bad_literal net.outputs Never 0)) runs ≡ ds
 shown-outputs net one [] [] e = refl
 shown-outputs net one [] (d ∷ ds) e = cc

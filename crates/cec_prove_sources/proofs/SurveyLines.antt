@@ -1,5 +1,5 @@
 -- A survey with one more signal.
-use Rattle.std.proofs.Common.{◌≡◌, ◌<◌, ◌+◌, ℕ, Bool, true, ◌&&◌, List, [], ◌∷◌, ◌++◌, length, map, get_or, Option, refl, sym, ap, subst, ◌∙◌}
+use Rattle.std.proofs.Common.{◌≡◌, ◌<◌, ◌+◌, ℕ, suc, Bool, true, ◌&&◌, List, [], ◌∷◌, ◌++◌, length, map, get_or, Option, refl, sym, ap, subst, ◌∙◌, arith}
 use Rattle.std.proofs.Math.Bool.{and-true}
 use Rattle.std.proofs.lemmas.List.{append-nil, append_assoc, get_or-map, length-map}
 use Rattle.std.proofs.lemmas.List.Folds.{list_all-append}
@@ -17,13 +17,20 @@ presences-more p assumed [] (j ∷ known) name k are is = absurd are
 presences-more p assumed (n ∷ names) [] name k are is = absurd are
 presences-more p assumed (n ∷ names) (j ∷ known) name k are is = (are.0, presences-more p assumed names known name k are.1 is)
 
-text-more : (p : Program) (assumed : Option (List ℕ)) (names : List (List ℕ)) (known : List Presence) (name : List ℕ) (k : Presence)
-    → ArePresences p assumed names known → survey_text (names ++ name ∷ []) (known ++ k ∷ []) ≡ survey_text names known ++ presence_text name k
-text-more p assumed [] [] name k are = append-nil (presence_text name k)
-text-more p assumed [] (j ∷ known) name k are = absurd are
-text-more p assumed (n ∷ names) [] name k are = absurd are
-text-more p assumed (n ∷ names) (j ∷ known) name k are =
-    ap (λ t. presence_text n j ++ t) (text-more p assumed names known name k are.1)
+presences-long : (p : Program) (assumed : Option (List ℕ)) (names : List (List ℕ)) (known : List Presence) → ArePresences p assumed names known
+    → length known ≡ length names
+presences-long p assumed [] [] are = refl
+presences-long p assumed [] (j ∷ known) are = absurd are
+presences-long p assumed (n ∷ names) [] are = absurd are
+presences-long p assumed (n ∷ names) (j ∷ known) are = ap suc (presences-long p assumed names known are.1)
+
+pub text-more : (names : List (List ℕ)) (known : List Presence) (name : List ℕ) (k : Presence) → length known ≡ length names
+    → survey_text (names ++ name ∷ []) (known ++ k ∷ []) ≡ survey_text names known ++ presence_text name k
+text-more [] [] name k e = append-nil (presence_text name k)
+text-more [] (j ∷ known) name k e = absurd (omega arith)
+text-more (n ∷ names) [] name k e = absurd (omega arith)
+text-more (n ∷ names) (j ∷ known) name k e =
+    ap (λ t. presence_text n j ++ t) (text-more names known name k (omega arith))
     ∙ sym (append_assoc (presence_text n j) (survey_text names known) (presence_text name k))
 
 pub survey-none : (p : Program) (assumed : Option (List ℕ)) → IsSurveyText p assumed [] [] true
@@ -36,7 +43,7 @@ survey-more p assumed names name text new whole sure survey adds = record {
   presences = survey.presences ++ adds.presence ∷ [];
   known = presences-more p assumed names survey.presences name adds.presence survey.known adds.is;
   written = adds.lines ∙ ap (λ t. t ++ presence_text name adds.presence) survey.written
-      ∙ sym (text-more p assumed names survey.presences name adds.presence survey.known);
+      ∙ sym (text-more names survey.presences name adds.presence (presences-long p assumed names survey.presences survey.known));
   each_known = (λ i. survey.each_known i && adds.sure_of_it i) ∙ ap (λ b. list_all is_known survey.presences && b) (sym (and-true (is_known adds.presence)))
       ∙ sym (list_all-append is_known survey.presences (adds.presence ∷ []));
 }

@@ -70,8 +70,8 @@ fn decided(
     }
 }
 
-// The optimized pair of two netlists; none where it has too many nets.
-fn small_pair(alloc: Global, left: &Net, right: &Net) -> Result<Option<Net>, NoMemory>
+/// The optimized pair of two netlists; none where it has too many nets.
+pub fn small_pair(alloc: Global, left: &Net, right: &Net) -> Result<Option<Net>, NoMemory>
     requires inputs { length left.now.inputs.items ≡ length right.now.inputs.items }
     requires outputs { length left.now.outputs.items ≡ length right.now.outputs.items }
     ensures { IfOk result (λ o. IfSome o

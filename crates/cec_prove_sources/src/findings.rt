@@ -45,7 +45,7 @@ fn claimed(claim: Claim) -> bool
 }
 
 /// What breaks a claim about the output with this place.
-pub(crate) fn bad_literal(net: &Net, claim: Claim, place: usize) -> Literal
+pub fn bad_literal(net: &Net, claim: Claim, place: usize) -> Literal
     ensures { result ≡ bad_literal net.now.outputs.items claim place }
 {
     Literal {
@@ -65,6 +65,19 @@ pub(crate) fn allowed_clauses(
         ≡ allowed_clauses (program_of program.now).relations net.now.outputs.items assumed) }
 {
     let mut list = relation_clauses(alloc, program)?;
+    push_assumed(alloc, &mut list, net, assumed)?;
+    Ok(list)
+}
+
+/// The clause that the output that is assumed is true, if one is assumed.
+pub fn assumed_clauses(
+    alloc: Global,
+    net: &Net,
+    assumed: Option<usize>,
+) -> Result<Vec<Clause>, NoMemory>
+    ensures { IfOk result (λ list. plain_assumed list.items ≡ assumed_clauses net.now.outputs.items assumed) }
+{
+    let mut list = Vec::new(alloc);
     push_assumed(alloc, &mut list, net, assumed)?;
     Ok(list)
 }

@@ -20,11 +20,16 @@ mod surveys;
 mod traces;
 mod verdicts;
 
-pub use comparing::comparison_of;
-pub use findings::{PlacedQuestion, found};
-pub use places::place_of;
-pub use questions::{Claim, Comparison, Finding, Layout, PairRefusal, Question, Survey, Verdict};
-pub use reading::trace_of;
+pub use comparing::{comparison_of, small_pair};
+pub use findings::{PlacedQuestion, assumed_clauses, bad_literal, found};
+pub use interfaces::{are_same_names, are_same_outputs};
+pub use places::{place_among, place_of};
+pub use presences::{Signal, is_known, push_presence, question_about};
+pub use questions::{
+    Claim, Comparison, Finding, Layout, PairRefusal, Presence, Question, Survey, Verdict,
+};
+pub use reading::{is_read_as, trace_of};
 pub use relations::relation_clauses;
 pub use surveys::survey_of;
+pub use traces::trace_text;
 pub use verdicts::verdict_of;

@@ -20,8 +20,8 @@ pub fn place_of(program: &KernelProgram, net: &Net, name: &[u8]) -> Option<usize
     place_among(&net.outputs, name)
 }
 
-// The place of the output of this name.
-fn place_among(outputs: &[NetOut], name: &[u8]) -> Option<usize>
+/// The place of the output of this name.
+pub fn place_among(outputs: &[NetOut], name: &[u8]) -> Option<usize>
     ensures found { IfSome result (HasPlace (map (λ o. o.name) outputs.now) name.now) }
     ensures none { result ≡ None → is_among name.now (map (λ o. o.name) outputs.now) ≡ false }
 {

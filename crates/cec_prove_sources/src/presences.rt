@@ -19,15 +19,15 @@ use std::alloc::Global;
 
 /// An outgoing signal by its name and its place, and the one that is assumed.
 #[derive(Clone, Copy)]
-pub(crate) struct Signal<'a> {
-    pub(crate) name: &'a [u8],
-    pub(crate) place: usize,
-    pub(crate) assumed: Option<&'a [u8]>,
-    pub(crate) assumed_place: Option<usize>,
+pub struct Signal<'a> {
+    pub name: &'a [u8],
+    pub place: usize,
+    pub assumed: Option<&'a [u8]>,
+    pub assumed_place: Option<usize>,
 }
 
-// A question about a signal.
-fn placed(signal: Signal<'_>, claim: Claim) -> PlacedQuestion<'_>
+/// A question about a signal, whose trace is laid out in one line.
+pub fn question_about(signal: Signal<'_>, claim: Claim) -> PlacedQuestion<'_>
     ensures question { plain_question result.question
         ≡ about claim signal.entry.name.now (option_map (λ n. n.now) signal.entry.assumed) }
     ensures claim { result.question.claim ≡ claim }
@@ -66,7 +66,13 @@ fn presence_beside(
     ensures { IfOk result (λ p. IsPresence (program_of program.now) (option_map (λ n. n.now) signal.entry.assumed)
         signal.entry.name.now (plain_presence p)) }
 {
-    match found(alloc, program, net, placed(signal, Claim::Always), effort)? {
+    match found(
+        alloc,
+        program,
+        net,
+        question_about(signal, Claim::Always),
+        effort,
+    )? {
         Finding::Holds => Ok(Presence::Always),
         Finding::Broken(absent) => Ok(Presence::Found(present, Some(absent))),
         Finding::Open(_) => Ok(Presence::Found(present, None)),
@@ -88,7 +94,13 @@ fn presence_of(
     ensures { IfOk result (λ p. IsPresence (program_of program.now) (option_map (λ n. n.now) signal.entry.assumed)
         signal.entry.name.now (plain_presence p)) }
 {
-    match found(alloc, program, net, placed(signal, Claim::Never), effort)? {
+    match found(
+        alloc,
+        program,
+        net,
+        question_about(signal, Claim::Never),
+        effort,
+    )? {
         Finding::Holds => Ok(Presence::Never),
         Finding::Broken(present) => {
             presence_beside(alloc, program, net, signal, Some(present), effort)
@@ -126,8 +138,8 @@ fn found_word(present: &Option<Vec<u8>>, absent: &Option<Vec<u8>>) -> &'static [
     }
 }
 
-// The line of a signal, and those of the traces.
-fn push_presence(text: &mut Vec<u8>, name: &[u8], presence: &Presence) -> Result<(), NoMemory>
+/// Appends the line of a signal, and those of the traces.
+pub fn push_presence(text: &mut Vec<u8>, name: &[u8], presence: &Presence) -> Result<(), NoMemory>
     ensures { OnOk result (text.new.items ≡ text.old.items ++ presence_text name.now (plain_presence presence.now)) }
 {
     text.extend_from_slice(name)?;
@@ -155,8 +167,8 @@ fn push_found(
     push_trace(text, name, b" absent:", absent)
 }
 
-// Whether it is known when a signal is present.
-fn is_known(presence: &Presence) -> bool
+/// Reports whether it is known when a signal is present.
+pub fn is_known(presence: &Presence) -> bool
     ensures { result ≡ is_known (plain_presence presence.now) }
 {
     match presence {

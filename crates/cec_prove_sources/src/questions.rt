@@ -58,7 +58,7 @@ pub enum Verdict {
 
 /// What is known of an outgoing signal.
 #[derive(Drop)]
-pub(crate) enum Presence {
+pub enum Presence {
     /// It is present in no reaction.
     Never,
     /// It is present in each reaction.

@@ -55,8 +55,8 @@ fn is_end(reader: &mut TraceReader) -> Result<bool, NoMemory>
     }
 }
 
-// Reports whether a text is read as these events.
-fn is_read_as(
+/// Reports whether a reader without relations reads a text as these events over inputs of these names.
+pub fn is_read_as(
     alloc: Global,
     names: &[Text],
     text: &[u8],

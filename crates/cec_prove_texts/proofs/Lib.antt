@@ -1,0 +1,5 @@
+mod Rendering
+mod NetShows
+mod TextCircuits
+mod PairedNets
+mod SurveyRows
