@@ -8,6 +8,9 @@ use sat_kernel::{Kernel, Literal, Premise};
 use sat_trail::{LiteralId, at};
 use std::alloc::Global;
 
+// Longer clauses stay as they are: many clauses share a literal with them, and each comparison looks at all literals.
+const LONGEST: u32 = 100;
+
 // What a marked clause makes of another one.
 #[derive(Clone, Copy)]
 enum Effect {
@@ -100,6 +103,9 @@ impl Simplifier {
         let target = self.parts.part(other);
         self.spend(1);
         if !part.is_live || !target.is_live || part.length > target.length {
+            return Ok(());
+        }
+        if target.length > LONGEST {
             return Ok(());
         }
         if part.summary & !target.summary != 0 {
