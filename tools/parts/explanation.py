@@ -6,8 +6,10 @@ from typing import NamedTuple
 import lint
 from cycles import compared_kernels, cures_of, steps_of, wires_in
 from faults import why_bad_byte, why_bad_count, why_bad_renaming
-from habits import habit_note
+from habits import after_declaration, habit_note
+from harmless import SECONDS, outlook
 from limits import limit_notes
+from loops import mends_of, way_words
 from places import compared_places
 from porting import row_at
 from program import CYCLIC, DONE, LIMIT, STATIC, ask, main_words, read
@@ -119,8 +121,11 @@ def syntax_notes(page, at):
     """Notes about a fault of syntax: the form of Esterel V5 or of other languages that is written there, and what could follow."""
     tokens = tokens_that_could(page.text, at)
     row = row_at(page.text, at, tokens)
+    missing = after_declaration(page.text, at, tokens)
     if row:
         page.add(at, "note", "%s (docs/from_v5.md)" % row.words())
+    elif missing:
+        page.add(missing[0], "note", missing[1], missing[0] != at)
     else:
         note = habit_note(page.text, at, tokens)
         if note:
@@ -137,7 +142,24 @@ def earlier_fault(page, at):
     syntax_notes(page, place)
 
 
-def explain_static(page, line):
+def explain_loop(page, at, main, wants_cures):
+    """The notes about a loop whose body can end at once: a way through it, and pauses that make the fault go."""
+    way = way_words(page.text, at)
+    if way:
+        page.add(at, "note", way)
+    mends, untried = mends_of(page.text, main, at) if wants_cures else ([], 0)
+    for place, leaves_fault in mends:
+        what = {
+            "pause; ": "a `pause;` here mends the loop: " + what_a_pause_changes(place.statement),
+            "; pause": "a `; pause` here mends the loop: what follows then starts one instant later",
+            "else pause ": "an `else pause` here mends the loop: the `present` then takes an instant where it takes no branch",
+        }[place.insert]
+        page.add(place.at, "note", what + ("; another fault is left" if leaves_fault else ""))
+    if untried:
+        page.add(at, "note", "places for a `pause` that were not tried: %d" % untried)
+
+
+def explain_static(page, line, main, wants_cures):
     """The notes about a static fault."""
     match = PLACE.match(line)
     if not match:
@@ -169,10 +191,8 @@ def explain_static(page, line):
         note = next((words for head, words in NOTES.items() if fault.startswith(head)), None)
         if note:
             page.add(at, "note", note)
-
-
-# What may be done with a cycle besides breaking it.
-HARMLESS = "if the cycle is harmless, `cec-opt blif --source` compiles the program as it is (docs/cycles.md)"
+        if fault == "instantaneous loop":
+            explain_loop(page, at, main, wants_cures)
 
 
 def signal_words(signal):
@@ -201,16 +221,16 @@ def explain_steps(page, steps):
 def what_a_pause_changes(statement):
     """What changes with a pause before a statement."""
     if statement.form in ("emit", "sustain"):
-        return "%s is emitted one instant later than now" % statement.parts["signal"].name
+        return "%s is then emitted one instant later" % statement.parts["signal"].name
     if statement.form.startswith("present") or statement.form.startswith("await"):
-        return "the test here looks at one instant later than now"
-    return "the statement here starts one instant later"
+        return "the test here then looks one instant later"
+    return "the statement here then starts one instant later"
 
 
 def what_changes(cure):
     """What a cure changes."""
     if cure.is_weak:
-        return "in the instant in which it is left, the body still runs"
+        return "the body then still runs in the instant in which it is aborted"
     return what_a_pause_changes(cure.statement)
 
 
@@ -221,7 +241,7 @@ def explain_cycle(page, line, main, wants_cures):
     steps = steps_of(wires, kernels) if kernels else None
     if not steps or not any(step.kind == "test" for step in steps):
         page.add(None, "error", line.strip().removeprefix("cec: "))
-        page.add(None, "note", "its statements are not shown, since this tool's reading of the source is not sure")
+        page.add(None, "note", "the statements of the cycle are not shown, since this tool may read the source wrongly")
         return
     signals = list(dict.fromkeys(step.signal[1] for step in steps if step.kind == "test"))
     first = next(step for step in steps if step.kind == "test")
@@ -235,7 +255,12 @@ def explain_cycle(page, line, main, wants_cures):
             page.add(cure.statement.start, "note", "%s here breaks the cycle: %s" % (what, what_changes(cure)))
         if not cures:
             page.add(first.kernel.place[0], "note", "no single `pause;` breaks all cycles; docs/cycles.md has other cures")
-        page.add(first.kernel.place[0], "note", HARMLESS, False)
+
+
+def explain_outlook(page, file, main, seconds=SECONDS):
+    """The last notes about a cycle: whether it is harmless, as far as that is known."""
+    for words in outlook(file, page.text, main, seconds):
+        page.add(page.notes[0].at, "note", words, False)
 
 
 def explain_limit(page, line, main):
@@ -255,12 +280,13 @@ def explain_lint(page, file, main):
 
 
 def explained(file, main=None, wants_cures=True, wants_lint=False, shown=None):
-    """The page of a file, and the status of `cec check`; the lines have the shown name where one is given."""
+    """The page of a file, and the status of `cec check`; the lines have the shown name where one is given. Whether a cycle is
+    harmless is not looked for; `explain_outlook` does that."""
     answer = ask("check", *main_words(main), file)
     line = answer.err.decode("latin-1").strip()
     page = Page(shown or file, read(file) if answer.status in (DONE, STATIC, CYCLIC, LIMIT) else "")
     if answer.status == STATIC:
-        explain_static(page, line)
+        explain_static(page, line, main, wants_cures)
     elif answer.status == CYCLIC:
         explain_cycle(page, line, main, wants_cures)
     elif answer.status == LIMIT:

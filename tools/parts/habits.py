@@ -2,6 +2,7 @@
 import difflib
 
 from indentation import NAMED_ENDS
+from porting import word_before
 from source import Reader
 from tokens import Unread, line_and_column, readable_tokens
 
@@ -15,6 +16,7 @@ MARKS_OF_OTHERS = {
     "/*": "a comment is written `%{ .. }%`",
     "||": "`||` runs two statements in parallel; a test has `or`",
 }
+DECLARATIONS = ("input", "inputoutput", "output", "relation")
 TESTS = ("await", "when", "every", "each", "immediate")
 # Words of other languages at the place of a statement.
 STATEMENTS_OF_OTHERS = {
@@ -128,6 +130,18 @@ def about_missing(text, before, now, last, expected):
     if len(only) == 1 and only[0] in IN_PLACE and now.kind not in ("name", "number"):
         return IN_PLACE[only[0]]
     return None
+
+
+def after_declaration(text, at, expected):
+    """The place and the words of a note about a declaration that has no `;`; none where none is missing."""
+    before, now = readable_tokens(text[:at])[:-1], readable_tokens(text[at:])[0]
+    if ";" not in expected or now.kind not in STATEMENTS | set(DECLARATIONS) or word_before(before) not in DECLARATIONS:
+        return None
+    ends = before[-1].end
+    line = line_and_column(text, ends)[0]
+    if line == line_and_column(text, at)[0]:
+        return at, "`;` is missing before this `%s`" % now.kind
+    return ends, "`;` is missing at the end of line %d" % line
 
 
 def about_word(now, last, expected):

@@ -58,6 +58,7 @@ ROWS = {
         " || await 2 a; emit SECOND end end",
         "a branch counts and emits what the case tests",
     ),
+    "elsif": Row("present a then p elsif b then q end", "present case a do p case b do q end", "`else r` may follow the last case"),
     "copymodule": Row("copymodule M [signal A/X]", "run M [signal A/X]", "the older name"),
     "instance": Row("run N/M [signal A/X]", "run M [signal A/X]", "a run has no name of its own"),
     "run signals": Row("run M [signal A/X; signal B/Y]", "run M [signal A/X, B/Y]", "one `signal` begins the list; `;` separates lists of other kinds"),
@@ -73,6 +74,10 @@ ROWS = {
     "constant": Row("constant LIMIT = 5 : integer", "", "write the number where it is used: `await 5 MS`"),
     "values": Row("output SPEED(integer), emit SPEED(3)", "", "write one output for each value"),
     "input value": Row("input KEY : integer", "", "one input for each value that matters, with a relation `KEY1 # KEY2`"),
+    "local value": Row(
+        "signal S : integer in p end", "", "one local signal for each value that matters, `signal S1, S2 in p end`; a local signal has no relation"
+    ),
+    "trap value": Row("trap T : integer in p end", "", "one trap for each value that matters, each inside another"),
     "value": Row("?SPEED", "", "the program around keeps values"),
     "exec": Row("exec TASK", "", "an output `TASK_START` and an input `TASK_DONE`; an abort adds an output `TASK_STOP`"),
     "call": Row("call PROCEDURE", "", "an output; the program around calls the procedure where it is present"),
@@ -87,6 +92,10 @@ WORDS = {
     **{word: word for word in ("sensor", "if", "var", "call", "exec", "type", "constant", "function", "procedure", "task", "copymodule")},
     "return": "task",
     "combine": "combine",
+}
+# The word before a name, or before a list of names, with the row of a value after it.
+VALUES = {
+    "input": "input value", "inputoutput": "input value", "signal": "local value", "trap": "trap value", "exit": "trap value",
 }
 
 
@@ -140,6 +149,14 @@ def is_in_run(before):
     return opened > 1 and "]" not in kinds[opened:] and kinds[opened - 2] == "run"
 
 
+def word_before(tokens):
+    """The word before the list of names that ends some tokens, such as `input`; empty where they end with no name."""
+    at = len(tokens)
+    while at and tokens[at - 1].kind in ("name", ",", "#", "=>"):
+        at -= 1
+    return tokens[at - 1].kind if 0 < at < len(tokens) else ""
+
+
 def row_at(text, at, expected):
     """The row for what is written at a syntax fault; none where it is no form of V5."""
     before, now = readable_tokens(text[:at])[:-1], readable_tokens(text[at:])[0]
@@ -161,10 +178,10 @@ def row_at(text, at, expected):
         return ROWS["run constant" if is_other else "run signals"]
     if re.match(r"\w+\s*:=", text[at:]):
         return ROWS["var"]
-    if now.kind == ":" and any(token.kind in ("input", "inputoutput") for token in before[-12:]):
-        return ROWS["input value"]
-    if now.kind in ("(", ":") and last.kind == "name" and not (len(before) > 1 and before[-2].kind == "run"):
-        return ROWS["values"]
+    if now.kind in ("(", ":") and last.kind == "name" and word_before(before) not in ("run", "module"):
+        return ROWS[VALUES.get(word_before(before), "values")]
+    if now.text in ("elsif", "elseif", "elif") and "else" in expected:
+        return ROWS["elsif"]
     if now.text == "timeout":
         return ROWS["timeout"]
     if now.text == "if" and not ("halt" in expected and re.match(r"if\b[^;{]*?(\?|<|>|=)", text[at:])):

@@ -6,6 +6,7 @@ in one; else `cec` beside the tools, where they are installed, or on the path.
 import os
 import shlex
 import shutil
+import signal
 import subprocess
 import sys
 import tempfile
@@ -58,8 +59,15 @@ def other_program(name):
         return shlex.split(given)
     built = os.path.normpath(os.path.join(os.path.dirname(os.path.realpath(__file__)), "..", "..", "crates", crate, "out", crate))
     beside = os.path.join(os.path.dirname(command()[0]), name)
-    found = next((it for it in (built, beside, shutil.which(name)) if it and os.access(it, os.X_OK) and os.path.isfile(it)), None)
+    found = next((it for it in (built, beside, shutil.which(name)) if it and is_program(it)), None)
     return [found] if found else None
+
+
+def is_program(name):
+    """Whether a file is a program, and not the script of a repository that proves and builds it for more than an hour."""
+    if not os.access(name, os.X_OK) or not os.path.isfile(name):
+        return False
+    return not os.path.exists(os.path.join(os.path.dirname(os.path.realpath(name)), "tools", "program"))
 
 
 def ask(*words):
@@ -69,6 +77,24 @@ def ask(*words):
     except OSError as error:
         raise Stop(MISSING, "cannot start the program: %s" % error) from error
     return Answer(run.returncode, run.stdout, run.stderr)
+
+
+def ask_within(seconds, *words):
+    """What some words answer within a time; none where they take longer, and an answer of its own where they do not start."""
+    try:
+        run = subprocess.Popen([*map(str, words)], stdin=subprocess.DEVNULL, stdout=subprocess.PIPE, stderr=subprocess.PIPE, start_new_session=True)
+    except OSError:
+        return Answer(MISSING, b"", b"")
+    with run:
+        try:
+            out, err = run.communicate(timeout=seconds)
+            return Answer(run.returncode, out, err)
+        except subprocess.TimeoutExpired:
+            return None
+        finally:
+            if run.poll() is None:
+                # The program may be a script that has started others.
+                os.killpg(run.pid, signal.SIGKILL)
 
 
 def text_of(*words):

@@ -6,6 +6,7 @@ import tempfile
 
 from cycles import compared_kernels, unknown_of
 from explanation import Page, signal_words
+from harmless import STUCK
 from listing import wire_of
 from program import DONE, TRACE, ask, main_words, read, write_file
 from source import modules_of
@@ -13,7 +14,6 @@ from tokens import Unread, line_and_column
 from traces import RESET
 
 # How `cec run --via tri` ends at an instant that is not constructive.
-STUCK = 12
 NOT_CONSTRUCTIVE = re.compile(r"cec: instant (\d+): not constructive: (.*)")
 FAULT = re.compile(r"cec: (?:instant (\d+)|byte (\d+)): (.*)")
 FIRST = "the inputs of the first instant change nothing: an `await` does not see the instant in which it starts"
