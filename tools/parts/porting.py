@@ -163,7 +163,7 @@ def row_at(text, at, expected):
         return ROWS["var"]
     if now.kind == ":" and any(token.kind in ("input", "inputoutput") for token in before[-12:]):
         return ROWS["input value"]
-    if now.kind in ("(", ":") and last.kind == "name" and not (len(before) > 1 and before[-2].kind == "run"):
+    if now.kind in ("(", ":") and last.kind == "name" and not (len(before) > 1 and before[-2].kind in ("run", "module")):
         return ROWS["values"]
     if now.text == "timeout":
         return ROWS["timeout"]
