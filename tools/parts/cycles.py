@@ -11,7 +11,7 @@ from tokens import Unread
 
 
 class Step(NamedTuple):
-    """A step of a cycle: what happens, and the kernel statement at which it does."""
+    """A step of a cycle, or what stays unknown: what happens, of which signal, and the kernel statement at which it does."""
 
     kind: str
     signal: tuple
@@ -24,14 +24,6 @@ class Cure(NamedTuple):
     statement: object
     module: str
     is_weak: bool = False
-
-
-class Unknown(NamedTuple):
-    """What stays unknown of a signal in an instant that is not constructive: its name, its tests, and its emissions that may happen."""
-
-    signal: tuple
-    tests: list
-    emissions: list
 
 
 def without_emissions(text):
@@ -87,19 +79,21 @@ def steps_of(wires, kernels):
 
 
 def unknown_of(wires, kernels):
-    """What the unknown wires of an instant say of signals: each with its tests and its emissions that may happen."""
-    statuses = [wire for wire in wires if wire.kind in ("out", "st")]
+    """What stays unknown in an instant that is not constructive: for each unknown signal its tests, and its emissions that may
+    happen, each with the name that the signal has there."""
     starts = {wire.path for wire in wires if wire.kind == "go"}
     found = []
-    for status in statuses:
-        scope = "." if status.kind == "out" else status.path
-        inside = [it for path, it in kernels.items() if lies_in(path, scope)]
-        named = [(it, signal) for it in inside for signal in it.signals if signal[1] == status.what and it.form in ("Emit", "Present", "Suspend")]
-        signal = next((signal for _, signal in named), (status.what, status.what, 0))
-        emissions = [it for path, it in kernels.items() if it.form == "Emit" and path in starts and lies_in(path, scope)
-                     and it.signals[0][1] == status.what]
-        tests = [it for it, _ in named if it.form != "Emit"]
-        found.append(Unknown(signal, tests, emissions))
+    for status in (wire for wire in wires if wire.kind in ("out", "st")):
+        # A signal is told from others of its name by what its binder, or the interface, says. A count has no name in the source.
+        scope, meant = ".", (status.what, status.what)
+        if status.kind == "st":
+            scope, binder = status.path, kernels.get(status.path)
+            if binder is None or binder.form != "Local" or binder.origin.statement.form != "signal":
+                continue
+            meant = binder.signals[0][1:]
+        named = [(path, it, signal) for path, it in kernels.items() if lies_in(path, scope) for signal in it.signals if signal[1:] == meant]
+        found += [Step("test", signal, it) for _, it, signal in named if it.form in ("Present", "Suspend")]
+        found += [Step("emission", signal, it) for path, it, signal in named if it.form == "Emit" and path in starts]
     return found
 
 

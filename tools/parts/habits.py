@@ -23,7 +23,7 @@ STATEMENTS_OF_OTHERS = {
     ("if",): "a test of a signal is written `present A then p else q end`",
     ("while", "until"): "a loop that ends at an event is written `abort loop p end when e`",
     ("for", "foreach"): "`repeat 3 times p end` runs p three times, and `await 3 A` waits for the third A",
-    ("switch", "select", "match"): "tests in turn are written `present case A do p case B do q end`",
+    ("switch", "select", "match", "case"): "tests in turn are written `present case A do p case B do q end`",
     ("begin", "par", "fork", "parallel", "do"): "statements are grouped by `[ .. ]`, and `[ p || q ]` runs two in parallel",
     ("goto", "break", "continue", "return", "leave"): "`exit T` leaves the block `trap T in .. end`",
     ("throw", "raise"): "`exit T` leaves the block `trap T in .. end`",
@@ -42,6 +42,26 @@ IN_PLACE = {
     "in": "`in` is missing here: `signal S in p end`, `trap T in p end`",
     "then": "`then` is missing here",
 }
+
+
+# Words of other languages that declare what a port keeps or carries.
+KINDS_OF_PORTS = frozenset(("reg", "wire", "logic", "bit", "bool", "boolean", "std_logic"))
+
+
+def about_ports(before, now):
+    """A note about a list of ports, or about a declaration of ports that has a range or a word for what a port keeps."""
+    kinds = [token.kind for token in before]
+    if now.kind == "(" and kinds[-2:] == ["module", "name"]:
+        return "a module has no list of ports: write `module %s:` here, and then the declarations, as `input A, B; output O;`" % before[-1].text
+    start = max(len(kinds) - 1 - kinds[::-1].index(mark) if mark in kinds else -1 for mark in (";", ":", ")"))
+    head = kinds[start + 1] if start + 1 < len(kinds) else ""
+    if head not in ("input", "output", "inputoutput"):
+        return None
+    if now.kind == "[":
+        return "there are no vectors: declare one signal for each bit, as `%s A0, A1, A2;`" % head
+    if now.kind == "name" and before[-1].text in KINDS_OF_PORTS:
+        return "there is no `%s`: a signal is present or absent in each instant; write `%s %s;`" % (before[-1].text, head, now.text)
+    return None
 
 
 def about_mark(text, at):
@@ -167,6 +187,7 @@ def habit_note(text, at, expected):
     if now.kind == "module" and last == ".":
         return None
     looks = (
+        about_ports(before, now),
         about_mark(text, at),
         about_renaming(before, now, expected),
         about_test(before, now, last),

@@ -1,5 +1,5 @@
-"""What a source has that the program accepts and its author hardly means: signals that nothing reads or emits, names that hide
-others, traps that nothing leaves, statements that never start, repetitions that make much code.
+"""What a source has that the program accepts and its author hardly means: signals that nothing reads or emits, in an interface or
+local, names that hide others, traps that nothing leaves, statements that never start, repetitions that make much code.
 
 All but the figures is this tool's own reading of the source. Statements that never start come from the static codes of the
 kernel tree (places.py), and are reported only where that tree agrees with the program's listing. The figures are lines of
@@ -60,15 +60,19 @@ class Uses:
 
     def walk_run(self, name, statement, hidden):
         """Takes up what a module that is run does with the signals of this one."""
+        read, emitted = self.of_run(statement)
+        self.read[name] |= read - hidden
+        self.emitted[name] |= emitted - hidden
+
+    def of_run(self, statement):
+        """The names of this module whose signals a module that is run reads, and those that it emits."""
         run = statement.parts["module"].name
         actuals = {formal.name: actual.name for actual, formal in statement.parts["renamings"]}
-        self.read[name] |= {actuals.get(it, it) for it in self.read[run]} - hidden
-        self.emitted[name] |= {actuals.get(it, it) for it in self.emitted[run]} - hidden
+        return tuple({actuals.get(it, it) for it in names} for names in (self.read[run], self.emitted[run]))
 
 
-def unused_signals(modules):
+def unused_signals(modules, uses):
     """Warnings about signals of interfaces that nothing reads, or nothing emits."""
-    uses = Uses(modules)
     for module in modules:
         name = module.name.name
         for it in module.signals["input"]:
@@ -81,6 +85,35 @@ def unused_signals(modules):
             if it.name not in uses.read[name] | uses.emitted[name]:
                 words = "inputoutput %s of %s is never read and never emitted" % (it.name, name)
                 yield Warning(it.start, words, "use it, or take it out of the interface")
+
+
+# What is said of a local signal by whether something emits it, and whether something tests it.
+DEAD_LOCALS = {
+    (False, False): ("is never emitted and never tested", "use it, or take it out of the `signal`"),
+    (True, False): ("is emitted and never tested", "test it, or take it and its emissions out"),
+    (False, True): ("is tested and never emitted", "emit it, or take it and its tests out: it is absent in every instant"),
+}
+
+
+def dead_locals(module, uses):
+    """Warnings about local signals that nothing emits, or nothing tests. One that a module which is run uses has none: an output
+    that is left open, or an input that is held absent, is meant."""
+    emitted, tested, passed, found = set(), set(), set(), []
+    waiting = [(module.body, {})]
+    while waiting:
+        statement, scope = waiting.pop()
+        scope = {**scope, **{it.name: it for it in statement.parts.get("signals", ())}}
+        found += statement.parts.get("signals", ())
+        tested |= {scope.get(it.name) for delay in delays_of(statement) for it in delay.names}
+        if statement.form in ("emit", "sustain"):
+            emitted.add(scope.get(statement.parts["signal"].name))
+        if statement.form == "run" and statement.parts["module"].name in uses.modules:
+            passed |= {scope.get(name) for names in uses.of_run(statement) for name in names}
+        waiting += [(part, scope) for part in parts_of(statement)]
+    for it in found:
+        words, advice = DEAD_LOCALS.get((it in emitted, it in tested), ("", ""))
+        if words and it not in passed:
+            yield Warning(it.start, "local signal %s %s" % (it.name, words), advice)
 
 
 def hidden_signals(module):
@@ -209,9 +242,11 @@ def warnings_of(text, main, kernels_agree):
         body = kernel_of(text, main) if kernels_agree else None
     except Unread:
         return []
-    found = list(unused_signals(modules))
+    uses = Uses(modules)
+    found = list(unused_signals(modules, uses))
     for module in modules:
         found += hidden_signals(module)
+        found += dead_locals(module, uses)
         found += left_traps(module.body)[1]
     if body:
         found += never_started(body, set(handlers_in_vain(modules)))

@@ -118,13 +118,18 @@ def first_instant(page, source, main):
         page.add(start, "note", "begin the trace with an empty instant, `;`")
 
 
+def where_run(page, origin):
+    """The module of a place and the line of the run that led there, in brackets; nothing for the main module."""
+    return " (in module %s, run at line %d)" % (origin.module, line_and_column(page.text, origin.runs[-1])[0]) if origin.runs else ""
+
+
 def explain_unknown(page, unknown):
-    """A note for each test of an unknown signal, and for each emission that may happen."""
-    for it in unknown:
-        for kernel in it.tests:
-            page.add(kernel.place[0], "note", "%s is tested here, and stays unknown in this instant" % signal_words(it.signal), True)
-        for kernel in it.emissions:
-            page.add(kernel.place[0], "note", "whether %s is emitted here stays unknown" % signal_words(it.signal), True)
+    """A note for each test of an unknown signal, and for each emission that may happen. Several kernel statements of one place, as
+    those of an `abort`, or of the turns of a `repeat`, have one note."""
+    words = {"test": "%s is tested here, and stays unknown in this instant", "emission": "whether %s is emitted here stays unknown"}
+    notes = [(it.kernel.place[0], words[it.kind] % signal_words(it.signal) + where_run(page, it.kernel.origin)) for it in unknown]
+    for at, note in dict.fromkeys(notes):
+        page.add(at, "note", note, True)
 
 
 def stuck_explained(trace, source, main=None):

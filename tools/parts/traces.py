@@ -23,9 +23,11 @@ class Event(NamedTuple):
 
 
 def lines_of(text):
-    """The lines of reactions that a text has."""
-    found = []
-    for number, line in enumerate(text.splitlines(), 1):
+    """The lines of reactions that a text has. A count of assignments after the lines of a guarded C text is none of them."""
+    found, lines = [], text.splitlines()
+    if lines and re.fullmatch(r"assignments [0-9]+", lines[-1]) and all(" | " in line for line in lines[:-1]):
+        lines.pop()
+    for number, line in enumerate(lines, 1):
         names, bar, status = line.partition(" | ")
         present = [] if names == "-" else names.split(" ")
         is_error = re.match(r"(cec|[a-z_]+): ", line) is not None
