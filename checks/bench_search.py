@@ -1,8 +1,7 @@
 """The table of the SAT search: claims of cec-opt and random questions, side by side with minisat and cadical of Debian.
 
 Every question is a text in DIMACS form, which test_dimacs, minisat and cadical read. test_dimacs checks each clause that it learns;
-cadical is measured without and with a proof, which nothing checks. minisat is measured with and without the preprocessing that
-eliminates variables, which test_dimacs does not have."""
+cadical is measured without and with a proof, which nothing checks. minisat is measured with and without its preprocessing."""
 import itertools
 import os
 import random
