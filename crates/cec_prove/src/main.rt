@@ -24,14 +24,7 @@ fn main(rt: HostRuntime) -> ExitCode {
     let mut files = DiskFiles::new(&rt);
     let mut out = WriterSink::new(rt.stdout());
     let progress = rt.stderr().is_terminal();
-    let outcome = cec_prove(
-        rt.alloc(),
-        &words,
-        &mut files,
-        &mut out,
-        &mut err,
-        progress,
-    );
+    let outcome = cec_prove(rt.alloc(), &words, &mut files, &mut out, &mut err, progress);
     ExitCode::from(outcome.number())
 }
 

@@ -46,7 +46,7 @@ pub(crate) fn report_after<E: Sink>(
     ensures { (before : Option (List ℕ)) (faults : ℕ) (lines : List ℕ)
         → Wrote before (E.told err.old) faults (E.faults err.old) lines told
         → GainsLine before (E.told err.new) faults (E.faults err.new)
-            (lines ++ line_of (subject_is subject.entry) outcome.now) }
+        (lines ++ line_of (subject_is subject.entry) outcome.now) }
 {
     match told {
         Ok(()) => report(err, subject, outcome),

@@ -111,12 +111,7 @@ fn covering_answer(alloc: Global, job: Job<'_>, text: &[u8], effort: u64) -> Ans
     }
 }
 
-fn covering(
-    alloc: Global,
-    job: Job<'_>,
-    text: &[u8],
-    effort: u64,
-) -> Result<Covering, Refusal>
+fn covering(alloc: Global, job: Job<'_>, text: &[u8], effort: u64) -> Result<Covering, Refusal>
     requires { length text.now ≤ Limits.SOURCE_BYTES }
     ensures covers { IfOk result (HasCovering text.now (job_is job.entry).main (job_is job.entry).assumed) }
     ensures refuses { IfErr result (IsRefused text.now (job_is job.entry).main) }

@@ -26,7 +26,7 @@ pub(crate) fn answer_outcome<O: Sink>(answer: Answer, out: &mut O) -> ProveOutco
         → SaysOfTexts task result job first second }
     ensures out { (task : Task) (job : Job) (first second : List ℕ) → IsAnswer answer task job first second
         → LeavesText (IsWrittenBy task result job first second) (change O.told O.faults out.old out.new)
-            (written_of result) }
+        (written_of result) }
 {
     match answer {
         Answer::Asked(verdict) => verdict_outcome(verdict, out),
