@@ -160,7 +160,8 @@ def after_declaration(text, at, expected):
     ends = before[-1].end
     line = line_and_column(text, ends)[0]
     if line == line_and_column(text, at)[0]:
-        return at, "`;` is missing before this `%s`" % now.kind
+        # A bracket after a name on the same line is a range of bits.
+        return None if now.kind == "[" else (at, "`;` is missing before this `%s`" % now.kind)
     return ends, "`;` is missing at the end of line %d" % line
 
 
