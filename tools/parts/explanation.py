@@ -27,7 +27,7 @@ NOTES = {
 }
 WHERE_DECLARED = {
     "signal": "declare it: `input NAME;` or `output NAME;` before the body, or `signal NAME in p end` around its use",
-    "trap": "an `exit NAME` is inside of its block, `trap NAME in .. end`",
+    "trap": "an `exit NAME` is inside of its block, `trap NAME in .. end`; a module does not see a trap around its `run`: use a signal",
     "module": "a file has all its modules: write `module NAME: .. end module` into it",
 }
 FIRST_IS = {"module declared twice": "module", "signal declared twice": "signal"}
