@@ -312,7 +312,8 @@ function begin() {
   Object.keys(PANES).forEach(name => get("choice").append(new Option(name)));
   get("choice").addEventListener("change", () => showPane(true));
   document.addEventListener("keydown", event => {
-    if (event.key === "Enter" && event.target.tagName !== "BUTTON" && event.target.tagName !== "SELECT") step();
+    // Also on an input that was clicked: the browser would click it once more.
+    if (event.key === "Enter" && event.target.tagName !== "SELECT") { event.preventDefault(); step(); }
     const move = { ArrowLeft: -1, ArrowRight: 1 }[event.key];
     if (move && instants.length) { chosen = Math.max(0, Math.min(instants.length - 1, chosen + move)); show(); }
   });
