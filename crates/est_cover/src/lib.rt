@@ -1,8 +1,8 @@
 //! Programs that show which of their points are reached.
 //!
-//! A point is a place of a flat program that a run can reach: an emission, a pause, a wait or a branch. A covered
-//! program has a new outgoing signal for each point of a portion, and emits it where the point is. `specs/Points.antt`
-//! lists the points, and `specs/Covered.antt` defines the covered program.
+//! A point of a flat program is one of its emissions, pauses, waits or branches of a test. A covered program has a new
+//! outgoing signal for each point of a portion, and emits it where a run reaches the point. `specs/Points.antt` lists
+//! the points, and `specs/Covered.antt` defines the covered program.
 #![tactic(auto)]
 
 mod covering;
