@@ -1,13 +1,13 @@
 //! The ground of the compiler: what every pass shares.
 //!
 //! - Places in a source (`Span`), typed indices, and names as bytes (`Text`).
-//! - Sets of completion codes (`CodeSet`). The codes are those of Berry, "The Constructive Semantics of Pure Esterel": 0
-//!   is termination, 1 a pause, and k of at least 2 leaves the trap that is k - 2 traps further out.
+//! - Sets of completion codes (`CodeSet`). The codes are those of Berry, "The Constructive Semantics of Pure Esterel":
+//!   0 is termination, 1 a pause, and k of at least 2 leaves the trap that is k - 2 traps further out.
 //! - What a program says of its signals (`SignalInfo`, `InputRelation`).
 //! - The stated limits (`Limits`), out of memory (`NoMemory`) and other early ends (`Stop`).
 //! - Draws from a start number (`Draw`).
-//! - What is read and written: `Files` and `Sink`, over the disk and standard output, and in memory. `put` adds bytes to
-//!   the end of a text.
+//! - What is read and written: `Files` and `Sink`, over the disk and standard output, and in memory. `put` adds bytes
+//!   to the end of a text.
 #![tactic(auto)]
 
 mod bounds;

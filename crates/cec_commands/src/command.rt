@@ -22,32 +22,39 @@ use std::alloc::Global;
 
 /// Does what the words after the program's name ask for, and says how it ended.
 ///
-/// `blif FILE` reads the source under that name and writes its BLIF text to `out`, `c FILE` its C text, `verilog FILE`
-/// its Verilog text, `c --guard FILE` its guarded C text, each piece by piece, `grc FILE` the listing of its graph, and
-/// `check FILE` a line of counts. `run --via blif FILE TRACE`, or `--via c`, `--via guard` or
-/// `--via verilog`, compiles the source, writes its text of that form into memory, reads it again and runs it over the
-/// trace: one line for each instant, right after its reaction. `exec --via blif TEXT TRACE`, or `--via c`,
-/// `--via guard` or `--via verilog`, runs a text by its own meaning. By a guarded text both write the number of
-/// assignments of all calls after a whole run. `gen --start N --branches N` writes a generated source, with `--run N`
-/// the numbers of its run over a number of drawn events, by its BLIF and by its C text, and `--help` the list of the
-/// commands. `--main M` names the main module, `--pick first`, `--pick last` or `--pick N` says how the evaluation
-/// order of a text is chosen. With `--encode` the latches of the BLIF text, which `blif` writes and `run --via blif`
-/// runs, hold the state in a code.
+/// `blif FILE` reads the source under that name and writes its BLIF text to `out`, piece by piece. In the same way
+/// `c FILE` writes its C text, `verilog FILE` its Verilog text, and `c --guard FILE` its guarded C text. `grc FILE`
+/// writes the listing of its graph, and `check FILE` a line of counts.
+///
+/// `run --via blif FILE TRACE`, or `--via c`, `--via guard` or `--via verilog`, compiles the source, writes its text of
+/// that form into memory, reads it again and runs it over the trace. It writes one line for each instant, right after
+/// its reaction. `exec --via blif TEXT TRACE`, or `--via c`, `--via guard` or `--via verilog`, runs a text by its own
+/// meaning. With `--via guard`, both end a complete run with the number of assignments that all calls ran.
+///
+/// `gen --start N --branches N` writes a generated source. With `--run N` it writes instead the numbers of a run of
+/// that source over generated events, via its BLIF text and via its C text. `--help` writes the list of the commands.
+///
+/// `--main M` names the main module. `--pick first`, `--pick last` or `--pick N` says how the evaluation order of a
+/// text is chosen. With `--encode` the latches of the BLIF text, which `blif` writes and `run --via blif` runs, hold
+/// the state in a code.
+///
 /// Every other list of words is `Usage`. For every outcome but `Done` one line goes to `err`; a write to `err` that
 /// fails changes no outcome.
 ///
-/// For `Done` of `blif` the compiler-correctness theorem holds of the text that `out` gained (`TextKeeps`): it has a
-/// reading by the BLIF profile with the program's inputs, and its outputs and then `_paused`, and over every list of
-/// events that meet the relations each reaction of the source is constructive, the text has a run, any two runs agree,
-/// and the outputs and `_paused` are those of the reactions; with `--encode` too. For `c` it holds the same, by the
-/// machine of the C subset (`CTextKeeps`), with `--guard` by that of guarded programs (`GuardedTextKeeps`, and
-/// `IsGuardedOf` on what its calls run), and for `verilog` by that of the text's module (`VerilogTextKeeps`). For
-/// `run` the lines are those of the source's own reactions to the items of the trace (`RunsSource`), whichever text it
-/// is run by, and for `exec` those of the text's own run (`RunsBy`).
+/// For `Done` of `blif` the compiler-correctness theorem holds of the text that `out` gained (`TextKeeps`). The text
+/// has a reading by the BLIF profile, with the program's inputs, and with its outputs followed by `_paused`. Over every
+/// list of events that meet the relations, each reaction of the source is constructive, and the text has a run. Any two
+/// runs agree, and the outputs and `_paused` are those of the reactions. All this holds with `--encode` too.
+///
+/// For `c` the theorem holds with the machine of the C subset (`CTextKeeps`), and for `verilog` with that of the text's
+/// module (`VerilogTextKeeps`). For `c --guard` it holds with the machine of guarded programs (`GuardedTextKeeps`), and
+/// `IsGuardedOf` states what the calls run. For `run` the lines are those of the source's own reactions to the items of
+/// the trace (`RunsSource`), whichever text runs. For `exec` they are those of the text's own run (`RunsBy`).
+///
 /// `Static`, `Cyclic`, `Trace`, `BadText` and `Limit` come only where the source, the trace or the text has their
 /// cause; for `Cyclic` that is a cycle of the dependency relation, which is shown. That nothing but such a cause, a
 /// failing file or sink, or out of memory keeps a command from being done is the law `accepted_requests_are_done`.
-/// Running out of memory may come between two pieces, or two lines, and leaves a prefix.
+/// Running out of memory can truncate the output at a piece or line boundary.
 ///
 /// Example: the words `blif` and `abro.strl` write the BLIF text of that file to `out`, and the outcome is `Done`,
 /// status 0.

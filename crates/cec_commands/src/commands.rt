@@ -1,5 +1,6 @@
-// The commands, one module each for those that read no file, make a text, run a source by a text of it or by its
-// graph, run a text, or run a generated source; and one in which a form of texts is reported by its language.
+// The commands. `plain` has those that read no file, and `make` those that make a text. `run` runs a source via a text
+// of it, `tri` via its graph. `exec` runs a text, and `load` a generated source. `texts` reports a form of texts by its
+// language.
 
 pub(crate) mod exec;
 pub(crate) mod load;

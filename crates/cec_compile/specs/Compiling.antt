@@ -43,18 +43,18 @@ pub record IsGraphed (g : Graphed) (p : Program) : Type 0 where
   pub edges : AreEdgesOf (names_of g.graph) (program_edges p) g.edges.pairs.items
   pub ranks : AreRanks g.edges.count g.edges.pairs.items g.ranks.of.items
 
--- The order of a compiled program is one along the edges of its graph: no wire stands before one that has an edge to
+-- The order of a compiled program is one along the edges of its graph: no wire comes before one that has an edge to
 -- it.
 pub record FollowsEdges (c : Compiled) (p : Program) : Type 0 where
   pub pairs : List WireEdge
   pub edges : AreEdgesOf (names_of c.graph) (graph_edges (is_shared c.graph) p) pairs
   pub order : IsWireOrder (length c.graph.wires.items) pairs c.order.list.items
 
--- A graph of the program, its own or that of its shared wires, an evaluation order along its edges, and its netlist:
--- the netlist has at most so many gates, by the wires and the live test nodes of the program's own graph and, where
--- wires are shared, by those of the shared one too; one of them stands for each wire of the graph, in that order. Its
--- first latch tells the first instant; the others, one for each leaf of the selection tree, are false at first. It
--- keeps what the program means, and has nothing left to simplify.
+-- A graph of the program, its own or that of its shared wires, an evaluation order along its edges, and its netlist.
+-- The wires and the live test nodes of the program's own graph bound the number of gates; where wires are shared, those
+-- of the shared graph do too. There is one gate for each wire of the graph, in that order. The first latch marks the
+-- first instant; the others, one for each leaf of the selection tree, are false at first. The netlist keeps what the
+-- program means, and has nothing left to simplify.
 pub record IsCompiled (c : Compiled) (p : Program) : Type 0 where
   pub formed : IsWellFormed p
   pub no_loop : NoInstantLoop p.body

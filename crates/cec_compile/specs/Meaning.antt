@@ -52,9 +52,9 @@ outgoing_words p = map (output_word (given_names p)) (outgoing_names p)
 abbrev pub circuit_seen : Program → (List ℕ → Bool) → Seen
 circuit_seen p v = record { outputs = map v (outgoing_words p); paused = v paused_word }
 
--- A text has a reading by the BLIF profile, with the program's name, its given signals, and its outgoing signals and
--- then `_paused`, in declared order, which keeps what the program means; and any two of its runs agree on every driven
--- name.
+-- A text has a reading by the BLIF profile that keeps what the program means. Its name is the program's, its inputs are
+-- the given signals, and its outputs are the outgoing signals and then `_paused`, in declared order. Any two of its
+-- runs agree on every driven name.
 pub record TextKeeps (text : List ℕ) (p : Program) : Type 0 where
   pub circuit : Circuit
   pub reads : reading text ≡ Ok circuit
@@ -91,9 +91,9 @@ output_wires p = map (λ name. codes "o_" ++ name) (outgoing_names p)
 abbrev pub module_seen : Program → (List ℕ → Bool) → Seen
 module_seen p v = record { outputs = map v (output_wires p); paused = v (codes "paused") }
 
--- A text describes a module with the program's name, the clock and then one input for each given signal, and one output
--- for each outgoing signal and then `paused`, in declared order, which keeps what the program means; and any two of its
--- runs agree on every driven name.
+-- A text describes a module with the program's name that keeps what the program means. Its inputs are the clock and
+-- then one for each given signal. Its outputs are one for each outgoing signal and then `paused`. All are in declared
+-- order. Any two of its runs agree on every driven name.
 pub record VerilogTextKeeps (text : List ℕ) (p : Program) : Type 0 where
   pub design : VerilogModule
   pub describes : module_texts.Describes text design

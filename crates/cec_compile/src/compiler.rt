@@ -20,9 +20,9 @@ use vlog_text::VlogWriter;
 /// main module; without it that is the first one. The picker chooses in which order gates are in the text; whether
 /// the source is refused, and what the text means, do not depend on it.
 ///
-/// The compiler-correctness theorem holds of the text (`TextKeeps`): it has a reading by the BLIF profile, and over
-/// every list of events that meet the source's relations each reaction of the source is constructive, the text has a
-/// run, any two runs agree, and the outputs and `_paused` are those of the reactions.
+/// The compiler-correctness theorem holds of the text (`TextKeeps`): it has a reading by the BLIF profile. Over every
+/// list of events that meet the source's relations, each reaction of the source is constructive, and the text has a
+/// run. Any two runs agree, and the outputs and `_paused` are those of the reactions.
 ///
 /// A source is refused for its first fault or the first limit that it passes, and as cyclic exactly where there is none
 /// and its dependency relation has a cycle; one is shown. Running out of memory is an error of its own.
@@ -44,11 +44,11 @@ pub fn blif_of<P: Picker>(
     }
 }
 
-/// The BLIF text of a source, the same, whose latches hold the state in a code: pauses of which one alone can be
-/// selected share latches. There are just as many as the selection tree needs (`encoded_count`), and never more than in
-/// the text of `blif_of`. What is promised of that text holds of this one, but for its number of latches, and for its
-/// tables: beside those of the compiled program's netlist it may have 64 for each pair of a node of the selection tree
-/// and a latch (`IsEncoded`). It refuses what `blif_of` refuses.
+/// The BLIF text of a source, with latches that hold the state in a code: pauses that can never be selected together
+/// share latches. It has exactly the latches that the selection tree needs (`encoded_count`), and never more than the
+/// text of `blif_of`. What is promised of that text holds of this one, except for the numbers of latches and tables. In
+/// addition to the tables of the compiled program's netlist it may have 64 for each pair of a node of the selection
+/// tree and a latch (`IsEncoded`). It refuses what `blif_of` refuses.
 pub fn encoded_blif_of<P: Picker>(
     alloc: Global,
     text: &[u8],
@@ -68,10 +68,10 @@ pub fn encoded_blif_of<P: Picker>(
     }
 }
 
-/// The C text of a source, the same: the text is in the C subset, with one variable for each given and each outgoing
-/// signal, and over every list of events that meet the source's relations each reaction of the source is constructive,
-/// and the machine's outputs and the value that it returns are those of the reactions (`CTextKeeps`). It refuses what
-/// `blif_of` refuses.
+/// The C text of a source, in the same way (`CTextKeeps`). The text is in the C subset, with one variable for each
+/// given and each outgoing signal. Over every list of events that meet the source's relations, each reaction of the
+/// source is constructive. The machine's outputs and the value that it returns are those of the reactions. It refuses
+/// what `blif_of` refuses.
 pub fn c_of<P: Picker>(
     alloc: Global,
     text: &[u8],
@@ -89,10 +89,10 @@ pub fn c_of<P: Picker>(
     }
 }
 
-/// The Verilog text of a source, the same: the text describes a module `m_NAME` with the clock `clk`, an input for each
-/// given signal, an output for each outgoing signal, and `paused`; and over every list of events that meet the source's
-/// relations each reaction of the source is constructive, the module has a run, any two runs agree, and the outputs and
-/// `paused` are those of the reactions (`VerilogTextKeeps`). It refuses what `blif_of` refuses.
+/// The Verilog text of a source, in the same way (`VerilogTextKeeps`). The text describes a module `m_NAME` with the
+/// clock `clk`, an input for each given signal, an output for each outgoing signal, and `paused`. Over every list of
+/// events that meet the source's relations, each reaction of the source is constructive, and the module has a run. Any
+/// two runs agree, and the outputs and `paused` are those of the reactions. It refuses what `blif_of` refuses.
 pub fn verilog_of<P: Picker>(
     alloc: Global,
     text: &[u8],

@@ -33,11 +33,10 @@ pub struct GuardedMade {
     pub text: Vec<u8>,
 }
 
-/// The guarded C text of a source, the same: the text is that of the program's own graph, whose wires are not shared,
-/// in the C subset, but that the gates of a head that stand one after another are a block, which a call skips where
-/// the head does not run. The theorem holds of it by the machine of guarded programs (`GuardedTextKeeps`), and a call
-/// runs the assignments of that text except for the gates that it skips (`IsGuardedOf`). It refuses what `blif_of`
-/// refuses.
+/// The guarded C text of a source. It is the C text of the program's own graph, whose wires are not shared, except that
+/// consecutive gates of one head form a block. A call skips the block when the head does not run. The theorem holds of
+/// the text with the machine of guarded programs (`GuardedTextKeeps`). A call runs the assignments of that C text,
+/// except for the gates that it skips (`IsGuardedOf`). It refuses what `blif_of` refuses.
 pub fn guarded_c_of<P: Picker>(
     alloc: Global,
     text: &[u8],

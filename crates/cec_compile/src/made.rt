@@ -49,8 +49,8 @@ pub fn source_made<P: Picker>(
     Ok(made)
 }
 
-// A source compiled for a text of a form. The blocks of a guarded text are told by the program's own graph, so that its
-// wires are not shared.
+// A source compiled for a text of a form. The blocks of a guarded text come from the program's own graph, so its wires
+// are not shared.
 fn compiled_for<P: Picker>(
     alloc: Global,
     form: TextForm,

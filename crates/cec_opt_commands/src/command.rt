@@ -38,24 +38,25 @@ const VERSION: &[u8] = b"cec-opt 0.1.0\n";
 /// Does what the words after the program's name ask for, and says how it ended.
 ///
 /// `blif TEXT` reads the BLIF text under that name, makes the netlist of its circuit, optimizes it, and writes its BLIF
-/// text to `out`, `c TEXT` its C text, and `verilog TEXT` its module of structural Verilog, piece by piece, with the
-/// interface of the text. `check TEXT` writes two lines of counts, of the circuit that was read and of the optimized
-/// one, `--help` the list of the commands, and `--version` the program's name and version. Every other list of words is
-/// `Usage`. For every outcome but `Done` one line goes to `err`, which for `Usage` names the word at fault; a write to
-/// `err` that fails changes no outcome.
+/// text to `out`. `c TEXT` writes its C text, and `verilog TEXT` its module of structural Verilog. All three write
+/// piece by piece, and keep the interface of the text. `check TEXT` writes two lines of counts, of the circuit that was
+/// read and of the optimized one. `--help` writes the list of the commands, and `--version` the program's name and
+/// version. Every other list of words is `Usage`. For every outcome except `Done` one line goes to `err`, which for
+/// `Usage` names the word at fault. A write to `err` that fails changes no outcome.
 ///
 /// With `--source FILE` in place of `TEXT` the file has a source, which is compiled first, by its module of the name
 /// after `--main`, or by its first one. Its plain and its encoded netlist are optimized, and the lighter one is written
 /// (`IsLightNetOf`). For `Done` the text keeps what the source's program means, as the texts of `cec` do
 /// (`IsSourceAnswer`). `Refused` has the cause for which `cec` refuses the source.
 ///
-/// For `Done` of `blif`, `c` and `verilog` the text that `out` gained has the interface of the text that was read, and
-/// over every list of items, resets included, whose events have one value for each input, both have a run, and all runs
-/// of both show the same values of the outputs, `_paused` among them (`IsAnswer`). It has no more gates and no more
-/// latches than the circuit's netlist, and nothing is left to simplify.
-/// `BadText` and `TooLong` come only where the text has their cause. That nothing but such a cause, a failing file or
-/// sink, or want of memory keeps a command from being done is the law `accepted_texts_are_done`. Want of memory may
-/// come between two pieces, and leaves a prefix.
+/// For `Done` of `blif`, `c` and `verilog` the text that `out` gained has the interface of the text that was read. Take
+/// any list of items, resets included, whose events have one value for each input. Both texts have a run over it, and
+/// all runs of both show the same values of the outputs, `_paused` among them (`IsAnswer`). The new text has no more
+/// gates and no more latches than the circuit's netlist, and nothing is left to simplify.
+///
+/// `BadText` and `TooLong` come only where the text has their cause. By the law `accepted_texts_are_done`, only such a
+/// cause, a failing file or sink, or running out of memory keeps a command from being done. Running out of memory can
+/// truncate the output at a piece boundary.
 pub fn cec_opt<F: Files, O: Sink, E: Sink>(
     alloc: Global,
     words: &[String],

@@ -21,8 +21,8 @@ use std::alloc::Global;
 use vlog_text::write_verilog;
 
 /// The BLIF text of the small netlist of a source. The compiler-correctness theorem holds of the text (`TextKeeps`), as
-/// of that of `cec_compile::blif_of`: it has a reading by the BLIF profile, and over every list of events that meet the
-/// source's relations each reaction of the source is constructive, the text has a run, any two runs agree, and the
+/// of that of `cec_compile::blif_of`: it has a reading by the BLIF profile. Over every list of events that meet the
+/// source's relations, each reaction of the source is constructive, and the text has a run. Any two runs agree, and the
 /// outputs and `_paused` are those of the reactions. It refuses what `blif_of` refuses.
 ///
 /// Example: the text of `module M: output O; emit O end module` begins with `.model M`.

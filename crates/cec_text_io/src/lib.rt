@@ -1,9 +1,9 @@
-//! What programs share that read files, write texts and tell what they refuse in a line.
+//! What programs share that read files, write texts and report in a line what they refuse.
 //!
-//! A text is written whole where it is in memory (`write_whole`), or piece by piece, each piece right when it is made
-//! (`write_in_pieces`, and `write_net_in_pieces` for the text of a netlist in any language), and how that ended is a
-//! `Written`. `Collected` is a sink that keeps all bytes, and `joined` puts
-//! pieces together in memory. `put_loop` is the line of a combinational cycle.
+//! `write_whole` writes a text that is in memory. `write_in_pieces` writes a text piece by piece, each piece as soon as
+//! it is made, and `write_net_in_pieces` does so with the text of a netlist in any language. All three return how the
+//! writing ended, as a `Written`. `Collected` is a sink that keeps all bytes, and `joined` puts pieces together in
+//! memory. `put_loop` writes the line of a combinational cycle.
 #![tactic(auto)]
 
 mod collected;

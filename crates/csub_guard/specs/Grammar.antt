@@ -2,6 +2,7 @@
 -- with the rules of the C subset for states, globals, locals, assignments and what is returned:
 --
 --   text   = { state } { global } "int" "react" "(" "void" ")" "{" { local } { assign | block } "return" expr ";" "}"
+--
 --   block  = "if" "(" NAME ")" half [ "else" half ]
 --   half   = "{" { assign } "}"
 use Rattle.std.specs.Prelude.{ℕ, max, List, [], ◌∷◌, map, Option, Some, None}

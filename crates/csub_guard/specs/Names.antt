@@ -1,8 +1,8 @@
 -- To believe: the rules on names of guarded programs. All declared names differ; each name that is used is declared,
 -- and no input is assigned; a block tests a local, and in a block only locals are assigned. A local is assigned at one
 -- place, or once in each half of one block. A local is read only after it was assigned outside of blocks, or in both
--- halves of one block, or, in a half under a test, in the same kind of half under the same test; the local of a test
--- was assigned outside of blocks. The first rule that is broken counts, at its first place in the text.
+-- halves of one block. In a half, an assignment in the same kind of half under the same test also counts. The local of
+-- a test was assigned outside of blocks. The first rule that is broken counts, at its first place in the text.
 use Rattle.std.specs.Prelude.{ℕ, ◌+◌, ◌==◌, Bool, true, false, not, ◌&&◌, ◌||◌, List, [], ◌∷◌, ◌++◌, map, flat_map}
 use Rattle.std.specs.Prelude.{Option, Some, None, if◌then◌else◌}
 use Rattle.std.specs.List.{list_any}

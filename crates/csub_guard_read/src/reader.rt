@@ -24,16 +24,19 @@ use csub_read::Token;
 use net_expressions::place_at;
 use std::alloc::Global;
 
-// How many `!` and `(` may stand one in another.
+// How deeply `!` and `(` may be nested.
 const NESTING: u32 = 200;
 
-/// The program that a guarded text describes, or its first fault: a text that is too long, else the first token that
-/// no guarded text passes, else the first name that is declared a second time, else the first name that is used and may
-/// not be so used, else the first local that is assigned at a second place, else the first local that is read or tested
-/// before it is assigned where that counts.
+/// The program that a guarded text describes, or the first of its faults in this order:
 ///
-/// The time and the memory that it takes are linear in the length of the text, and it recurses only as deep as brackets
-/// and `!` stand one in another.
+/// 1. the text is too long
+/// 2. the first token that no guarded text has there
+/// 3. the first name that is declared a second time
+/// 4. the first name that is used and may not be used so
+/// 5. the first local that is assigned at a second place
+/// 6. the first local that is read or tested before it is assigned where that counts
+///
+/// Time and memory are linear in the length of the text. The recursion is only as deep as brackets and `!` are nested.
 pub fn read_guarded(alloc: Global, text: &[u8]) -> Result<GuardedProgram, Stop<GuardedFault>>
     ensures reads { IfOk result (λ p. ReadsAs text.now (program_of p)) }
     ensures keeps_names { IfOk result (λ p. name_fault (program_of p) ≡ None) }

@@ -25,8 +25,8 @@ abbrev pub skipped : Netlist → List (Option WireId) → List Bool → ℕ
 skipped net regions values = count_by (is_skipped net values) (owners net (region_by net regions))
 
 -- A text means a net with these regions: it describes a guarded program with the net's inputs, outputs and latches.
--- Over all items over which, in each instant of the net's run, the regions are at rest with their heads, it shows at
--- each call what the net shows at the event, and runs the assignments of the text of the C subset, except for the gates
+-- Take any items over which the regions are at rest with their heads, in each instant of the net's run. Then each call
+-- shows what the net shows at the event, and runs the assignments of the text of the C subset, except for the gates
 -- that are skipped.
 pub record GuardedMeans (text : List ℕ) (net : Netlist) (regions : List (Option WireId)) : Type 0 where
   pub program : Program

@@ -19,16 +19,20 @@ use csub_text::CProgram;
 use net_expressions::{lex, place_at};
 use std::alloc::Global;
 
-// How many `!` and `(` may stand one in another.
+// How deeply `!` and `(` may be nested.
 const NESTING: u32 = 200;
 
-/// The program that a text of the C subset describes, or its first fault: a text that is too long, else the
-/// first token that no text of the subset passes, else the first name that is declared a second time, else the
-/// first name that is used and not declared or is an input and assigned, else the first local that is read
-/// before it is assigned. Left of `=` stands before right of it.
+/// The program that a text of the C subset describes, or the first of its faults in this order:
 ///
-/// The time and the memory that it takes are linear in the length of the text, and it recurses only as deep as
-/// brackets and `!` stand one in another.
+/// 1. the text is too long
+/// 2. the first token that no text of the subset has there
+/// 3. the first name that is declared a second time
+/// 4. the first name that is used and not declared, or that is an input and assigned
+/// 5. the first local that is read before it is assigned
+///
+/// A name to the left of `=` comes before those to the right of it.
+///
+/// Time and memory are linear in the length of the text. The recursion is only as deep as brackets and `!` are nested.
 ///
 /// Example: `int I_A; int O_O; int react(void) { O_O = I_A; return 0; }` is a program whose output is its input.
 pub fn read_c(alloc: Global, text: &[u8]) -> Result<CProgram, CError>

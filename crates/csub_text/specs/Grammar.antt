@@ -2,11 +2,11 @@
 -- with the expressions of expr_text over `!`, `&`, `|`, `0` and `1`:
 --
 --   text   = { state } { global } "int" "react" "(" "void" ")" "{" { local } { assign } "return" expr ";" "}"
+--
 --   state  = "static" "int" NAME "=" ( "0" | "1" ) ";"
---   global = "int" NAME ";"        the name begins with I_ or O_ and is longer
---   local  = "int" NAME ";"
+--   global = "int" NAME ";"        The name begins with I_ or O_ and is longer.
+--   local  = "int" NAME ";"        The name does not begin with I_ or O_, and neither does that of a state.
 --   assign = NAME "=" expr ";"
--- The name of a state or a local does not begin with I_ or O_.
 use Rattle.std.specs.Prelude.{ℕ, max, Bool, true, false, ◌||◌, ◌&&◌, List, [], ◌∷◌, length, nat_lt}
 use Rattle.std.specs.Prelude.{take, codes, Option, Some, None, if◌then◌else◌, map}
 use Rattle.base_types.specs.Names.{is_same_name}

@@ -4,14 +4,18 @@
 --
 --   program = module { module }
 --   module  = "module" NAME ":" { decl } stmt ( "end" "module" | "." )
+--
 --   decl    = ( "input" | "output" | "inputoutput" ) NAME { "," NAME } ";" | "relation" rel { "," rel } ";"
 --   rel     = NAME "=>" NAME | NAME "#" NAME { "#" NAME }
+--
 --   stmt    = seq { "||" seq }
 --   seq     = item { ";" item } [ ";" ]
 --   case    = "case" expr [ "do" stmt ]
+--
 --   delay   = [ "immediate" | NUMBER ] event
 --   count   = [ NUMBER ] event
 --   event   = NAME | "tick" | "[" expr "]"
+--
 --   expr    = conj { "or" conj }
 --   conj    = neg { "and" neg }
 --   neg     = "not" neg | NAME | "tick" | "(" expr ")" | "[" expr "]"

@@ -108,10 +108,10 @@ aborting_counted at count e x code p =
     (terms.Seq (sequence (times count (awaiting at e))) (terms.Seq (terms.Emit x) (terms.Exit 2))))
 
 -- An abortion without `do`, by a delay, with the number of the next new signal:
---   abort p when e            trap T in [suspend p when e; exit T] || [loop pause; present e then exit T end end] end
---   abort p when immediate e  present e else abort p when e end
---   abort p when n e          trap T in signal x in [suspend p when x; exit T] || [await n e; emit x; exit T] end end
--- A count of 1 is as no count.
+--   abort p when e:           trap T in [suspend p when e; exit T] || [loop pause; present e then exit T end end] end
+--   abort p when immediate e: present e else abort p when e end
+--   abort p when n e:         trap T in signal x in [suspend p when x; exit T] || [await n e; emit x; exit T] end end
+-- A count of 1 means the same as no count.
 abbrev pub abortion : Span → Delay → ℕ → Term → Term
 abortion at (Plain event) x p = terms.Trap (aborting at (expression event) 2 p)
 abortion at (Immediate event) x p =

@@ -1,4 +1,4 @@
--- To believe: what a call answers, by what is defined: the same value, or the same fault. Want of memory says nothing.
+-- To believe: what a call answers, by what is defined: the same value, or the same fault. `NoMemory` fits any result.
 use Rattle.std.specs.Prelude.{◌≡◌, Option, Some, None, Result, Ok, Err}
 use Rattle.est_expand.specs.declared.refusal.ExpandFault.{ExpandFault}
 use Rattle.est_expand.specs.declared.refusal.ExpandFault.TheVariants as code

@@ -20,8 +20,8 @@ FlatFormsAreNamed = (modules : SourceProgram) (main : Module) → IsNamedModule 
     → IfOk (flattened modules main) IsNamed
 
 -- Renaming captures nothing. Let two programs be the same except for the names of what their modules bind, and let the
--- body of a main module be written for another one in the same way. Then the flat forms are the same but for the names
--- of local signals, or both programs have one fault at one place.
+-- body of a main module be written for another one in the same way. Then the flat forms are the same except for the
+-- names of local signals, or both programs have the same fault at the same place.
 abbrev pub RenamingChangesNamesAlone : Type 0
 RenamingChangesNamesAlone =
     (modules others : SourceProgram) (main : Module) (body : Stmt) → SamePrograms modules others

@@ -97,7 +97,7 @@ fn push_signals(
 ) -> Result<(), NoMemory>
     ensures names { OnOk result (map (λ s. s.name) signals.new.items
         ≡ map (λ s. s.name) signals.old.items ++ map (λ name. name.now) names.now) }
-    // As many as there are names at most, also where memory is wanting.
+    // At most one signal is added for each name, also if memory runs out.
     ensures few { length signals.new.items ≤ length signals.old.items + length names.now }
 {
     for name in names {

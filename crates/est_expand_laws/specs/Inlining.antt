@@ -1,7 +1,8 @@
 -- Contract: a program without `run` in the place of one with modules. Each `run` becomes the body of its module in
--- brackets, in which the formals are replaced by their actuals and the module's own names, those of its local signals
--- and traps, are written apart from those of all modules around it. This is the copy rule for procedures of Naur (ed.),
--- "Revised Report on the Algorithmic Language Algol 60", for the modules of Berry, "The Esterel v5 Language Primer".
+-- brackets. In this body, actuals replace the formals. The module's own names, those of its local signals and traps,
+-- are written so that they differ from the names of all modules around it. This is the copy rule for procedures of Naur
+-- (ed.), "Revised Report on the Algorithmic Language Algol 60", for the modules of Berry, "The Esterel v5 Language
+-- Primer".
 use Rattle.std.specs.Prelude.{ℕ, zero, suc, ◌+◌, if◌then◌else◌, List, [], ◌∷◌, map, Option, Some, None, find}
 use Rattle.base_types.specs.declared.bounds.TheConstants.Limits.{DEPTH}
 use Rattle.base_types.specs.Names.{is_same_name}
@@ -19,12 +20,12 @@ use Rattle.est_expand.specs.Scopes.{interface}
 
 -- ---- names
 
--- A name of a module that is in so many runs, the main module in none. It has their number before it, so it is
--- apart from each name of a module around it.
+-- A name of a module that is inside this number of runs; the main module is in none. The number precedes the name, so
+-- the name differs from each name of a module around it.
 abbrev pub own : ℕ → List ℕ → List ℕ
 own depth name = depth ∷ name
 
--- where a statement stands: in so many runs, and what each name of a signal becomes there
+-- where a statement is: the number of runs around it, and what each name of a signal becomes there
 pub record Place : Type 0 where
   pub depth : ℕ
   pub becomes : List ℕ → List ℕ

@@ -11,8 +11,8 @@ pub data Expression : Type 0 where
   Or : (a b : Expression) → Expression
 
 -- The eleven kernel statements, and one more form for what is left of a statement after an instant.
--- Awake e p is a suspension that was started in an earlier instant; it stands in place of the
--- expansion that Berry gives for a suspension that goes on.
+-- Awake e p is a suspension that was started in an earlier instant. It replaces the expansion that
+-- Berry gives for a suspension that goes on.
 pub data Term : Type 0 where
   Nothing : Term
   Pause : Term

@@ -23,10 +23,13 @@ use std::alloc::Global;
 /// The table of a program's modules, where the names have no fault. The main module is the one of the given
 /// name, or the first where no name is given.
 ///
-/// Else the first fault: `DuplicateModule` at the first module name that an earlier module has; `NoMain`
-/// where no module has the given name; then, in the order of the text, `DuplicateSignal` at a name that is
-/// declared a second time in one interface or after one `signal`, or `RelationName` at a name in a relation
-/// that its module does not declare as an input or an inputoutput.
+/// Else the first fault, in this order:
+///
+/// - `DuplicateModule` at the first module name that an earlier module has.
+/// - `NoMain` where no module has the given name.
+/// - The first of the following in the order of the text:
+///   `DuplicateSignal` at a name that is declared a second time in one interface or after one `signal`, or
+///   `RelationName` at a name in a relation that its module does not declare as an input or an inputoutput.
 ///
 /// Names are found by their hashes, so the time and the memory are linear in the program.
 ///

@@ -18,7 +18,7 @@ use Rattle.est_parse.specs.Unplaced.{unplaced}
 abbrev pub kinds_of : List Token → List Kind
 kinds_of tokens = map (λ token. token.kind) tokens
 
--- To tokens that spell a tree, wherever they stand, the grammar gives this tree, except for its places.
+-- To tokens that spell a tree, wherever they are, the grammar gives this tree, except for its places.
 abbrev pub SpellingsAreGrammatical : Type 0
 SpellingsAreGrammatical =
     (p : SourceProgram) → IsSpellable p → (tokens : List Token)
@@ -29,8 +29,8 @@ SpellingsAreGrammatical =
 abbrev pub TreesAreSpellable : Type 0
 TreesAreSpellable = (p : SourceProgram) (tokens : List Token) → SpellsProgram p tokens → IsSpellable p
 
--- What `parse` may answer, by its contract, to tokens that spell a tree nested at most 200 deep: this tree, but for its
--- places, and no fault; out of memory is its own.
+-- What `parse` may answer, by its contract, to tokens that spell a tree nested at most 200 deep: this tree, except for
+-- its places, and no fault. The only possible error is out of memory.
 abbrev pub SpellingsAreRead : Type 0
 SpellingsAreRead =
     (p : SourceProgram) → IsSpellable p → program_nesting p ≤ NESTING → (tokens : List Token)

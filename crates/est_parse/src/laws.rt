@@ -12,8 +12,8 @@ pub fn spellings_are_grammatical()
     ensures all { TreesAreSpellable }
 {}
 
-/// To tokens of these kinds `parse` answers the tree, but for its places, where that is nested at most 200 deep, unless
-/// memory runs out.
+/// For tokens of these kinds `parse` returns the tree, except for its places, if the tree is nested at most 200 deep
+/// and memory does not run out.
 pub fn spellings_are_read()
     ensures { SpellingsAreRead }
 {}

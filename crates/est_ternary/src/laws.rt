@@ -5,9 +5,12 @@
 ghost use Rattle.est_ternary.specs.Laws.{WalksTellPotentials, WalksAreMonotone, SolvedSignalsAreEmitted, SolvedIsLeast};
 ghost use Rattle.est_ternary.specs.Laws.{SettledIsSolved, StepsAreKnown, KnownSteps, StepIsTheWalk};
 
-/// The walk of a term tells its potentials. Where the term surely runs, what is present in the walk is what the term
-/// must do, and what is not absent is what it can do; where that is unknown, nothing is present, and what is not
-/// absent is what it may do; where it does not run, all is absent.
+/// The walk of a term shows its potentials:
+///
+/// - Where the term surely runs, what is present in the walk is what the term must do. What is not absent is what the
+///   term can do.
+/// - Where it is unknown whether the term runs, nothing is present. What is not absent is what the term may do.
+/// - Where the term does not run, all is absent.
 pub fn walks_tell_potentials()
     ensures { WalksTellPotentials }
 {}
@@ -17,8 +20,8 @@ pub fn walks_are_monotone()
     ensures { WalksAreMonotone }
 {}
 
-/// The outgoing signals, decided one within another, have the statuses that the walk in their environment gives them,
-/// and no environment of which this holds knows less.
+/// The outgoing signals, decided one within another, have the statuses that the walk in their environment gives them.
+/// Every other environment with this property knows at least as much.
 pub fn solved_signals_are_least()
     ensures emitted { SolvedSignalsAreEmitted }
     ensures least { SolvedIsLeast }

@@ -18,9 +18,9 @@ use Rattle.grc_graph.specs.SelectionTrees.{body_leaves, selecting}
 use Rattle.grc_graph.specs.Walk.{State, Initial, Selecting}
 use Rattle.grc_graph.specs.Readings.{Valuation, boolean_interpretation}
 
--- A graph by names: one equation per wire, in order; for each leaf of the selection tree the path of its pause and its
--- next formula; the body, with its scope, over which the words of formulas are read; and what they see of the ends of
--- parallels: in a program's graph these ends themselves.
+-- A graph by names: one equation per wire, in order. Each leaf of the selection tree has the place of its pause and its
+-- next formula. The words of formulas are read over the body, with its scope. `lasting` is what they see of the ends of
+-- parallels: in a program's graph, these ends themselves.
 pub record PlainGraph : Type 0 where
   pub interface : Interface
   pub scope : Scope

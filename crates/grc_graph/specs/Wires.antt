@@ -6,9 +6,9 @@ use Rattle.est_kernel.specs.StaticCodes.{started_codes, resumed_codes}
 use Rattle.grc_graph.specs.Layers.{Layer, Resumed, Started, layer_above, same_layer}
 use Rattle.grc_graph.specs.Scopes.{Binding, Entering, Outgoing, BoundAt, Unbound}
 
--- An instance is a statement in a layer. Out s says that the outgoing signal s is present; Go that the instance
--- runs; End that it runs and completes with this code; StatusOf that the signal of the Local at n, as this
--- instance of it has it, is present.
+-- An instance is a statement in a layer. Out s says that the outgoing signal s is present. Go says that the
+-- instance runs. End says that it runs and completes with this code. StatusOf says that the signal of the Local
+-- at n is present, as this instance of the Local has it.
 pub data Wire : Type 0 where
   Out : (s : ℕ) → Wire
   Go : (n : ℕ) (l : Layer) → Wire

@@ -1,8 +1,8 @@
 //! One reaction of a graph: the one solution of its equations, and what is read off it.
 //!
-//! A graph has one equation a wire. Along an order along which the equations read, each wire gets the
-//! value of its formula, one after another; the words of formulas that speak of many places at once
-//! come from a table of rows, each of which is computed once.
+//! A graph has one equation per wire. The wires are ordered so that each equation reads only earlier
+//! wires. In this order, each wire gets the value of its formula. The words of formulas that depend on
+//! many places at once come from a table of rows. Each row is computed once.
 #![tactic(auto)]
 
 mod bits;

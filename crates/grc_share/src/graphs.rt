@@ -37,15 +37,15 @@ use std::alloc::Global;
 pub enum SharedOrFull {
     /// The edges between shared wires have no closed walk.
     Shared(SharedGraph),
-    /// The given graph, which is to stay as it is, and the shared wires, by number, of a closed walk of the edges
+    /// The given graph, unchanged, and the shared wires, by number, of a closed walk of the edges
     /// between them.
     Full(Graph, Vec<u32>),
 }
 
 /// The shared graph of a graph, where the edges between its shared wires have no closed walk; else such a walk, with
 /// the graph as it was. The given edges are those of the graph. The time is linear in the wires, in the edges and in
-/// the graph's formulas, but for searches of instances and of status wires, which are logarithmic; the error is want of
-/// memory.
+/// the graph's formulas, except for searches of instances and of status wires, which are logarithmic. The only error is
+/// out of memory.
 ///
 /// Example: the graph of `present A then pause end`, three times in a sequence, has 69 wires, and its shared graph
 /// has 45.

@@ -27,8 +27,8 @@ pub struct SharedWires {
     pub members: Vec<FewWires>,
 }
 
-/// The shared wires of a graph. The time is linear in the wires but for the search of status wires among the instances
-/// of a Local, which is logarithmic; the error is out of memory.
+/// The shared wires of a graph. The time is linear in the wires, except for the search of status wires among the
+/// instances of a Local, which is logarithmic. The only error is out of memory.
 pub fn shared_wires(alloc: Global, graph: &Graph) -> Result<SharedWires, NoMemory>
     requires { IsGraphOf graph.now (program_of graph.now.program) }
     ensures wires { IfOk result (λ s. AreSharedWires (program_of graph.now.program) s.least.items s.numbers.items) }

@@ -1,5 +1,5 @@
--- To believe: the grammar of expressions, over tokens of any kind whose signs are told. In words, with `~`, `&` and `|`
--- for the operators:
+-- To believe: the grammar of expressions, over tokens of any kind, given the sign of each. In words, with `~`, `&` and
+-- `|` for the operators:
 --
 --   expr = conj { "|" conj }
 --   conj = neg { "&" neg }

@@ -8,7 +8,7 @@ use Rattle.net_follow.specs.declared.literals.Equation.{Equation}
 use Rattle.net_follow.specs.Literals.{moved_equation}
 use Rattle.net_follow.specs.Frames.{net_equations, init_equations, link_equations}
 
--- whether the instant comes behind another one
+-- whether the instant comes after another one
 abbrev pub is_late : Instant → Bool
 is_late First = false
 is_late Later = true

@@ -34,10 +34,10 @@ pub struct Parted {
     pub unshown: Vec<usize>,
 }
 
-/// What is left of the claims of a netlist's classes, each of which says that a net, `out`, has the value of `left`,
-/// that is of one of a lower number, or always true, or of its negation, and that comes behind those of lower nets.
-/// Where none is unshown, all of them hold in the instant: in the first one, or in one where they hold one before, if
-/// the known equations hold in both.
+/// What is left of the claims of a netlist's classes. Each claim says that a net, `out`, has the value of `left`: a net
+/// of a lower number, or the constant that is always true, or the negation of either. Claims are in the order of their
+/// nets. If none is unshown, all of them hold in the instant. That is the first instant, or one that follows an instant
+/// in which they hold. This assumes that the known equations hold in both.
 pub fn inductive_claims(
     alloc: Global,
     net: &Net,

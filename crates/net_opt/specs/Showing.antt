@@ -22,14 +22,14 @@ pub record ReadsMarked (net : Netlist) (marks : List Bool) (n : ℕ) : Type 0 wh
   pub gate : (k : ℕ) (d : Gate) → k < length net.gates → n ≡ first_gate net + k
       → IsRead (marked marks) (slice_index_or net.gates k d).op
 
--- the net of this number stands in the list, at this place or behind it
+-- the net of this number is in the list, at this place or after it
 pub record StandsFrom (found : List NetId) (place n : ℕ) : Type 0 where
   pub at : ℕ
   pub from : place ≤ at
   pub within : at < length found
   pub is : (d : NetId) → (slice_index_or found at d).0 ≡ n
 
--- more nets are marked, and these stand behind those that were found before
+-- more nets are marked, and the list has these after those that were found before
 pub record Grows (marks : List Bool) (found : List NetId) (more : List Bool) (longer : List NetId) : Type 0 where
   pub count : length more ≡ length marks
   pub stays : (n : ℕ) → IsTrue (marked marks n) → IsTrue (marked more n)
@@ -37,7 +37,7 @@ pub record Grows (marks : List Bool) (found : List NetId) (more : List Bool) (lo
   pub found_more : length found ≤ length longer
   pub found_stay : (k : ℕ) (d : NetId) → k < length found → slice_index_or longer k d ≡ slice_index_or found k d
 
--- each marked net stands in the list, and of those before this place what they read is marked
+-- each marked net is in the list, and what the nets before this place read is marked
 pub record Follow (net : Netlist) (marks : List Bool) (found : List NetId) (place : ℕ) : Type 0 where
   pub listed : (n : ℕ) → IsTrue (marked marks n) → StandsFrom found 0 n
   pub read : (k : ℕ) (d : NetId) → k < place → k < length found → ReadsMarked net marks (slice_index_or found k d).0

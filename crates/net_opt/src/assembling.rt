@@ -13,7 +13,7 @@ use net_ir::{Gate, Latch, Net, NetOut, Op};
 use net_simp::copied_names;
 use std::alloc::Global;
 
-/// What a netlist is made of besides names: the nets of the outputs, in order, and of `paused`.
+/// A netlist without its names: gates, latches, the nets of the outputs in order, and the net of `paused`.
 #[derive(Drop)]
 pub(crate) struct Parts {
     pub gates: Vec<Gate>,

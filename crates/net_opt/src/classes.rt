@@ -7,13 +7,13 @@ use net_follow::{Equation, Literal, Side};
 use net_ir::Net;
 use std::alloc::Global;
 
-/// For each place the one that stands for it: itself, or a lower one that stands for itself.
+/// For each place its representative: itself, or a lower place that represents itself.
 #[derive(Drop)]
 pub(crate) struct Classes {
     pub stand_ins: Vec<Edge>,
 }
 
-/// Each net stands in for those behind it that have its history, or the opposite one.
+/// Each net represents the later nets that have its history, or the opposite one.
 pub(crate) fn first_classes(alloc: Global, histories: &NetHistories) -> Result<Classes, NoMemory> {
     let count = histories.marks.len();
     let mut heads = vec![in alloc; usize::MAX; count.saturating_add(1)]?;
@@ -31,7 +31,7 @@ pub(crate) fn first_classes(alloc: Global, histories: &NetHistories) -> Result<C
     Ok(Classes { stand_ins })
 }
 
-/// Each net stands for itself.
+/// Each net represents itself.
 pub(crate) fn own_classes(alloc: Global, net: &Net) -> Result<Classes, NoMemory> {
     let count = net
         .inputs
@@ -81,7 +81,7 @@ fn stand_in(histories: &NetHistories, other: usize, place: usize) -> Edge {
 }
 
 impl Classes {
-    /// Whether another place stands for one of these.
+    /// Whether another place represents one of these.
     pub fn joins_some(&self, places: &[bool]) -> bool {
         for place in 0..self.stand_ins.len() {
             if is_marked(places, place) && self.joins(place) {
@@ -91,12 +91,12 @@ impl Classes {
         false
     }
 
-    /// Whether another place stands for this one.
+    /// Whether another place represents this one.
     pub fn joins(&self, place: usize) -> bool {
         edge_at(&self.stand_ins, place).node != place
     }
 
-    /// Lets the places that are marked stand for themselves.
+    /// Makes each marked place represent itself.
     pub fn part(&mut self, places: &[bool]) {
         for place in 0..self.stand_ins.len() {
             if is_marked(places, place) {
@@ -105,7 +105,7 @@ impl Classes {
         }
     }
 
-    /// What the classes say: that a net has the value of the one that stands for it, or of its negation.
+    /// What the classes say: a net has the value of the net that represents it, or the negated value.
     pub fn claims(&self, alloc: Global) -> Result<Vec<Equation>, NoMemory> {
         let mut claims = Vec::new(alloc);
         for place in 0..self.stand_ins.len() {

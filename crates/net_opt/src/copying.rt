@@ -1,4 +1,4 @@
-// Copies of graphs: without the latches that gates tell, or in another order.
+// Copies of graphs: without the latches whose values gates determine, or in another order.
 
 use crate::building::{Built, place_of};
 use crate::edges::{Edge, UNKNOWN, edge_at, is_marked, mark, named};
@@ -8,7 +8,7 @@ use base_types::NoMemory;
 use net_ir::{Net, Op};
 use std::alloc::Global;
 
-/// The graph in which what tells a latch stands for it.
+/// The graph in which each latch whose value a gate determines is replaced by that gate's edge.
 pub(crate) fn without_told(
     alloc: Global,
     net: &Net,
@@ -35,7 +35,7 @@ pub(crate) fn in_order_of_need(alloc: Global, net: &Net, built: &Built) -> Resul
     copied(alloc, net, built, &untold(alloc, net)?, &roots)
 }
 
-// A copy of a graph: these nodes stand in it first, each behind what it is made of, and then the others.
+// A copy of a graph: first these nodes, each after those that it reads, and then the others.
 fn copied(
     alloc: Global,
     net: &Net,
@@ -76,7 +76,7 @@ struct GraphCopy {
 }
 
 impl GraphCopy {
-    // Names a node, and before it what it is made of.
+    // Names a node, after the nodes that it reads.
     fn name_all(
         &mut self,
         net: &Net,
@@ -94,7 +94,7 @@ impl GraphCopy {
         Ok(())
     }
 
-    // Names a node where what it is made of has names; else it waits for these.
+    // Names a node if all that it reads has names; otherwise the node waits for these.
     fn name(&mut self, net: &Net, graph: &Graph, told: &Told, node: usize) -> Result<(), NoMemory> {
         if edge_at(&self.names, node) != UNKNOWN {
             return Ok(());
@@ -141,8 +141,8 @@ impl GraphCopy {
     }
 }
 
-/// The places of what is always true and of the nets, each behind those of which it is made; that of a latch that is
-/// told behind those of which its gate is made.
+/// The places of the constant and of the nets, each gate after the nets that it reads. A latch whose value a gate
+/// determines comes after the nets that this gate reads.
 pub(crate) fn places_in_order(
     alloc: Global,
     net: &Net,
@@ -172,7 +172,7 @@ pub(crate) fn places_in_order(
     Ok(order)
 }
 
-// Pushes the places of which the net of a place is made.
+// Pushes the places that a gate reads: the gate of this place, or the one that determines the latch of this place.
 fn push_parts(
     net: &Net,
     told: &Told,

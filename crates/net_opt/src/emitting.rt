@@ -7,8 +7,8 @@ use base_types::{NetId, NoMemory};
 use net_ir::{Gate, Latch, Net, Op};
 use std::alloc::Global;
 
-/// The gates of a netlist under construction. `names` has for each node of the graph a net, by its place behind what is
-/// always true, or its negation; `nots` has for each net the gate that negates it.
+/// The gates of a netlist under construction. `names` has for each node of the graph a net or its negation, by place:
+/// place 0 is the constant that is always true, and the nets follow. `nots` has for each net the gate that negates it.
 #[derive(Drop)]
 pub(crate) struct Emitted {
     pub names: Vec<Edge>,

@@ -1,4 +1,4 @@
-// Pairs of latches of which both never have certain values in one instant.
+// Pairs of latches that never have certain values in the same instant.
 
 use crate::classes::literal;
 use crate::edges::{Edge, TRUE, is_marked, mark, negated};
@@ -14,7 +14,7 @@ const LATCHES: usize = 64;
 
 const GATES: usize = 4_000;
 
-// How often pairs are parted by induction.
+// How many rounds of induction are tried before all pairs are given up.
 const ROUNDS: usize = 40;
 
 /// Pairs of literals of latches that are never both true: as claims that what both say together is false, and by the

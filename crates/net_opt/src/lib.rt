@@ -1,11 +1,11 @@
 //! Netlists that do the same with fewer gates and latches.
 //!
-//! A pass guesses which nets are equal or opposite in all instants that a netlist reaches, from runs over drawn inputs
-//! (`simulating`, `classes`), and which values latches exclude (`excluding`), builds the netlist in which they are
-//! one, by an and-inverter graph (`graphs`, `building`, `telling`, `emitting`), and has `net_follow` check that it
-//! follows the given one. Where a guess is not shown, its class is parted, and the check is made anew (`trying`).
-//! Other passes bring the graph in order (`copying`), balance it and rewrite its parts (`balancing`, `cuts`, `plans`,
-//! `rewriting`). What the search does cannot be wrong by more than time: what it finds is checked.
+//! A pass runs the netlist on random inputs. From these runs it guesses which nets are equal or opposite in all
+//! reachable instants (`simulating`, `classes`), and which values of latches exclude each other (`excluding`). It
+//! merges these nets by an and-inverter graph (`graphs`, `building`, `telling`, `emitting`). Then `net_follow` checks
+//! that the new netlist follows the given one. If a guess is not shown, its class is split and the check is repeated
+//! (`trying`). Other passes order the graph (`copying`), balance it and rewrite its parts (`balancing`, `cuts`,
+//! `plans`, `rewriting`). A mistake in the search can only cost time, because what it finds is checked.
 #![tactic(auto)]
 
 mod assembling;

@@ -19,7 +19,7 @@ use net_ir::{Net, Op};
 use net_simp::simplify;
 use std::alloc::Global;
 
-// How often classes are parted, and how often they are tried, before a pass is given up.
+// How often classes are split, and how often they are tried, before a pass gives up.
 const ROUNDS: usize = 100;
 
 const TRIALS: usize = 20;
@@ -32,7 +32,7 @@ const LARGE: usize = 5_000;
 // How often a pass that rewrites does so.
 const REWRITES: usize = 12;
 
-// How many pairs more a latch may cost that a gate tells.
+// How many more pairs it may cost to replace a latch by a gate that determines its value.
 const WORTH: usize = 0;
 
 const LATCH_WEIGHT: usize = 10;
@@ -44,7 +44,7 @@ const PAIR_WEIGHT: usize = 4;
 /// the same order, and over every list of items, resets included, the same outputs and `paused`. Latches and gates go
 /// that are found to be constant, or equal or opposite to others, in every instant that the netlist reaches. Each latch
 /// and each gate that stays is read on a way to an output or `paused`. Which wires the gates carry is forgotten, and
-/// nothing is left to simplify (`net_simp`). The only error is want of memory.
+/// nothing is left to simplify (`net_simp`). The only error is out of memory.
 pub fn optimize(alloc: Global, net: &Net) -> Result<Net, NoMemory>
     ensures optimizes { IfOk result (λ new. Optimizes (netlist_of net.now) (netlist_of new)) }
     ensures simple { IfOk result (λ new. IsSimple (netlist_of new)) }
@@ -176,7 +176,7 @@ fn passed_net(
     Ok(best)
 }
 
-// The netlist that the passes begin with: its gates stand in the order of need.
+// The netlist that the passes begin with: its gates are in the order in which they are needed.
 fn ordered_net(alloc: Global, net: &Net) -> Result<Net, NoMemory>
     ensures { IfOk result (λ new. Replaces (netlist_of net.now) (netlist_of new)) }
 {
@@ -201,7 +201,7 @@ fn begun_net(alloc: Global, net: &Net) -> Result<Net, NoMemory>
 // What a pass does.
 #[derive(Clone, Copy)]
 enum Pass {
-    // Nets that are equal or opposite become one, and latches go that gates tell.
+    // Nets that are equal or opposite are merged, and latches whose values gates determine are removed.
     Merge,
     // What many nets say together is balanced by depth.
     Balance,
@@ -311,8 +311,8 @@ fn trials(net: &Net) -> usize {
     }
 }
 
-// The netlist in which the classes' nets are one, without the latches that gates tell, or with them where that is
-// smaller.
+// The netlist in which the nets of each class are merged, without the latches whose values gates determine, or with
+// them if that is smaller.
 fn tried_merge(
     alloc: Global,
     net: &Net,
@@ -337,7 +337,7 @@ fn is_no_larger(new: &Option<Net>, net: &Net) -> bool {
     }
 }
 
-// Parts the classes until they hold by induction over instants.
+// Splits the classes until they hold by induction over instants.
 fn part_classes(
     alloc: Global,
     net: &Net,
@@ -354,7 +354,7 @@ fn part_classes(
     Ok(())
 }
 
-// Parts what does not hold in an instant, and tells whether there is such.
+// Splits the classes that do not hold in an instant, and returns whether there are any.
 fn parts(
     alloc: Global,
     net: &Net,

@@ -1,11 +1,11 @@
-// Values of a netlist over instants with drawn inputs, 64 runs at a time.
+// Values of a netlist over instants with random inputs, 64 runs at a time.
 
 use crate::edges::word_at;
 use base_types::{NetId, NoMemory};
 use net_ir::{Net, Op};
 use std::alloc::Global;
 
-// How many instants are run: as many as make a set number of values, within bounds.
+// How many instants are run: enough for this number of values, within bounds.
 const VALUES: usize = 20_000_000;
 
 const FEWEST: usize = 256;
@@ -49,8 +49,8 @@ pub(crate) fn histories(alloc: Global, net: &Net) -> Result<NetHistories, NoMemo
     Ok(NetHistories { marks, signs })
 }
 
-/// Two literals of latches, by their numbers: the latches in order, each behind twice as many literals as there are
-/// latches before it, and its negation behind it.
+/// Two literals of latches, by their numbers: latch `k`, counted from 0, has the number `2 * k`, and its negation the
+/// next one.
 #[derive(Clone, Copy)]
 pub(crate) struct Literals {
     pub left: usize,
@@ -298,9 +298,9 @@ fn draw_choices(choices: &mut Vec<u64>, seed: &mut u64, all: bool) {
     }
 }
 
-// Drawn values of an input: it is true in about one instant of sixteen in the runs of its choice, and never in those
-// that are steady, else in every second one; and in the last quarter of the runs the other way round, almost always, or
-// always.
+// Random values of an input. In runs outside its choice it is true in about half of the instants. In runs of its choice
+// it is true in about one instant of sixteen, and never if the run is steady. The last quarter of the runs inverts the
+// values of the choice: almost always true, or always if the run is steady.
 fn drawn_input(seed: &mut u64, choice: u64) -> u64 {
     let plain = drawn_word(seed);
     let rare = plain & drawn_word(seed) & drawn_word(seed) & drawn_word(seed) & !STEADY;
@@ -308,7 +308,7 @@ fn drawn_input(seed: &mut u64, choice: u64) -> u64 {
     ((plain & !choice) | (rare & choice)) ^ turned
 }
 
-// The next of a row of drawn words (Marsaglia, "Xorshift RNGs", 2003).
+// The next word of a pseudorandom sequence (Marsaglia, "Xorshift RNGs", 2003).
 fn drawn_word(seed: &mut u64) -> u64 {
     let mut word = *seed;
     word ^= word << 13;

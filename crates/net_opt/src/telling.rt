@@ -1,4 +1,4 @@
-// Latches that gates tell: of the same value in every instant, without reading them.
+// Latches whose values gates determine: the gate has the latch's value in every instant, without reading it.
 
 use crate::building::{Built, marked_nodes, reader_counts};
 use crate::classes::Classes;
@@ -8,20 +8,20 @@ use base_types::NoMemory;
 use net_ir::Net;
 use std::alloc::Global;
 
-// How many nodes are looked at, for each node of a graph and beside, before no latch more is tried.
+// How many nodes are visited, for each node of a graph and in addition, before no more latches are tried.
 const STEPS: usize = 16;
 
 const BESIDE: usize = 100_000;
 
-/// For each latch the place of the gate that tells it, `usize::MAX` where there is none; and what stands for its node.
+/// For each latch the place of the gate that determines its value, or `usize::MAX`; and the edge that replaces it.
 #[derive(Drop)]
 pub(crate) struct Told {
     pub gates: Vec<usize>,
     pub edges: Vec<Edge>,
 }
 
-/// The latches that gates of their classes tell, where that takes at most this many pairs more than go with the latch.
-/// The graph may have some pairs more then.
+/// The latches whose values gates of their classes determine. Using the gate may need at most `worth` more pairs than
+/// go with the latch. The graph may gain some pairs.
 pub(crate) fn told_latches(
     alloc: Global,
     net: &Net,
@@ -54,7 +54,7 @@ pub(crate) fn told_latches(
     Ok(teller.told)
 }
 
-/// No latch is told.
+/// No latch has a gate that determines its value: each is its own node.
 pub(crate) fn untold(alloc: Global, net: &Net) -> Result<Told, NoMemory> {
     let mut edges = Vec::new(alloc);
     for latch in 0..net.latches.len() {
@@ -81,7 +81,7 @@ fn latch_of(net: &Net, node: usize) -> usize {
 }
 
 impl Told {
-    /// Whether some latch is told.
+    /// Whether a gate determines the value of some latch.
     pub fn is_some(&self) -> bool {
         for gate in &self.gates {
             if *gate != usize::MAX {
@@ -91,7 +91,7 @@ impl Told {
         false
     }
 
-    /// What stands for a leaf.
+    /// The edge that replaces a leaf: the leaf itself, if nothing does.
     pub fn leaf(&self, net: &Net, leaf: usize) -> Edge {
         let latch = latch_of(net, leaf);
         if latch < self.edges.len() {
@@ -101,7 +101,7 @@ impl Told {
         }
     }
 
-    /// The place of the gate that tells the latch of a place: `usize::MAX` where there is none.
+    /// The place of the gate that determines the latch of a place: `usize::MAX` if there is none.
     pub fn gate(&self, net: &Net, place: usize) -> usize {
         number_at(&self.gates, latch_of(net, place))
     }
@@ -119,7 +119,7 @@ struct Teller {
 }
 
 impl Teller {
-    // Lets a gate tell a latch, if none does so far, where it does not read it and costs little.
+    // Lets a gate determine a latch, if none does so far, the gate does not read the latch, and the cost is low.
     fn try_gate(
         &mut self,
         alloc: Global,

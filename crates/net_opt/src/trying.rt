@@ -35,7 +35,7 @@ const VAIN: usize = 2;
 pub(crate) struct Trial {
     pub new: Option<Net>,
     pub failing: Vec<bool>,
-    /// Whether a latch goes that a gate tells.
+    /// Whether a latch is removed because a gate determines its value.
     pub tells: bool,
 }
 
@@ -51,15 +51,15 @@ struct Claims {
 pub(crate) enum Change {
     // not at all
     Keep,
-    // latches go that gates tell, where that takes at most this many pairs more than go with them
+    // latches whose values gates determine are removed, if that needs at most this many more pairs than go with them
     Tell(usize),
-    // nodes stand in the order in which they are needed
+    // nodes are put in the order in which they are needed
     Order,
     // chains are balanced by depth
     Balance,
     // parts are rewritten this many times
     Rewrite(usize),
-    // the functions of the roots are made anew
+    // the functions of the roots are built anew
     Collapse,
 }
 

@@ -18,11 +18,11 @@ use std::alloc::Global;
 
 /// A netlist of the same runs, with no more gates. It keeps the name, the inputs, the names of the outputs, the
 /// number and the initial values of the latches, and the carried wires, whose gates are in the same order.
-/// Constants are folded, double negations and absorbed operands go, gates that compute the same are one, and
-/// gates that nothing needs are left out: of the gates that carry no wire no two have one operator, in whichever
-/// order its operands stand, of none the rules make less, none is a copy, none reads a copy, a constant, or one
-/// net twice, and each is read. It takes time linear in the gates, except for hashing. Its only error is want of
-/// memory.
+/// Constants are folded, double negations and absorbed operands go, gates that compute the same are merged, and
+/// gates that nothing needs are left out. Of the gates that carry no wire no two have the same operator over the
+/// same operands, in either order. The rules simplify none of them further. None is a copy, and none reads a copy,
+/// a constant, or the same net twice. Each is read. The time is linear in the gates, except for hashing. The only
+/// error is out of memory.
 ///
 /// Example: where one gate negates another that negates `a`, both go, and their readers read `a`.
 pub fn simplify(alloc: Global, net: Net) -> Result<Net, NoMemory>

@@ -130,9 +130,9 @@ coded_net net f gates bits = record {
   gates = gates;
 }
 
--- All that the netlist that holds a code is: a netlist of the same name and interface, with the same carried wires, as
--- many latches as the code has bits and one more, and not many more gates; over items it shows the same, wherever the
--- code gives the latches back in each instant.
+-- What holds of the netlist that stores a code in its latches. It has the same name, interface and carried wires as the
+-- given netlist. It has one latch for each bit of the code and one more, and not many more gates. Over items it shows
+-- the same, if decoding the code returns the latches in each instant.
 pub record IsCodedNet (net new : Netlist) (width : ℕ) (codes : List (List Literal)) : Type 0 where
   pub name : new.name ≡ net.name
   pub inputs : new.inputs ≡ net.inputs

@@ -8,9 +8,9 @@ use crate::texts::NetText;
 use base_types::NoMemory;
 use net_ir::Net;
 
-/// Puts the part with this number, counted through all sections, after a text; false where there is none. As far as a
-/// proof knows, the lists of a net may have more elements together than a `usize` counts. Want of memory is the only
-/// error.
+/// Puts the part with this number, counted through all sections, after a text; false if there is none. As far as a
+/// proof knows, the lists of a net may have more elements together than a `usize` counts. The only error is out of
+/// memory.
 pub fn put_part<T: NetText>(
     form: &T,
     text: &mut Vec<u8>,

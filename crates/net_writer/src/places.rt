@@ -56,7 +56,7 @@ impl<'a, T: NetText + Drop> Places for NetPlaces<'a, T> {
 /// The text of a net, piece by piece.
 pub type NetPieces<'a, T> = Pieces<NetPlaces<'a, T>>;
 
-/// All pieces of the text of a net, which is that of `write_net`. Want of memory is the only error, here and below.
+/// All pieces of the text of a net, which is that of `write_net`. The only error, here and below, is out of memory.
 pub fn net_pieces<'a, T: NetText + Drop>(
     alloc: Global,
     net: &'a Net,

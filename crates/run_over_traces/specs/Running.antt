@@ -21,8 +21,8 @@ IsTraceFront r (Event event ∷ more) =
 
 -- How a run over a trace ends, where `Writes` says which text some items bring about. Done: the sink gained the text of
 -- all items of the trace. A fault of the trace: it gained the text of the items before the first fault. A failed write:
--- the count of faults rose, and the sink gained a prefix of the text of the first items. Want of memory may come at any
--- moment, and then too the sink gained such a prefix.
+-- the count of faults rose, and the sink gained a prefix of the text of the first items. Out of memory, at any moment:
+-- the sink gained such a prefix too.
 abbrev pub RunsTrace : (List Item → List ℕ → Type 0) → Reading → SinkChange → Result (Unit {0}) RunFault → Type 0
 RunsTrace Writes trace s (Ok done) =
     (items : List Item) × (text : List ℕ) × IsTrace trace items None × Writes items text

@@ -60,8 +60,8 @@ pub trait Language {
         ensures each_input { IfOk result (λ i. length i.given.items ≡ Self.Machine.input_count machine.now) }
         ensures each_output { IfOk result (λ i. length i.outgoing.items ≡ Self.Machine.output_count machine.now) };
 
-    /// The machine of the text that is written of a net, at its start: it shows what the net shows. Want of memory is
-    /// the only error.
+    /// The machine of the text that is written of a net, at its start: it shows what the net shows. The only error is
+    /// out of memory.
     fn read_back(alloc: Global, net: &Net, text: &[u8]) -> Result<Self::Machine, NoMemory>
         requires means { means text.now (netlist_of net.now) }
         requires fits { length text.now ≤ Limits.TEXT_BYTES }

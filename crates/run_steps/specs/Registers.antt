@@ -1,12 +1,12 @@
--- Inner: registers, and what an instant makes of them. The slots of the inputs stand first, then those of registers.
+-- Inner: registers, and what an instant makes of them. The slots of the inputs come first, then those of registers.
 use Rattle.std.specs.Prelude.{◌≡◌, ℕ, ◌+◌, ◌<◌, ◌≤◌, Bool, false, List, ◌++◌, length, map, take, replicate, All}
 use Rattle.run_steps.specs.declared.registers.Registers.TheInside.{Inside}
 use Rattle.run_steps.specs.Slots.{value_at}
 use Rattle.run_steps.specs.Plans.{Planned, made}
 
--- The plan of an instant, the number of inputs, the value of each register at first, for each register the slot whose
--- value it gets, and the slot of each output; and from instant to instant the values of the registers in the next one,
--- and those of the outputs in the last one.
+-- Registers, with the plan that computes an instant. These fields stay the same: the plan, the number of inputs, the
+-- initial value of each register, the slot whose value each register gets, and the slot of each output. Each instant
+-- changes the others: the values of the registers in the next instant, and those of the outputs in the last one.
 pub record Frame : Type 0 where
   pub plan : Planned
   pub inputs : ℕ

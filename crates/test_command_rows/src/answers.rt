@@ -105,7 +105,7 @@ fn answer<O: Sink>(
     Ok(ended.out)
 }
 
-// What is said of a command besides: nothing of one that is done, unless the other calls of the compiler do otherwise.
+// A further remark on a command: none if it succeeded, unless the compiler's other calls give another result.
 fn told_besides(
     alloc: Global,
     block: Block<'_>,

@@ -25,16 +25,22 @@ use net_expressions::{lex, place_at};
 use std::alloc::Global;
 use vlog_text::Module;
 
-// How many `~` and `(` may stand one in another.
+// How deeply `~` and `(` may be nested.
 const NESTING: u32 = 200;
 
-/// The module that a text of the subset describes, or its first fault: a text that is too long, else the first
-/// token that no text of the subset passes, else the first name that is declared a second time, else the first
-/// port that is wrong, else the first name that is used and not declared, else the first name that is driven a
-/// second time, else the first declared name without its drivers. Left of `=` and `<=` stands before right of it.
+/// The module that a text of the subset describes, or the first of its faults in this order:
 ///
-/// The time and the memory that it takes are linear in the length of the text, and it recurses only as deep as
-/// brackets and `~` stand one in another.
+/// 1. the text is too long
+/// 2. the first token that no text of the subset has there
+/// 3. the first name that is declared a second time
+/// 4. the first port that is wrong
+/// 5. the first name that is used and not declared
+/// 6. the first name that is driven a second time
+/// 7. the first declared name without its drivers
+///
+/// A name to the left of `=` or `<=` comes before those to the right of it.
+///
+/// Time and memory are linear in the length of the text. The recursion is only as deep as brackets and `~` are nested.
 pub fn read_verilog(alloc: Global, text: &[u8]) -> Result<Module, Stop<VlogFault>>
     ensures reads { IfOk result (λ m. ReadsAs text.now (module_of m)) }
     ensures refuses { IfFault result (ReadsFault text.now) }

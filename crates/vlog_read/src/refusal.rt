@@ -9,14 +9,14 @@ pub enum VlogFault {
     /// The text is longer than 256 MiB.
     #[error("text is too long")]
     TooLong,
-    /// At this byte stands the first token that no text of the subset passes, or here the text ends too early.
+    /// At this byte is the first token that no text of the subset has there, or the text ends here too early.
     #[error("byte {0} cannot stand here")]
     Syntax(u32),
     /// The first name that is declared a second time.
     #[error("a name is declared twice")]
     Twice(Text),
-    /// The first port that is not the declaration at its place; else the first declared input or output that is no
-    /// port; else the first of these with a name that it may not have; else the name after `posedge`, if it is not
+    /// The first port that is not the declaration at its place. Else the first declared input or output that is no
+    /// port. Else the first of these with a name that it may not have. Else the name after `posedge`, if it is not
     /// the first input.
     #[error("a port is wrong")]
     Port(Text),

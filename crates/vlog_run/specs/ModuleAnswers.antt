@@ -1,6 +1,6 @@
--- To believe: what a module shows over items, as lines tell it. The names of the inputs besides the clock and of the
--- outputs are those after their signs. A last output `paused` is not listed, and its value gives the word; where there
--- is none, there is no word.
+-- To believe: what a module shows over items, as lines tell it. The clock is not among the inputs. The names of
+-- inputs and outputs are without their signs. A last output `paused` is not listed, and its value gives the word; where
+-- there is none, there is no word.
 use Rattle.std.specs.Prelude.{ℕ, Bool, List, map, take, drop}
 use Rattle.base_types.specs.Items.{Item}
 use Rattle.base_machines.specs.Machines.{Shows}

@@ -1,5 +1,5 @@
--- Inner: the field of a runner that a trace drives, the module of a net's text, and what is told of a text that has no
--- machine.
+-- Inner: the field of a runner that a trace drives, the module of a net's text, and what is reported of a text that
+-- has no machine.
 use Rattle.std.specs.Prelude.{◌≡◌, ℕ, List, length}
 use Rattle.net_ir.specs.Netlists.{Netlist}
 use Rattle.vlog_text.specs.Trees.{VerilogModule}

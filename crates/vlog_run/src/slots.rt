@@ -14,7 +14,7 @@ use run_steps::slot_of;
 use std::alloc::Global;
 use vlog_text::{Assign, Module, Register};
 
-// The inputs in addition to the clock.
+// The inputs without the clock.
 pub fn given_inputs(design: &Module) -> &[Text]
     ensures { result.now ≡ given_inputs (module_of design.now) }
 {
@@ -26,7 +26,7 @@ pub fn given_inputs(design: &Module) -> &[Text]
     }
 }
 
-// The names that a module drives: its inputs besides the clock, its registers, and the targets of its assignments.
+// The names that a module drives: its inputs without the clock, its registers, and the targets of its assignments.
 pub fn driven_names<'a>(alloc: Global, design: &'a Module) -> Result<Vec<&'a [u8]>, NoMemory>
     ensures { IfOk result (λ v. map (λ w. w.now) v.items ≡ driven_names (module_of design.now)) }
 {

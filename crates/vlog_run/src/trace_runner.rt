@@ -18,8 +18,8 @@ use std::alloc::Global;
 use std::marker::Model;
 use vlog_text::Module;
 
-/// A runner of a module, as one that items drive. A last output `paused` is none of the outgoing signals, and its value
-/// says whether the program is still active; where there is none, nothing is said. A contract sees it as the module,
+/// A runner of a module, as one that items drive. A last output `paused` is none of the outgoing signals. Its value
+/// says whether the program is still active; without that output, nothing is said. A contract sees it as the module,
 /// the values that the registers have in the next instant, and those that the outputs had in the last one.
 #[derive(Drop)]
 pub struct VlogRunner {
@@ -46,8 +46,8 @@ impl Model for VlogRunner {
 impl VlogRunner {
     /// A runner of a module before its first event. The module is one that some text describes.
     ///
-    /// The fault is a combinational cycle, where there is one, as of `ModuleRun::new`. The only other error is want
-    /// of memory.
+    /// The fault is a combinational cycle, where there is one, as of `ModuleRun::new`. The only other error is out of
+    /// memory.
     pub fn new(alloc: Global, design: Module) -> Result<VlogRunner, Stop<Vec<Text>>>
         requires { IsDescribed (module_of design) }
         ensures code { IfOk result (λ r. r.code ≡ design) }
@@ -61,8 +61,8 @@ impl VlogRunner {
         }
     }
 
-    /// The interface of the text itself: its inputs besides the clock, and its outputs but for a last `paused`, without
-    /// the two bytes of their signs; no relations. Its only error is out of memory.
+    /// The interface of the text itself: its inputs without the clock, and its outputs without a last `paused`. The
+    /// names lack the two bytes of their signs, and there are no relations. Its only error is out of memory.
     pub fn interface(&self, alloc: Global) -> Result<Interface, NoMemory>
         ensures given { IfOk result (λ i. i.given.items ≡ bare_inputs (module_in self.now)) }
         ensures outgoing { IfOk result (λ i. i.outgoing.items ≡ bare_outputs (module_in self.now)) }

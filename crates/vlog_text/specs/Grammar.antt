@@ -1,12 +1,12 @@
--- To believe: the grammar of the subset, as a relation between whole lists of tokens and what is written. In words:
+-- To believe: the grammar of the subset, as a relation between whole lists of tokens and what is written. In words,
+-- with the expressions of expr_text over `~`, `&`, `|`, where BIT is `1'b0` or `1'b1`:
 --
 --   text   = "module" NAME "(" NAME { "," NAME } ")" ";" { decl } { init } { assign }
 --            "always" "@" "(" "posedge" NAME ")" "begin" { NAME "<=" NAME ";" } "end" "endmodule"
+--
 --   decl   = ( "input" | "output" | "wire" | "reg" ) NAME ";"
 --   init   = "initial" NAME "=" BIT ";"
 --   assign = "assign" NAME "=" expr ";"
---
--- with the expressions of expr_text over `~`, `&`, `|`, where BIT is `1'b0` or `1'b1`.
 use Rattle.std.specs.Prelude.{ℕ, max, Bool, true, false, List, [], ◌∷◌, map, Option, Some, None}
 use Rattle.base_reader.specs.Languages.{Empty, One as Single, Then, Led, Loop, Many, Parted, Within}
 use Rattle.net_expressions.specs.Signs.{Sign, NameSign, BitSign, NotSign, OpenSign, CloseSign, AndSign, OrSign}
