@@ -157,10 +157,11 @@ fn passes_for(cuts: usize) -> usize {
     cuts.saturating_mul(2).max(1)
 }
 
-/// A schedule of a system's nodes: component by component, so that what is read comes before its readers, except in a
-/// circle. The nodes of a circle with `m` nodes that are read before their place occur `2 * m` times, and at most `most`
-/// times. The first two passes, and then every second one, have the same order. The others lead through the circle from
-/// its other end, so that what goes to and fro on a line needs few passes. The error is out of memory.
+/// A schedule of a system's nodes: component by component, so that what is read comes before its readers, except in
+/// a circle. The nodes of a circle with `m` nodes that are read before their place occur `2 * m` times, and at most
+/// `most` times. The first two passes, and then every second one, have the same order. The others lead through the
+/// circle from its other end, so that what goes back and forth on a line needs few passes. The error is out of
+/// memory.
 ///
 /// Example: of the two nodes of `a = not b`, `b = not a` one is read before its place. With `most` 2 both occur twice.
 pub fn find_schedule(
