@@ -1,10 +1,11 @@
--- To believe: what the answers say of sources whose dependencies may go round in circles. What is said of a program is
+-- Contract: what the answers say of sources whose dependencies may go round in circles. What is said of a program is
 -- what the answers of cec_prove_sources say of it.
 use Rattle.std.specs.Prelude.{ℕ, List, Option}
 use Rattle.est_kernel.specs.Plain.{Program}
+use Rattle.net_ir.specs.Netlists.{Netlist}
 use Rattle.est_front.specs.Sources.{StandsFor}
 use Rattle.cec_compile.specs.Refusals.{KeepsGraphLimits}
-use Rattle.cec_cycles.specs.Constructive.{IsRefusedConstructive}
+use Rattle.cec_cycles.specs.Constructive.{IsRefusedConstructive, StandsForConstructiveMade}
 use Rattle.cec_prove_sources.specs.Sameness.{IsComparison}
 use Rattle.cec_prove_sources.specs.Surveys.{IsSurvey}
 use Rattle.cec_prove_sources.specs.Verdicts.{PlainQuestion, IsVerdict}
@@ -49,7 +50,13 @@ pub record ComparesWithConstructive (left : Program) (second : List ℕ) (main :
   pub right_limits : KeepsGraphLimits right
   pub says : IsComparison left right comparison
 
--- one of the two sources has no constructive netlist
+-- The bytes stand for a program whose graph keeps the limits, and a netlist keeps what it means. So over every list of
+-- items that fit, its reactions are constructive.
+abbrev pub HasConstructiveNet : List ℕ → Option (List ℕ) → Type 0
+HasConstructiveNet text main = (program : Program) × (net : Netlist) × StandsForConstructiveMade text main program net
+
+-- one of the two sources has no constructive netlist; where it is the second one, the first one has
 abbrev pub IsPairRefusedConstructive : (first second : List ℕ) → (main : Option (List ℕ)) → CyclePairRefusal → Type 0
 IsPairRefusedConstructive first second main (First refusal) = IsRefusedConstructive first main refusal
-IsPairRefusedConstructive first second main (Second refusal) = IsRefusedConstructive second main refusal
+IsPairRefusedConstructive first second main (Second refusal) =
+    HasConstructiveNet first main × IsRefusedConstructive second main refusal

@@ -9,7 +9,7 @@ pub enum CyclePairRefusal {
     /// The first source has none, for this cause.
     #[error(transparent)]
     First(CycleRefusal),
-    /// The second source has none, for this cause.
+    /// The first source has one, and the second source has none, for this cause.
     #[error(transparent)]
     Second(CycleRefusal),
 }

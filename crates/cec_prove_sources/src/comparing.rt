@@ -86,12 +86,7 @@ pub fn small_pair(alloc: Global, left: &Net, right: &Net) -> Result<Option<Net>,
 }
 
 // The comparison of two programs with the same interface.
-fn paired(
-    alloc: Global,
-    left: &Made,
-    right: &Made,
-    effort: u64,
-) -> Result<Comparison, NoMemory>
+fn paired(alloc: Global, left: &Made, right: &Made, effort: u64) -> Result<Comparison, NoMemory>
     requires fits { IsWellFormed (program_of left.now.program) }
     requires right_fits { IsWellFormed (program_of right.now.program) }
     requires keeps { NetKeeps (netlist_of left.now.net) (program_of left.now.program) }
