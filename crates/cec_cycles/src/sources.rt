@@ -1,6 +1,6 @@
 // The constructive netlists of sources.
 
-ghost use Rattle.std.specs.Prelude.{◌≤◌, length, IfErr, IfOk, option_map};
+ghost use Rattle.std.specs.Prelude.{◌≤◌, length, IfErr, IfOk, OnOk, option_map};
 ghost use Rattle.est_kernel.specs.Plain.{program_of};
 ghost use Rattle.net_ir.specs.Runs.{netlist_of};
 ghost use Rattle.cec_compile.specs.Refusals.{IsRefused};
@@ -82,8 +82,7 @@ pub fn cyclic_made(
     requires refused { IsRefused text.now (option_map (λ m. m.now) main) refusal }
     ensures compiles { IfOk result (λ made. StandsForConstructiveMade text.now
         (option_map (λ m. m.now) main.entry) (program_of made.program) (netlist_of made.net)) }
-    ensures cyclic { IfOk result (λ made. (cycle : Cycle)
-        × HasCycle text.now (option_map (λ m. m.now) main.entry) cycle) }
+    ensures cyclic { OnOk result ((cycle : Cycle) × HasCycle text.now (option_map (λ m. m.now) main.entry) cycle) }
     ensures refuses { IfErr result (IsRefusedConstructive text.now (option_map (λ m. m.now) main.entry)) }
 {
     match refusal {

@@ -1,5 +1,4 @@
 use Rattle.est_kernel.specs.Plain.{program_of}
-use Rattle.net_ir.specs.Runs.{netlist_of}
 use Rattle.cec_prove_cycles.proofs.comparing.constructive_comparison_of.Goals as goal
 
 pub returns-in-Ok-compared_with-clause-compares : goal.returns-in-Ok-compared_with-clause-compares
@@ -15,8 +14,3 @@ returns-in-Ok-compared_with-clause-compares g c =
       right_limits = w.right_limits;
       says = w.says;
     }
-
-pub returns-in-Err-compared_with-clause-refuses : goal.returns-in-Err-compared_with-clause-refuses
-returns-in-Err-compared_with-clause-refuses g c =
-    let made = c.in-Ok.made in
-    ((program_of made.program, netlist_of made.net, c.in-Ok.ensures.compiles), c.in-Err-compared_with.ensures.refuses)
