@@ -10,6 +10,7 @@
 mod cycles;
 mod deciding;
 mod findings;
+mod memory;
 mod sources;
 mod stopping;
 mod texts;
