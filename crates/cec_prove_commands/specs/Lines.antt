@@ -42,7 +42,7 @@ refused_of s name = record { program = codes "cec-prove: "; name = name; main = 
 
 -- the same of the second text of a comparison: the name of its file comes first
 abbrev pub second_line : Subject → List ℕ → List ℕ
-second_line s said = codes "cec-prove: " ++ (s.other ++ (codes ": " ++ (said ++ codes "\n")))
+second_line s said = (codes "cec-prove: " ++ (s.other ++ codes ": ")) ++ (said ++ codes "\n")
 
 -- the line of an outcome; none for Told
 abbrev pub line_of : Subject → ProveOutcome → List ℕ

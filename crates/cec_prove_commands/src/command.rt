@@ -173,10 +173,10 @@ fn subject_of<'a>(job: Job<'a>, source: &'a [u8]) -> Subject<'a>
 }
 
 // How many bytes a text, or a source, may have.
-fn byte_limit(of_texts: bool) -> u64
-    ensures { result ≡ byte_limit of_texts }
+fn byte_limit(task: Task<'_>) -> u64
+    ensures { result ≡ byte_limit (is_of_texts (task_is task.entry)) }
 {
-    if of_texts {
+    if is_of_texts(task) {
         Limits::TEXT_BYTES
     } else {
         Limits::SOURCE_BYTES
@@ -201,11 +201,10 @@ fn do_file<F: Files, O: Sink, E: Sink>(
     ensures err { GainsJobErr progress (job_is job.entry) (F.content files.old) result
         (E.told err.old) (E.told err.new) (E.faults err.old) (E.faults err.new) }
 {
-    let of_texts = is_of_texts(job.task);
-    match files.read(alloc, job.name, byte_limit(of_texts)) {
+    match files.read(alloc, job.name, byte_limit(job.task)) {
         Ok(text) => do_text(alloc, job, &text, files, progress, out, err),
         Err(fault) => {
-            let outcome = unread_outcome(of_texts, fault);
+            let outcome = unread_outcome(is_of_texts(job.task), fault);
             report(err, subject_of(job, b""), &outcome);
             outcome
         }
@@ -262,11 +261,10 @@ fn do_second<F: Files, O: Sink, E: Sink>(
     ensures err { GainsJobErr progress (job_is job.entry) (F.content files.old) result
         (E.told err.old) (E.told err.new) (E.faults err.old) (E.faults err.new) }
 {
-    let of_texts = is_of_texts(job.task);
-    match files.read(alloc, second_of(job.task), byte_limit(of_texts)) {
+    match files.read(alloc, second_of(job.task), byte_limit(job.task)) {
         Ok(second) => told_answer(alloc, job, text, &second, progress, out, err),
         Err(fault) => {
-            let outcome = second_unread_outcome(of_texts, fault);
+            let outcome = second_unread_outcome(is_of_texts(job.task), fault);
             report(err, subject_of(job, b""), &outcome);
             outcome
         }

@@ -166,7 +166,9 @@ fn put_second_fault<E: Sink>(
     ensures { Wrote (E.told err.old) (E.told err.new) (E.faults err.old) (E.faults err.new)
         (second_line (subject_is subject.entry) (fault_text fault.now)) result }
 {
-    write_pieces(err, &[b"cec-prove: ", subject.other.as_bytes(), b": "])?;
+    if let Err(stop) = put_second_name(err, subject) {
+        return Err(stop);
+    }
     put_fault(err, b"", fault)
 }
 
@@ -175,16 +177,18 @@ fn put_second_limit<E: Sink>(err: &mut E, subject: Subject<'_>) -> Result<(), Si
     ensures { Wrote (E.told err.old) (E.told err.new) (E.faults err.old) (E.faults err.new)
         (second_line (subject_is subject.entry) (codes "limit: text")) result }
 {
-    write_pieces(
-        err,
-        &[
-            b"cec-prove: ",
-            subject.other.as_bytes(),
-            b": ",
-            b"limit: text",
-            b"\n",
-        ],
-    )
+    if let Err(stop) = put_second_name(err, subject) {
+        return Err(stop);
+    }
+    write_pieces(err, &[b"limit: text", b"\n"])
+}
+
+// The name of the second file, with which such a line begins.
+fn put_second_name<E: Sink>(err: &mut E, subject: Subject<'_>) -> Result<(), SinkFault>
+    ensures { Wrote (E.told err.old) (E.told err.new) (E.faults err.old) (E.faults err.new)
+        (codes "cec-prove: " ++ (subject.entry.other.now ++ codes ": ")) result }
+{
+    write_pieces(err, &[b"cec-prove: ", subject.other.as_bytes(), b": "])
 }
 
 // The line of a search that ended without an answer.
