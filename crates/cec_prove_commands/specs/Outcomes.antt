@@ -207,7 +207,8 @@ CountsFiles None outcome before now failed_before failed_now = KeepsFaults befor
 
 -- ---- what is written
 
--- what a task writes about the sources, or the texts, in the files, where it ends with an outcome: a trace, a survey or a covering
+-- what a task writes about the sources, or the texts, in the files, where it ends with an outcome: a trace, a survey or
+-- a covering
 abbrev pub IsTextOf : Task → Job → Content → ProveOutcome → List ℕ → Type 0
 IsTextOf (Ask claim signal) job content outcome written =
     Holds content job.name (λ text. IsRefutation (question_of claim signal job) job text written)

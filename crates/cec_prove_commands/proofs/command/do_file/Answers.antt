@@ -1,8 +1,9 @@
-use Rattle.std.proofs.Common.{Err, ◌≤◌, length, subst, sym, Some}
+use Rattle.std.proofs.Common.{ℕ, ◌≤◌, List, length, Err, Some, subst, sym}
 use Rattle.base_types.proofs.Exports.{appends-nothing}
 use Rattle.base_types.specs.SinkChanges.{change}
 use Rattle.base_types.specs.Reading.{Reads}
 use Rattle.cec_text_io.proofs.Exports.{held_read}
+use Rattle.cec_text_io.proofs.Reading.{short_read}
 use Rattle.cec_text_io.specs.Contents.{Content, IsHeld}
 use Rattle.cec_prove_commands.specs.Lines.{GainsJobErr}
 use Rattle.cec_prove_commands.specs.Outcomes.{GainsOut, IsOutcomeOf, IsTextOf}
@@ -11,6 +12,12 @@ use Rattle.cec_prove_commands.specs.Views.{job_is}
 use Rattle.cec_prove_commands.specs.Words.{Do}
 use Rattle.cec_prove_commands.proofs.Outcomes.{counts-later, unread_agrees, unread_counts, unread_err, unread_out}
 use Rattle.cec_prove_commands.proofs.command.do_file.Goals as goal
+
+pub do_text-requires-clause-short : goal.do_text-requires-clause-short
+do_text-requires-clause-short g c =
+    subst (λ n. length c.deref.result.now ≤ n) c.byte_limit.ensures
+    (subst (λ (b : List ℕ). length b ≤ c.byte_limit.result) (sym c.deref.ensures.value)
+    (short_read (g.F.Files.content c.args.files.now) c.args.job.name.now _ c.in-Ok.text c.in-Ok.ensures.bytes))
 
 pub do_text-requires-clause-held : goal.do_text-requires-clause-held
 do_text-requires-clause-held g c =
@@ -54,7 +61,8 @@ returns-in-Err-clause-out g c =
     let job = job_is c.args.job in
     rw c.unread_outcome-outcome.ensures
     (unread_out c.is_of_texts.result
-    (IsTextOf job.task job (g.F.Files.content c.args.files.now) (unread_outcome c.is_of_texts.result c.in-Err.fault)) c.in-Err.fault
+    (IsTextOf job.task job (g.F.Files.content c.args.files.now) (unread_outcome c.is_of_texts.result c.in-Err.fault))
+    c.in-Err.fault
     (change g.O.Sink.told g.O.Sink.faults c.args.out.now c.args.out.now)
     (appends-nothing (g.O.Sink.told c.args.out.now) (g.O.Sink.faults c.args.out.now)))
 

@@ -1,10 +1,16 @@
-use Rattle.std.proofs.Common.{ap, subst, ◌∙◌}
+use Rattle.std.proofs.Common.{◌≤◌, length, ap, subst, sym, ◌∙◌}
 use Rattle.base_types.specs.SinkChanges.{change}
-use Rattle.cec_prove_commands.specs.Answers.{GainsAll}
+use Rattle.cec_prove_commands.specs.Answers.{GainsAll, byte_limit}
 use Rattle.cec_prove_commands.specs.Lines.{Subject, job_subject, line_of}
 use Rattle.cec_prove_commands.specs.Views.{job_is, spoken_of}
 use Rattle.cec_prove_commands.proofs.Progress.{all-told}
 use Rattle.cec_prove_commands.proofs.command.told_answer.Goals as goal
+
+pub spoken_of-source-requires-clause-first : goal.spoken_of-source-requires-clause-first
+spoken_of-source-requires-clause-first g c = subst (λ b. length c.args.first.now ≤ byte_limit b) (sym c.is_of_texts.ensures) c.requires.first
+
+pub spoken_of-source-requires-clause-second : goal.spoken_of-source-requires-clause-second
+spoken_of-source-requires-clause-second g c = subst (λ b. length c.args.second.now ≤ byte_limit b) (sym c.is_of_texts.ensures) c.requires.second
 
 pub returns-clause-says : goal.returns-clause-says
 returns-clause-says g c =

@@ -93,7 +93,7 @@ returns-in-OtherOutgoing-clause-out_of_texts g c = λ first second h. appends-no
 
 pub returns-in-OtherRelations-clause-says_of_texts : goal.returns-in-OtherRelations-clause-says_of_texts
 returns-in-OtherRelations-clause-says_of_texts g c = λ first second h.
-    absurd (text_comparison_says first second _ _ (λ d e. ⊥) h c.in-OtherRelations.is (λ d e is. is)).says
+    let none = text_comparison_says first second _ _ (λ d e. ⊥) h c.in-OtherRelations.is (λ d e is. is) in absurd none.says
 
 pub returns-in-OtherRelations-clause-out_of_texts : goal.returns-in-OtherRelations-clause-out_of_texts
 returns-in-OtherRelations-clause-out_of_texts g c = λ first second h. appends-nothing _ _

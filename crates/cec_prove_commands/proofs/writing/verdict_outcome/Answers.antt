@@ -84,7 +84,8 @@ returns-in-NoAssumed-clause-out_of_text g c = λ q text h. appends-nothing _ _
 pub returns-in-Broken-clause-says_of_text : goal.returns-in-Broken-clause-says_of_text
 returns-in-Broken-clause-says_of_text g c = λ q text h.
     let trace = c.in-Broken.trace.items in
-    let broken : IsTextRefutation q text trace = text_verdict_says text q _ _ (λ d. AnswersDeviceBroken LinePerInstant d q trace) h c.in-Broken.is (λ d is. is) in
+    let broken : IsTextRefutation q text trace =
+      text_verdict_says text q _ _ (λ d. AnswersDeviceBroken LinePerInstant d q trace) h c.in-Broken.is (λ d is. is) in
     subst (λ (o : ProveOutcome). TextClaimSays q o text) (sym c.written_outcome.ensures)
     (as_written Refuted (λ o. TextClaimSays q o text) c.write_whole.result (trace, broken) (trace, broken) tt)
 
