@@ -1,8 +1,9 @@
-"""The table of properties: cec-prove next to berkeley-abc, on the sources of the corpus with observers and on the examples.
+"""The table of properties: cec-prove next to berkeley-abc, on the sources of the corpus with observers, on the examples, and on
+circuits with an assertion.
 
-Each question is whether a signal is never present. berkeley-abc gets the encoded BLIF text with the relations as tables, and runs
-`bmc3`, up to 50 instants or three seconds, and then `scorr; dc2; pdr`. Times are processor seconds of each process, whose limit is 60
-seconds."""
+Each question is whether a signal is never present. berkeley-abc gets the encoded BLIF text with the relations as tables, and of a
+circuit its text; it runs `bmc3`, up to 50 instants or three seconds, and then `scorr; dc2; pdr`. Times are processor seconds of each
+process, whose limit is 60 seconds."""
 import os
 import pathlib
 import re
@@ -43,15 +44,23 @@ def timed(words, folder):
 
 def ours(source, signal, folder):
     """The answer of cec-prove, its seconds, and its megabytes."""
-    _, status, seconds, peak = timed([PROVER, "never", signal, source], folder)
+    form = ["--text"] if source.suffix == ".blif" else []
+    _, status, seconds, peak = timed([PROVER, "never", *form, signal, source], folder)
     return ANSWERS.get(status), seconds, peak
+
+
+def asked_text(source, signal):
+    """The text with one output, which is true where the signal is present after events that meet the relations."""
+    if source.suffix == ".blif":
+        return monitored(blif_of(source.read_text()), signal, []).text()
+    blif = blif_of(text_of("blif", "--encode", str(source)))
+    name = signal if signal in blif.outputs else signal + ".out"
+    return monitored(blif, name, forbidden_pairs(read(str(source)), None)).text()
 
 
 def theirs(source, signal, folder):
     """The answer of berkeley-abc, its seconds, and its megabytes."""
-    blif = blif_of(text_of("blif", "--encode", str(source)))
-    name = signal if signal in blif.outputs else signal + ".out"
-    (folder / "asked.blif").write_text(monitored(blif, name, forbidden_pairs(read(str(source)), None)).text())
+    (folder / "asked.blif").write_text(asked_text(source, signal))
     seconds, peak = 0.0, 0.0
     for script in (ABC, ABC_PROOF):
         printed, _, took, room = timed(["berkeley-abc", "-q", script], folder)
@@ -69,6 +78,9 @@ def questions(folder):
     parts = [("examples", [(name + " " + signal, TOP / "examples" / (name + ".strl"), signal) for name, signal in EXAMPLES])]
     for half in ("tune", "aside"):
         parts.append((half, [(path.stem, path, "VIOLATED") for path in sorted((folder / "watched" / half).glob("*.strl"))]))
+    subprocess.run([TOP / "checks/corpus/asserted", folder / "circuits"], check=True)
+    for half in ("tune", "aside"):
+        parts.append(("circuits, " + half, [(path.stem, path, "BAD") for path in sorted((folder / "circuits" / half).glob("*.blif"))]))
     return parts
 
 

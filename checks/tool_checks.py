@@ -152,13 +152,16 @@ def simulated(folder, blif, netlist, trace, models=(), reset=None):
 class Terminal:
     """A terminal of tmux with one program in it, on a socket of its own."""
 
-    def __init__(self, socket, words):
+    def __init__(self, socket, words, columns=110):
         self.base = ["tmux", "-S", socket, "-f", "/dev/null"]
         call = "CEC=%s %s; echo status $?; sleep 100" % (shlex.quote(os.environ.get("CEC", "")), shlex.join(map(str, words)))
-        run([*self.base, "new-session", "-d", "-x", "110", "-y", "40", call])
+        run([*self.base, "new-session", "-d", "-x", columns, "-y", "40", call])
 
     def press(self, *keys):
         run([*self.base, "send-keys", *keys])
+
+    def resize(self, columns):
+        run([*self.base, "resize-window", "-x", columns])
 
     def screen(self, *words):
         return run([*self.base, "capture-pane", "-p", *words]).stdout

@@ -108,13 +108,16 @@ def earlier_name(page, at):
         modules = modules_of(page.text)
     except Unread:
         return
-    declared = [module.name for module in modules]
+    declared, kinds = [module.name for module in modules], {}
     for module in modules:
+        kinds.update((it.start, kind) for kind, names in module.signals.items() for it in names)
         declared += [it for names in module.signals.values() for it in names]
         declared += [it for statement in all_statements(module.body) for it in statement.parts.get("signals", ())]
     before = [it.start for it in declared if it.name == name and it.start < at]
     if before:
         page.add(max(before), "note", "it was declared here")
+        if {kinds.get(at), kinds.get(max(before))} == {"input", "output"}:
+            page.add(at, "note", "a signal that comes from outside and is emitted too is declared once: `inputoutput %s;`" % name)
 
 
 def syntax_notes(page, at):

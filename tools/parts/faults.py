@@ -2,7 +2,7 @@
 import re
 import unicodedata
 
-from porting import ROWS
+from porting import COMPARED, ROWS, test_words
 from source import all_statements, modules_of
 from tokens import Unread
 
@@ -25,6 +25,7 @@ MARKS = {
     "\\": "a backslash begins nothing here; a statement goes on in the next line without a mark",
 }
 VALUE_MARKS = "<>+*"
+IN_TEST = re.compile(r"(?:[(\[]|\b(?:if|elsif|present|await|when|while|until|every|each|case|immediate|and|or|not))\s*\Z")
 
 
 def why_bad_byte(text, at):
@@ -41,6 +42,9 @@ def why_bad_byte(text, at):
         return "a comment is written `%` and the rest of the line"
     if rest[0] == "-" and text[at - 1 : at].isalnum() and rest[1:2].isalnum():
         return "a name has letters, digits and `_`, and no `-`"
+    compared = why_compared(text, at)
+    if compared:
+        return compared
     if rest[0] == "=":
         return why_bad_equals(text, at)
     if rest[:2] == "!=":
@@ -50,6 +54,16 @@ def why_bad_byte(text, at):
     if rest[0] in MARKS:
         return MARKS[rest[0]]
     return why_other_byte(rest)
+
+
+def why_compared(text, at):
+    """What to write in place of the comparison of a signal with a value, whose mark is at a place; none where it is no such comparison."""
+    name = re.search(r"[A-Za-z]\w*\s*\Z", text[:at])
+    found = COMPARED.match(text, name.start()) if name else None
+    # A lone `=` outside of a test may be meant as an assignment.
+    if not found or (found[2] == "=" and not IN_TEST.search(text[: name.start()])):
+        return None
+    return "there is nothing to compare, since signals carry no values here: `%s` tests %s" % (test_words(found), found[1])
 
 
 def why_bad_equals(text, at):

@@ -2,7 +2,7 @@
 import difflib
 
 from indentation import NAMED_ENDS
-from porting import word_before
+from porting import COMPARED, test_words, word_before
 from source import Reader
 from tokens import Unread, line_and_column, readable_tokens
 
@@ -99,31 +99,72 @@ def about_test(before, now, last):
 
 
 class Opened(Reader):
-    """A reader of tokens that knows which statements are open where it stops, and which one ended last."""
+    """A reader of tokens that knows which statements are open where it stops, which one ended last, and by which `end` each one was
+    closed: pairs of first tokens and tokens `end`, in the order of the latter."""
 
     def __init__(self, text):
         super().__init__(text)
-        self.opened, self.ended = [], None
+        self.opened, self.ended, self.closed = [], None, []
 
     def item(self):
         token = self.tokens[self.at]
         self.opened.append(token)
         statement = super().item()
         self.opened.pop()
-        if self.tokens[self.at - 1].kind == "end":
+        last = self.tokens[self.at - 1]
+        if last.kind == "end":
             self.ended = token
+        elif last.kind in NAMED_ENDS:
+            last = self.tokens[self.at - 2]
+        if last.kind == "end":
+            self.closed.append((token, last))
         return statement
+
+
+def read_up_to(text, at):
+    """A reader of the tokens before a place."""
+    reader = Opened(text[:at])
+    try:
+        reader.program()
+    except Unread:
+        pass
+    return reader
+
+
+def place_words(text, token):
+    """The line and the column of a token, as the lines of explain have them."""
+    return "%d:%d" % line_and_column(text, token.start)
+
+
+def closed_words(text, closed, kind):
+    """Which `end` closed the last statement of a kind, or the last one of all where none has this kind; nothing where none was closed."""
+    found = [it for it in closed if it[0].kind == kind] or closed
+    return "the `%s` at %s was closed by the `end` at %s" % (found[-1][0].kind, *(place_words(text, it) for it in found[-1])) if found else ""
+
+
+def about_surplus_end(text, at, before, now, expected):
+    """A note about one `end` too many: only `module` may follow it, or an open statement that another word closes."""
+    if not before or now.kind in ("", "name"):
+        return None
+    if before[-1].kind == "end" and expected == ["module"]:
+        words = closed_words(text, read_up_to(text, at).closed, now.kind)
+        return "the `end` at %s is one too many: no statement is open there%s" % (place_words(text, before[-1]), words and ", and " + words)
+    if now.kind == "end" and ";" in expected and "end" not in expected:
+        reader = read_up_to(text, at)
+        if reader.opened:
+            opened, inner = reader.opened[-1], [it for it in reader.closed if it[0].start > reader.opened[-1].start]
+            words = closed_words(text, inner, "")
+            head = "this `end` is one too many: the `%s` at %s is open, which `%s` closes" % (
+                opened.kind, place_words(text, opened), "]" if opened.kind == "[" else "when")
+            return head + (words and "; " + words)
+    return None
 
 
 def about_end(text, at, before, now):
     """A note about an `end`, or the end of the text, where another statement is open than the one that is meant."""
     if not before or now.kind not in ("", *NAMED_ENDS) or (now.kind == "" and text[at:].strip()):
         return None
-    reader = Opened(text[:at])
-    try:
-        reader.program()
-    except Unread:
-        pass
+    reader = read_up_to(text, at)
     if before[-1].kind == "end" and now.kind and reader.ended:
         line = line_and_column(text, reader.ended.start)[0]
         return "this `end` ends the `%s` of line %d: an `end` is missing before it" % (reader.ended.kind, line)
@@ -165,6 +206,12 @@ def after_declaration(text, at, expected):
     return ends, "`;` is missing at the end of line %d" % line
 
 
+def about_comparison(text, at, now):
+    """A note about an `if` that compares a signal with a value of a switch."""
+    test = COMPARED.match(text, at + len(now.text)) if now.kind == "name" and now.text.lower() == "if" else None
+    return "a signal has no value, it is present or absent: `present %s then p else q end`" % test_words(test) if test else None
+
+
 def about_word(now, last, expected):
     """A note about a word that begins no statement."""
     near = difflib.get_close_matches(now.text, [it for it in expected if it.isalpha()], 1, 0.7) if now.kind == "name" else []
@@ -189,11 +236,13 @@ def habit_note(text, at, expected):
         return None
     looks = (
         about_ports(before, now),
+        about_surplus_end(text, at, before, now, expected),
         about_mark(text, at),
         about_renaming(before, now, expected),
         about_test(before, now, last),
         about_end(text, at, before, now),
         about_missing(text, before, now, last, expected),
+        about_comparison(text, at, now),
         about_word(now, last, expected),
     )
     return next((note for note in looks if note), None)

@@ -11,11 +11,13 @@ sys.setrecursionlimit(100000)
 
 
 class Origin(NamedTuple):
-    """Where a kernel statement comes from: the source statement, its module, and the places of the runs that led there."""
+    """Where a kernel statement comes from: the source statement, its module, the places of the runs that led there, and the turns
+    of the counts around it, each as a number from 1 and the count."""
 
     statement: object
     module: str
     runs: tuple
+    turns: tuple = ()
 
 
 class Kernel(NamedTuple):
@@ -91,7 +93,7 @@ class Expander:
         """The body of a module, in which its signals mean what the scope says."""
         kept = self.scope, self.traps, self.origin
         self.scope, self.traps = scope, {}
-        self.origin = Origin(module.body, module.name.name, runs)
+        self.origin = Origin(module.body, module.name.name, runs, self.origin.turns if self.origin else ())
         body = self.of(module.body)
         self.scope, self.traps, self.origin = kept
         return body
@@ -101,12 +103,21 @@ class Expander:
         if statement is None:
             return self.make("Nothing")
         kept = self.origin
-        self.origin = Origin(statement, kept.module, kept.runs)
+        self.origin = kept._replace(statement=statement)
         made = self.FORMS[statement.form](
             self, **{"the_" + key: it for key, it in statement.parts.items()}
         )
         self.origin = kept
         return made
+
+    def turns(self, count, make):
+        """What a function makes, once for each turn of a count, as a sequence."""
+        kept, made = self.origin, []
+        for number in range(1, count + 1):
+            self.origin = kept._replace(turns=kept.turns + ((number, count),)) if count > 1 else kept
+            made.append(make())
+        self.origin = kept
+        return self.seq(*made)
 
     def seq(self, *parts):
         """A list of statements as a sequence that nests to the right."""
@@ -194,7 +205,7 @@ class Expander:
             tested = self.test(delay, self.exit_to(trap), self.make("Nothing"))
             pause = self.make("Pause", place=(delay.start, delay.end))
             return self.make("Loop", self.seq(*((tested, pause) if delay.immediate else (pause, tested))))
-        return self.seq(*[self.trap(turn) for _ in range(max(1, delay.count))])
+        return self.turns(max(1, delay.count), lambda: self.trap(turn))
 
     def awaited(self, the_delay, the_do):
         waited = self.wait(the_delay)
@@ -278,7 +289,7 @@ class Expander:
         return self.seq(self.wait(the_delay), self.loop_each(the_body, the_delay))
 
     def repeat(self, the_count, the_body):
-        return self.seq(*[self.of(the_body) for _ in range(the_count)])
+        return self.turns(the_count, lambda: self.of(the_body))
 
     def trapping(self, the_trap, the_body, the_handler, the_handled):
         del the_handled  # It names the trap once more.

@@ -99,6 +99,16 @@ VALUES = {
 }
 
 
+# The comparison of a signal with a value that a switch has: `A == 1`, also with brackets before it.
+COMPARED = re.compile(r"[\s(\[]*([A-Za-z]\w*)\s*(==?|!=|/=|<>)\s*(0|1|true|false|present|absent)\b", re.IGNORECASE)
+
+
+def test_words(comparison):
+    """The test of a signal that is written in place of its comparison with a value."""
+    is_present = (comparison[2] in ("=", "==")) == (comparison[3].lower() in ("1", "true", "present"))
+    return comparison[1] if is_present else "[not %s]" % comparison[1]
+
+
 def row_of_do(text, at):
     """The row of a `do` that begins a statement: the word that ends it says which; none where no such word follows."""
     depth, last = 0, None
@@ -184,6 +194,6 @@ def row_at(text, at, expected):
         return ROWS["elsif"]
     if now.text == "timeout":
         return ROWS["timeout"]
-    if now.text == "if" and not ("halt" in expected and re.match(r"if\b[^;{]*?(\?|<|>|=)", text[at:])):
+    if now.text == "if" and (COMPARED.match(text, at + 2) or not ("halt" in expected and re.match(r"if\b[^;{]*?(\?|<|>|=)", text[at:]))):
         return None
     return ROWS[WORDS[now.text]] if now.text in WORDS else None

@@ -17,6 +17,10 @@ DONE, FAILED, USAGE, FILE, STATIC, CYCLIC, TRACE, BAD_TEXT, LIMIT, WRITE, NO_MEM
 UNDECIDED, MISSING = 11, 12
 
 
+# What runs a source with a cycle, which has no text of its own.
+IF_HARMLESS = "if it is harmless, `simulate` and `trace_report` run the source, and `cec-opt blif --source` makes a text of it"
+
+
 class Stop(Exception):
     """A tool's end before its work is done: a status, and a line about it."""
 
@@ -102,7 +106,7 @@ def text_of(*words):
     answer = ask(*words)
     if answer.status == CYCLIC:
         # The wires of a cycle fill a screen; explain shows its statements.
-        raise Stop(CYCLIC, "%s: the dependencies have a cycle; `explain` shows it" % words[-1])
+        raise Stop(CYCLIC, "%s: the dependencies have a cycle; `explain` shows it, and %s" % (words[-1], IF_HARMLESS))
     if answer.status == STATIC:
         raise Stop(STATIC, "%s:%s; `explain` says more" % (words[-1], answer.err.decode("latin-1").strip().removeprefix("cec: ")))
     if answer.status != DONE:

@@ -19,11 +19,30 @@ def quoted(text):
     return '"%s"' % text.replace("\\", "\\\\").replace('"', '\\"').replace("\n", "\\n")
 
 
+def leaf_labels(text, leaves):
+    """What each leaf waits for: a line, its words, and in brackets the turns of the counts around it. Where leaves of several runs of
+    a module have the same label, they have the lines of the runs too."""
+    labels, runs = [], {}
+    for kernel in leaves:
+        words = words_of_leaf(text, kernel)
+        shown = words if len(words) <= SHOWN_WORDS else words[: SHOWN_WORDS - 2] + ".."
+        turns = ["%d of %d" % it for it in kernel.origin.turns]
+        labels.append(("%d: %s" % (line_and_column(text, kernel.place[0])[0], shown), turns))
+        runs.setdefault(str(labels[-1]), set()).add(kernel.origin.runs)
+    found = []
+    for (words, turns), kernel in zip(labels, leaves):
+        lines = ["run at line %s" % "/".join(str(line_and_column(text, it)[0]) for it in kernel.origin.runs)]
+        inner = turns + (lines if len(runs[str((words, turns))]) > 1 else [])
+        found.append(words + (" (%s)" % ", ".join(inner) if inner else ""))
+    return found
+
+
 class Graph:
     """The states and the edges that are drawn, with what the program waits for in each state."""
 
     def __init__(self, automaton, merges, text, leaves):
-        self.automaton, self.text, self.leaves = automaton, text, leaves
+        self.automaton, self.leaves = automaton, leaves
+        self.labels = leaf_labels(text, leaves or [])
         own = list(range(len(automaton.states)))
         self.numbers = automaton.classes() if merges else own
         self.exact = automaton.edges(own)
@@ -36,13 +55,8 @@ class Graph:
         """What the program waits for in a state, in the order of the source: a line and its words."""
         if self.leaves is None:
             return []
-        held = [self.leaves[at - 1] for at, value in enumerate(self.automaton.states[state]) if value and at > 0]
-        found = {}
-        for kernel in sorted(held, key=lambda it: it.place):
-            words = words_of_leaf(self.text, kernel)
-            shown = words if len(words) <= SHOWN_WORDS else words[: SHOWN_WORDS - 2] + ".."
-            found["%d: %s" % (line_and_column(self.text, kernel.place[0])[0], shown)] = None
-        return list(found)
+        held = [at - 1 for at, value in enumerate(self.automaton.states[state]) if value and at > 0]
+        return list(dict.fromkeys(self.labels[leaf] for leaf in sorted(held, key=lambda it: self.leaves[it].place)))
 
     def name(self, number):
         """What a state is called: the start, the end, or its number."""

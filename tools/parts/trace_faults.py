@@ -16,17 +16,29 @@ from traces import RESET
 # How `cec run --via tri` ends at an instant that is not constructive.
 NOT_CONSTRUCTIVE = re.compile(r"cec: instant (\d+): not constructive: (.*)")
 FAULT = re.compile(r"cec: (?:instant (\d+)|byte (\d+)): (.*)")
-FIRST = "the inputs of the first instant change nothing: an `await` does not see the instant in which it starts"
+FIRST = "the inputs of the first instant%s change nothing: an `await` does not see the instant in which it starts"
+EMPTY = "begin %s with an empty instant, `;`"
+
+
+def plain_trace(text):
+    """A trace with spaces in place of its comments."""
+    return re.sub(r"%[^\n]*", lambda it: " " * len(it[0]), text)
 
 
 def groups_at(text):
     """The places of the instants of a trace, resets not counted: where each begins and where it ends."""
-    plain = re.sub(r"%[^\n]*", lambda it: " " * len(it[0]), text)
-    found, start = [], 0
-    for part in re.findall(r"[^;]*;?", plain):
+    return [place for stretch in stretches_at(text) for place in stretch]
+
+
+def stretches_at(text):
+    """The same, as a list for each stretch between resets; the first one is that before the first reset."""
+    found, start = [[]], 0
+    for part in re.findall(r"[^;]*;?", plain_trace(text)):
         end = start + len(part)
-        if part.strip() and part.rstrip(";").strip() != RESET:
-            found.append((start + len(part) - len(part.lstrip()), end))
+        if part.rstrip(";").strip() == RESET:
+            found.append([])
+        elif part.strip():
+            found[-1].append((start + len(part) - len(part.lstrip()), end))
         start = end
     return found
 
@@ -105,17 +117,26 @@ def lines_of_run(source, main, text):
     return answer.out if answer.status == DONE else None
 
 
-def first_instant(page, source, main):
-    """A warning about inputs of the first instant that change no line: the program is asked without them."""
-    groups = groups_at(page.text)
-    if not groups or page.text[: groups[0][0]].count(RESET) or not page.text[groups[0][0] : groups[0][1]].rstrip(";").strip():
+def first_instants(page, source, main):
+    """Warnings about inputs that change no line up to the next reset: those of the first instant, and of each first one after a reset.
+    The program is asked without all of them at once, since a reset leaves nothing of what was before it."""
+    text, stretches = plain_trace(page.text), stretches_at(page.text)
+    without, is_given = text, []
+    for stretch in stretches:
+        start, end = stretch[0] if stretch else (0, 0)
+        is_given.append(bool(text[start:end].rstrip(";").strip()))
+        without = without[:start] + re.sub(r"[^;\n]", " ", without[start:end]) + without[end:]
+    if not any(is_given):
         return
-    start, end = groups[0]
-    without = page.text[:start] + re.sub(r"[^;\n]", " ", page.text[start:end]) + page.text[end:]
-    lines = lines_of_run(source, main, page.text)
-    if lines is not None and lines == lines_of_run(source, main, without):
-        page.add(start, "warning", FIRST)
-        page.add(start, "note", "begin the trace with an empty instant, `;`")
+    given, blank = (lines_of_run(source, main, it) for it in (text, without))
+    if given is None or blank is None:
+        return
+    lines, at = list(zip(given.splitlines(), blank.splitlines())), 0
+    for number, stretch in enumerate(stretches):
+        if is_given[number] and all(one == other for one, other in lines[at : at + len(stretch)]):
+            page.add(stretch[0][0], "warning", FIRST % (" after a reset" if number else ""))
+            page.add(stretch[0][0], "note", EMPTY % ("again" if number else "the trace"))
+        at += len(stretch)
 
 
 def where_run(page, origin):
@@ -165,5 +186,5 @@ def trace_explained(trace, source, main=None, wants_lint=False):
     elif answer.status != DONE:
         page.add(None, "error", lines[-1].removeprefix("cec: ") if lines else "status %d" % answer.status)
     elif wants_lint:
-        first_instant(page, source, main)
+        first_instants(page, source, main)
     return page, answer.status

@@ -16,7 +16,8 @@ use Rattle.cec_opt_sources.specs.LightNets.{IsLightNetOf}
 use Rattle.cec_opt_sources.specs.SmallTexts.{StandsForSmallNet}
 use Rattle.cec_prove_sources.proofs.Exports.{each-event, replaced-keeps}
 use Rattle.cec_cycles.specs.Alarms.{NeverAlarms}
-use Rattle.cec_cycles.specs.Constructive.{StandsForConstructiveNet, StandsForConstructiveBlif, StandsForConstructiveC, StandsForConstructiveVerilog}
+use Rattle.cec_cycles.specs.Constructive.{StandsForConstructiveMade, StandsForConstructiveNet}
+use Rattle.cec_cycles.specs.Constructive.{StandsForConstructiveBlif, StandsForConstructiveC, StandsForConstructiveVerilog}
 
 -- a netlist whose check never raises the alarm keeps what the program means
 quiet-keeps : (p : Program) (net check : Netlist) → IsCheckedNet p net check → NeverAlarms p check → NetKeeps net p
@@ -45,6 +46,17 @@ light-stands text main net light small =
       few = subst (λ (p : Program). given_count p ≤ length p.signals) same (given-few s.program s.compiled.formed);
       keeps = small.keeps;
     }
+
+-- the netlist of a source whose program is named
+pub made-net : (text : List ℕ) (main : Option (List ℕ)) (program : Program) (net : Netlist) → StandsForConstructiveMade text main program net
+    → StandsForConstructiveNet text main net
+made-net text main program net s = record {
+  program = program;
+  source = s.source;
+  limits = s.limits;
+  few = given-few program s.formed;
+  keeps = s.keeps;
+}
 
 -- ---- texts
 

@@ -1,6 +1,7 @@
 -- To believe: sources whose programs are constructive, with a cycle or without, and their texts.
 use Rattle.std.specs.Prelude.{ℕ, ◌≤◌, ◌⊎◌, List, length, Option}
 use Rattle.est_kernel.specs.Plain.{Program, given_count}
+use Rattle.est_kernel.specs.WellFormed.{IsWellFormed}
 use Rattle.net_ir.specs.Netlists.{Netlist}
 use Rattle.est_front.specs.Sources.{StandsFor}
 use Rattle.cec_compile.specs.Meaning.{TextKeeps, CTextKeeps, VerilogTextKeeps}
@@ -16,7 +17,14 @@ use Rattle.cec_cycles.specs.declared.findings.CycleRefusal.TheVariants.{Source, 
 use Rattle.cec_cycles.specs.declared.findings.Stuck.{Stuck}
 
 -- The bytes stand for a program whose graph keeps the limits; its dependencies may go round in circles. The netlist, or
--- the text in BLIF, C or Verilog, keeps what the program means.
+-- the text in BLIF, C or Verilog, keeps what the program means. The first of these names the program.
+
+pub record StandsForConstructiveMade (text : List ℕ) (main : Option (List ℕ)) (program : Program) (net : Netlist) :
+    Type 0 where
+  pub source : StandsFor text main program
+  pub formed : IsWellFormed program
+  pub limits : KeepsGraphLimits program
+  pub keeps : NetKeeps net program
 
 pub record StandsForConstructiveNet (text : List ℕ) (main : Option (List ℕ)) (net : Netlist) : Type 0 where
   pub program : Program

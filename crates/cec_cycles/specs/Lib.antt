@@ -2,4 +2,3 @@ pub mod Alarms
 pub mod Constructive
 pub mod Counted
 pub mod Findings
-pub mod SourceFindings

@@ -3,7 +3,10 @@
 ghost use Rattle.std.specs.Prelude.{◌≡◌, codes, map};
 ghost use Rattle.grc_graph.specs.PlainWireNames.{wire_name_of};
 ghost use Rattle.cec_compile.specs.WireTexts.{joined_texts};
+ghost use Rattle.cec_compile.specs.declared.refusal.Refusal.TheVariants.{NoMemory as lacks_memory};
+ghost use Rattle.cec_cycles.specs.declared.findings.CycleRefusal.TheVariants.{Source as has_no_graph};
 
+use base_types::NoMemory;
 use cec_compile::{Cycle, Refusal};
 use grc_graph::WireName;
 use net_ir::Net;
@@ -52,4 +55,12 @@ pub enum CycleRefusal {
     /// The dependencies have this cycle, and the netlist or its check would have more than 2^32 nets.
     #[error("the dependencies have a cycle, and a netlist would be too large")]
     TooManyNets(Cycle),
+}
+
+impl From<NoMemory> for CycleRefusal {
+    ghost from_gives = { λ _ refusal. refusal ≡ has_no_graph lacks_memory };
+
+    fn from(_error: NoMemory) -> CycleRefusal {
+        CycleRefusal::Source(Refusal::NoMemory)
+    }
 }

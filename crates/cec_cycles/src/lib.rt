@@ -17,5 +17,5 @@ mod texts;
 pub use cycles::source_cycles;
 pub use deciding::constructiveness_of;
 pub use findings::{Constructiveness, CycleRefusal, Stuck};
-pub use sources::{constructive_net, cyclic_net};
+pub use sources::{constructive_net, cyclic_made, cyclic_net};
 pub use texts::{constructive_blif_of, constructive_c_of, constructive_verilog_of};

@@ -1,17 +1,19 @@
 // The constructive netlists of sources.
 
-ghost use Rattle.std.specs.Prelude.{◌≤◌, length, IfErr, IfOk, option_map};
+ghost use Rattle.std.specs.Prelude.{◌≤◌, length, IfErr, IfOk, OnOk, option_map};
+ghost use Rattle.est_kernel.specs.Plain.{program_of};
 ghost use Rattle.net_ir.specs.Runs.{netlist_of};
-ghost use Rattle.cec_compile.specs.Graphs.{IsRefusedGraph};
+ghost use Rattle.cec_compile.specs.Refusals.{IsRefused};
+ghost use Rattle.cec_compile.specs.declared.cycles.Cycle.{Cycle};
 ghost use Rattle.cec_cycles.specs.Constructive.{HasCycle, IsConstructiveNetOf, IsRefusedConstructive};
-ghost use Rattle.cec_cycles.specs.Constructive.{StandsForConstructiveNet};
-ghost use Rattle.cec_cycles.specs.SourceFindings.{IsSourceFinding};
+ghost use Rattle.cec_cycles.specs.Constructive.{StandsForConstructiveMade, StandsForConstructiveNet};
 
 use crate::deciding::constructiveness_of;
 use crate::findings::{Constructiveness, CycleRefusal};
-use base_types::Limits;
-use cec_compile::{Cycle, Refusal, graph_of};
+use base_types::{Limits, NoMemory};
+use cec_compile::{Cycle, Made, Refusal, graph_of};
 use cec_opt_sources::light_net;
+use grc_graph::Graph;
 use grc_order::Picker;
 use net_ir::Net;
 use std::alloc::Global;
@@ -38,10 +40,11 @@ pub fn constructive_net<P: Picker>(
 {
     match light_net(alloc, text, main, picker) {
         Ok(net) => Ok(net),
-        Err(Refusal::Cyclic(cycle)) => cyclic_net(alloc, text, main, cycle, effort),
-        Err(Refusal::Static(fault)) => Err(CycleRefusal::Source(Refusal::Static(fault))),
-        Err(Refusal::Limit(limit)) => Err(CycleRefusal::Source(Refusal::Limit(limit))),
-        Err(Refusal::NoMemory) => Err(CycleRefusal::Source(Refusal::NoMemory)),
+        Err(refusal) => {
+            let made = cyclic_made(alloc, text, main, refusal, effort)?;
+            let Made { net, .. } = made;
+            Ok(net)
+        }
     }
 }
 
@@ -61,27 +64,61 @@ pub fn cyclic_net(
         (option_map (λ m. m.now) main.entry) (netlist_of net)) }
     ensures refuses { IfErr result (IsRefusedConstructive text.now (option_map (λ m. m.now) main.entry)) }
 {
-    match source_finding(alloc, text, main, effort) {
-        Ok(Constructiveness::Constructive(net)) => Ok(net),
-        Ok(Constructiveness::NotConstructive(stuck)) => Err(CycleRefusal::NotConstructive(stuck)),
-        Ok(Constructiveness::Undecided) => Err(CycleRefusal::Undecided(cycle)),
-        Ok(Constructiveness::TooManyNets) => Err(CycleRefusal::TooManyNets(cycle)),
-        Err(refusal) => Err(CycleRefusal::Source(refusal)),
-    }
+    let made = made_along(alloc, text, main, cycle, effort)?;
+    let Made { net, .. } = made;
+    Ok(net)
 }
 
-// What is found of the program of a source.
-fn source_finding(
+/// The program and the netlist of a source that is refused for this cause, where the cause is a cycle, the same. The
+/// other causes stay errors.
+pub fn cyclic_made(
     alloc: Global,
     text: &[u8],
     main: Option<&[u8]>,
+    refusal: Refusal,
     effort: u64,
-) -> Result<Constructiveness, Refusal>
-    requires { length text.now ≤ Limits.SOURCE_BYTES }
-    ensures finds { IfOk result (IsSourceFinding text.now (option_map (λ m. m.now) main.entry)) }
-    ensures refuses { IfErr result (IsRefusedGraph text.now (option_map (λ m. m.now) main.entry)) }
+) -> Result<Made, CycleRefusal>
+    requires short { length text.now ≤ Limits.SOURCE_BYTES }
+    requires refused { IsRefused text.now (option_map (λ m. m.now) main) refusal }
+    ensures compiles { IfOk result (λ made. StandsForConstructiveMade text.now
+        (option_map (λ m. m.now) main.entry) (program_of made.program) (netlist_of made.net)) }
+    ensures cyclic { OnOk result ((cycle : Cycle) × HasCycle text.now (option_map (λ m. m.now) main.entry) cycle) }
+    ensures refuses { IfErr result (IsRefusedConstructive text.now (option_map (λ m. m.now) main.entry)) }
 {
-    let graph = graph_of(alloc, text, main)?;
-    let finding = constructiveness_of(alloc, &graph, effort)?;
-    Ok(finding)
+    match refusal {
+        Refusal::Cyclic(cycle) => made_along(alloc, text, main, cycle, effort),
+        Refusal::Static(fault) => Err(CycleRefusal::Source(Refusal::Static(fault))),
+        Refusal::Limit(limit) => Err(CycleRefusal::Source(Refusal::Limit(limit))),
+        Refusal::NoMemory => Err(CycleRefusal::Source(Refusal::NoMemory)),
+    }
+}
+
+// The program and the netlist of a source whose dependencies have this cycle.
+fn made_along(
+    alloc: Global,
+    text: &[u8],
+    main: Option<&[u8]>,
+    cycle: Cycle,
+    effort: u64,
+) -> Result<Made, CycleRefusal>
+    requires short { length text.now ≤ Limits.SOURCE_BYTES }
+    requires cyclic { HasCycle text.now (option_map (λ m. m.now) main) cycle }
+    ensures compiles { IfOk result (λ made. StandsForConstructiveMade text.now
+        (option_map (λ m. m.now) main.entry) (program_of made.program) (netlist_of made.net)) }
+    ensures refuses { IfErr result (IsRefusedConstructive text.now (option_map (λ m. m.now) main.entry)) }
+{
+    let graph = match graph_of(alloc, text, main) {
+        Ok(graph) => graph,
+        Err(refusal) => return Err(CycleRefusal::Source(refusal)),
+    };
+    match constructiveness_of(alloc, &graph, effort) {
+        Ok(Constructiveness::Constructive(net)) => {
+            let Graph { program, .. } = graph;
+            Ok(Made { program, net })
+        }
+        Ok(Constructiveness::NotConstructive(stuck)) => Err(CycleRefusal::NotConstructive(stuck)),
+        Ok(Constructiveness::Undecided) => Err(CycleRefusal::Undecided(cycle)),
+        Ok(Constructiveness::TooManyNets) => Err(CycleRefusal::TooManyNets(cycle)),
+        Err(NoMemory) => Err(CycleRefusal::Source(Refusal::NoMemory)),
+    }
 }

@@ -17,7 +17,7 @@ use crate::interfaces::{are_same_names, are_same_outputs, are_same_relations};
 use crate::questions::{Claim, Comparison, Layout, PairRefusal};
 use crate::reading::trace_of;
 use base_types::{Limits, NoMemory};
-use cec_compile::{Compiled, Refusal, compile};
+use cec_compile::{Made, Refusal, TextForm, source_made};
 use est_kernel::KernelProgram;
 use grc_order::Picker;
 use net_ir::Net;
@@ -86,43 +86,33 @@ pub fn small_pair(alloc: Global, left: &Net, right: &Net) -> Result<Option<Net>,
 }
 
 // The comparison of two programs with the same interface.
-fn paired(
-    alloc: Global,
-    left: &Compiled,
-    right: &Compiled,
-    effort: u64,
-) -> Result<Comparison, NoMemory>
-    requires fits { IsWellFormed (program_of left.now.graph.program) }
-    requires right_fits { IsWellFormed (program_of right.now.graph.program) }
-    requires keeps { NetKeeps (netlist_of left.now.net) (program_of left.now.graph.program) }
-    requires right_keeps { NetKeeps (netlist_of right.now.net) (program_of right.now.graph.program) }
-    requires interface { SharesInterface (program_of left.now.graph.program) (program_of right.now.graph.program) }
-    ensures { IfOk result (IsComparison (program_of left.now.graph.program) (program_of right.now.graph.program)) }
+fn paired(alloc: Global, left: &Made, right: &Made, effort: u64) -> Result<Comparison, NoMemory>
+    requires fits { IsWellFormed (program_of left.now.program) }
+    requires right_fits { IsWellFormed (program_of right.now.program) }
+    requires keeps { NetKeeps (netlist_of left.now.net) (program_of left.now.program) }
+    requires right_keeps { NetKeeps (netlist_of right.now.net) (program_of right.now.program) }
+    requires interface { SharesInterface (program_of left.now.program) (program_of right.now.program) }
+    ensures { IfOk result (IsComparison (program_of left.now.program) (program_of right.now.program)) }
 {
     match small_pair(alloc, &left.net, &right.net)? {
         None => Ok(Comparison::Open(0)),
-        Some(net) => decided(
-            alloc,
-            &left.graph.program,
-            &right.graph.program,
-            &net,
-            effort,
-        ),
+        Some(net) => decided(alloc, &left.program, &right.program, &net, effort),
     }
 }
 
-// The comparison of two compiled sources.
-fn compared(
+/// Whether two programs do the same, each by a netlist that keeps what it means, however the netlist was made: what
+/// `comparison_of` says of the programs of two sources. The effort is one of `net_search`. The error is out of memory.
+pub fn net_comparison(
     alloc: Global,
-    left: &Compiled,
-    right: &Compiled,
+    left: &Made,
+    right: &Made,
     effort: u64,
 ) -> Result<Comparison, NoMemory>
-    requires fits { IsWellFormed (program_of left.now.graph.program) }
-    requires right_fits { IsWellFormed (program_of right.now.graph.program) }
-    requires keeps { NetKeeps (netlist_of left.now.net) (program_of left.now.graph.program) }
-    requires right_keeps { NetKeeps (netlist_of right.now.net) (program_of right.now.graph.program) }
-    ensures { IfOk result (IsComparison (program_of left.now.graph.program) (program_of right.now.graph.program)) }
+    requires fits { IsWellFormed (program_of left.now.program) }
+    requires right_fits { IsWellFormed (program_of right.now.program) }
+    requires keeps { NetKeeps (netlist_of left.now.net) (program_of left.now.program) }
+    requires right_keeps { NetKeeps (netlist_of right.now.net) (program_of right.now.program) }
+    ensures { IfOk result (IsComparison (program_of left.now.program) (program_of right.now.program)) }
 {
     if !are_same_names(&left.net.inputs, &right.net.inputs) {
         return Ok(Comparison::OtherGiven);
@@ -130,33 +120,30 @@ fn compared(
     if !are_same_outputs(&left.net.outputs, &right.net.outputs) {
         return Ok(Comparison::OtherOutgoing);
     }
-    if !are_same_relations(
-        &left.graph.program.relations,
-        &right.graph.program.relations,
-    ) {
+    if !are_same_relations(&left.program.relations, &right.program.relations) {
         return Ok(Comparison::OtherRelations);
     }
     paired(alloc, left, right, effort)
 }
 
-// The comparison of a compiled source with another source.
+// The comparison of a program with another source.
 fn compared_with<P: Picker>(
     alloc: Global,
-    left: &Compiled,
+    left: &Made,
     text: &[u8],
     main: Option<&[u8]>,
     picker: &mut P,
     effort: u64,
 ) -> Result<Comparison, Refusal>
     requires short { length text.now ≤ Limits.SOURCE_BYTES }
-    requires fits { IsWellFormed (program_of left.now.graph.program) }
-    requires keeps { NetKeeps (netlist_of left.now.net) (program_of left.now.graph.program) }
-    ensures compares { IfOk result (ComparesWith (program_of left.now.graph.program) text.now
+    requires fits { IsWellFormed (program_of left.now.program) }
+    requires keeps { NetKeeps (netlist_of left.now.net) (program_of left.now.program) }
+    ensures compares { IfOk result (ComparesWith (program_of left.now.program) text.now
         (option_map (λ m. m.now) main.entry)) }
     ensures refuses { IfErr result (IsRefused text.now (option_map (λ m. m.now) main.entry)) }
 {
-    let right = compile(alloc, text, main, picker)?;
-    let comparison = compared(alloc, left, &right, effort)?;
+    let right = source_made(alloc, TextForm::Blif, text, main, picker)?;
+    let comparison = net_comparison(alloc, left, &right, effort)?;
     Ok(comparison)
 }
 
@@ -180,8 +167,8 @@ pub fn comparison_of<P: Picker>(
     ensures compares { IfOk result (HasComparison first.now second.now (option_map (λ m. m.now) main.entry)) }
     ensures refuses { IfErr result (IsPairRefused first.now second.now (option_map (λ m. m.now) main.entry)) }
 {
-    let left = match compile(alloc, first, main, picker) {
-        Ok(compiled) => compiled,
+    let left = match source_made(alloc, TextForm::Blif, first, main, picker) {
+        Ok(made) => made,
         Err(refusal) => return Err(PairRefusal::First(refusal)),
     };
     match compared_with(alloc, &left, second, main, picker, effort) {

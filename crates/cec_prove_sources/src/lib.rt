@@ -20,7 +20,7 @@ mod surveys;
 mod traces;
 mod verdicts;
 
-pub use comparing::{comparison_of, small_pair};
+pub use comparing::{comparison_of, net_comparison, small_pair};
 pub use findings::{PlacedQuestion, assumed_clauses, bad_literal, found};
 pub use interfaces::{are_same_names, are_same_outputs};
 pub use places::{place_among, place_of};
@@ -30,6 +30,6 @@ pub use questions::{
 };
 pub use reading::{is_read_as, trace_of};
 pub use relations::relation_clauses;
-pub use surveys::survey_of;
+pub use surveys::{net_survey, survey_of};
 pub use traces::trace_text;
-pub use verdicts::verdict_of;
+pub use verdicts::{net_verdict, verdict_of};

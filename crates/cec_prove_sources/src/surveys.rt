@@ -88,8 +88,10 @@ fn placed_survey(
     }
 }
 
-// The survey by a netlist that keeps what the program means.
-fn net_survey(
+/// The survey of all outgoing signals of a program, by a netlist that keeps what the program means, however the netlist
+/// was made: what `survey_of` says of a source's program. Each of a signal's two questions has the effort. The error is
+/// out of memory.
+pub fn net_survey(
     alloc: Global,
     program: &KernelProgram,
     net: &Net,

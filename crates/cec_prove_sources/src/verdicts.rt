@@ -73,8 +73,10 @@ fn placed_verdict(
     }
 }
 
-// The answer by a netlist that keeps what the program means.
-fn net_verdict(
+/// The answer to a question about an outgoing signal of a program, by a netlist that keeps what the program means,
+/// however the netlist was made: what `verdict_of` says of a source's program. The effort is one of `net_search`. The
+/// error is out of memory.
+pub fn net_verdict(
     alloc: Global,
     program: &KernelProgram,
     net: &Net,

@@ -8,6 +8,7 @@ pub record IsSearch (nodes : ℕ) (s : Search) : Type 0 where
   pub met : length s.met.items ≡ nodes
   pub low : length s.low.items ≡ nodes
   pub part : length s.part.items ≡ nodes
+  pub depth : length s.depth.items ≡ nodes
   pub stacked : length s.stacked.items ≡ nodes
   pub stack : All (λ n. n < nodes) s.stack.items
   pub path : All (λ x. x.node < nodes) s.path.items

@@ -9,13 +9,13 @@ use base_types::NoMemory;
 use grc_ternary_gates::Gate;
 use std::alloc::Global;
 
-// The nodes by their components, in each in the order in which they were left.
-fn by_parts(alloc: Global, found: &Search) -> Result<Vec<Vec<usize>>, NoMemory> {
+// The nodes by their components, in each in this order.
+fn by_parts(alloc: Global, found: &Search, order: &[usize]) -> Result<Vec<Vec<usize>>, NoMemory> {
     let mut lists: Vec<Vec<usize>> = Vec::new(alloc);
     for _ in 0..found.parts {
         lists.push(Vec::new(alloc))?;
     }
-    for node in found.order.as_slice() {
+    for node in order {
         if *node < found.part.len() {
             let part = found.part[*node];
             if part < lists.len() {
@@ -24,6 +24,37 @@ fn by_parts(alloc: Global, found: &Search) -> Result<Vec<Vec<usize>>, NoMemory> 
         }
     }
     Ok(lists)
+}
+
+// A node of a component that was met on the longest path.
+fn deepest(found: &Search, list: &[usize]) -> usize {
+    let mut best = usize::MAX;
+    let mut longest = 0usize;
+    for node in list {
+        if *node < found.depth.len() && found.depth[*node] >= longest {
+            longest = found.depth[*node];
+            best = *node;
+        }
+    }
+    best
+}
+
+// The nodes by their components, in an order that leads through each of them from its other end.
+fn turned_parts(
+    alloc: Global,
+    gates: &[Gate],
+    sources: usize,
+    found: &Search,
+    lists: &[Vec<usize>],
+) -> Result<Vec<Vec<usize>>, NoMemory>
+    requires { All (λ g. IsTrue (gate_fits (length gates.now) sources g)) gates.now }
+{
+    let mut roots = Vec::new(alloc);
+    for list in lists {
+        roots.push(deepest(found, list.as_slice()))?;
+    }
+    let turned = find_parts(alloc, gates, sources, roots.as_slice())?;
+    by_parts(alloc, found, turned.order.as_slice())
 }
 
 /// The place of each node among all, and which nodes are read before their place.
@@ -93,18 +124,25 @@ fn operands(gate: Gate) -> (usize, usize) {
     }
 }
 
-// A component's nodes, repeated.
+// Whether a pass takes the nodes in the order from the other end: the third one, and then every second one.
+fn is_turned(pass: usize) -> bool {
+    pass >= 2 && pass % 2 == 0
+}
+
+// The nodes of a component, pass by pass, in one order or in the other one.
 fn repeat(
     schedule: &mut Vec<usize>,
     list: &[usize],
+    turned: &[usize],
     passes: usize,
     nodes: usize,
 ) -> Result<(), NoMemory>
     requires { All (λ n. n < nodes) schedule.old.items }
     ensures { OnOk result (All (λ n. n < nodes) schedule.new.items) }
 {
-    for _ in 0..passes {
-        for node in list {
+    for pass in 0..passes {
+        let order = if is_turned(pass) { turned } else { list };
+        for node in order {
             if *node < nodes {
                 schedule.push(*node)?;
             }
@@ -113,9 +151,17 @@ fn repeat(
     Ok(())
 }
 
-/// A schedule of a system's nodes: component by component, so that what is read comes before its readers, except in a
-/// circle. The nodes of a circle occur once more than it has nodes that are read before their place, and at most `most`
-/// times. The error is out of memory.
+// In how many passes the nodes of a component with so many cuts are known, if every second pass has the order of the
+// cuts.
+fn passes_for(cuts: usize) -> usize {
+    cuts.saturating_mul(2).max(1)
+}
+
+/// A schedule of a system's nodes: component by component, so that what is read comes before its readers, except in
+/// a circle. The nodes of a circle with `m` nodes that are read before their place occur `2 * m` times, and at most
+/// `most` times. The first two passes, and then every second one, have the same order. The others lead through the
+/// circle from its other end, so that what goes back and forth on a line needs few passes. The error is out of
+/// memory.
 ///
 /// Example: of the two nodes of `a = not b`, `b = not a` one is read before its place. With `most` 2 both occur twice.
 pub fn find_schedule(
@@ -127,14 +173,21 @@ pub fn find_schedule(
     requires fit { All (λ g. IsTrue (gate_fits (length gates.now) sources g)) gates.now }
     ensures { IfOk result (λ s. All (λ n. n < length gates.now) s.items) }
 {
-    let found = find_parts(alloc, gates, sources)?;
-    let lists = by_parts(alloc, &found)?;
+    let found = find_parts(alloc, gates, sources, &[])?;
+    let lists = by_parts(alloc, &found, found.order.as_slice())?;
+    let turned = turned_parts(alloc, gates, sources, &found, lists.as_slice())?;
     let mut seen = make_marks(alloc, &found)?;
     let mut schedule = Vec::new(alloc);
-    for list in lists.iter() {
+    for (list, other) in lists.iter().zip(turned.iter()) {
         let cuts = count_cuts(&found, &mut seen, gates, list.as_slice());
-        let passes = cuts.saturating_add(1).min(most);
-        repeat(&mut schedule, list.as_slice(), passes, gates.len())?;
+        let passes = passes_for(cuts).min(most);
+        repeat(
+            &mut schedule,
+            list.as_slice(),
+            other.as_slice(),
+            passes,
+            gates.len(),
+        )?;
     }
     Ok(schedule)
 }

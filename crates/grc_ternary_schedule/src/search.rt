@@ -32,6 +32,8 @@ pub struct Search {
     pub low: Vec<usize>,
     /// The component of a node that is no longer open.
     pub part: Vec<usize>,
+    /// How long the path was when the node was met.
+    pub depth: Vec<usize>,
     pub stacked: Vec<bool>,
     pub stack: Vec<usize>,
     pub path: Vec<Place>,
@@ -67,6 +69,7 @@ impl Search {
             met: vec![in alloc; 0usize; nodes]?,
             low: vec![in alloc; 0usize; nodes]?,
             part: vec![in alloc; 0usize; nodes]?,
+            depth: vec![in alloc; 0usize; nodes]?,
             stacked: vec![in alloc; false; nodes]?,
             stack: Vec::new(alloc),
             path: Vec::new(alloc),
@@ -91,6 +94,7 @@ impl Search {
             node,
             look: Look::First,
         })?;
+        self.depth[node] = self.path.len();
         Ok(())
     }
 
@@ -201,18 +205,36 @@ impl Search {
     }
 }
 
+// Visits a node, and all that is reached from it, if it was not met before.
+fn visit(found: &mut Search, gates: &[Gate], sources: usize, root: usize) -> Result<(), NoMemory>
+    requires fit { All (λ g. IsTrue (gate_fits (length gates.now) sources g)) gates.now }
+    requires search { IsSearch (length gates.now) found.old }
+    ensures { OnOk result (IsSearch (length gates.now) found.new) }
+{
+    if root < gates.len() && found.met[root] == 0 {
+        found.enter(root)?;
+        found.finish(gates, sources)?;
+    }
+    Ok(())
+}
+
 /// The components of a system's nodes, numbered so that a node reads components of at most its own number, and an
-/// order of the nodes.
-pub fn find_parts(alloc: Global, gates: &[Gate], sources: usize) -> Result<Search, NoMemory>
+/// order of the nodes. The search begins at the roots, in their order.
+pub fn find_parts(
+    alloc: Global,
+    gates: &[Gate],
+    sources: usize,
+    roots: &[usize],
+) -> Result<Search, NoMemory>
     requires fit { All (λ g. IsTrue (gate_fits (length gates.now) sources g)) gates.now }
     ensures { IfOk result (IsSearch (length gates.now)) }
 {
     let mut found = Search::new(alloc, gates.len())?;
+    for root in roots {
+        visit(&mut found, gates, sources, *root)?;
+    }
     for root in 0..gates.len() {
-        if found.met[root] == 0 {
-            found.enter(root)?;
-            found.finish(gates, sources)?;
-        }
+        visit(&mut found, gates, sources, root)?;
     }
     Ok(found)
 }

@@ -12,7 +12,7 @@ pub decided-requires-clause-compares : goal.decided-requires-clause-compares
 decided-requires-clause-compares c =
     let left = netlist_of c.args.left.now.net in
     let right = netlist_of c.args.right.now.net in
-    paired-compares left right (netlist_of c.in-Some.net) (program_of c.args.left.now.graph.program) (program_of c.args.right.now.graph.program)
+    paired-compares left right (netlist_of c.in-Some.net) (program_of c.args.left.now.program) (program_of c.args.right.now.program)
     c.requires.fits c.requires.right_fits c.requires.keeps c.requires.right_keeps c.requires.interface
     (subst (λ o. IfSome o (λ net. IsSmallPair left right (netlist_of net))) c.in-Some.is c.in_ok-small_pair.ensures)
 
