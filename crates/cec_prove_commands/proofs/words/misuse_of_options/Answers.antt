@@ -22,7 +22,7 @@ loop-word-preserved c =
     let job = job_is c.loop-word.with in
     let next : List ℕ → Option Job → List ℕ = λ k. misuse_of_rest k (λ n. misuse_of_options n None rest) in
     elim c.match-key.branch [
-      | in-None+then-is_flag+in-Some-with_text w ↦ rw (w.with-is, w.key-is)
+      | in-None+then-is_flag+in-Some-with_text w ↦ rw (w.with-is, w.key-is, w.in-None.is)
           (flag-word (misuse_of_options job) key left rest word (next word (with_text job)) _ _ refl words (ap (option_map (λ k. k.now)) w.in-None.is)
           (ap is_flag (sym w.as_bytes.ensures.value) ∙ sym w.is_flag.ensures ∙ w.if-is_flag.true)
           (ap (next word) (sym w.with_text.ensures ∙ ap (option_map job_is) w.in-Some-with_text.is)) c.loop-word.invariant)
