@@ -26,7 +26,7 @@ loop-word-preserved c =
           (flag-word (misuse_of_options job) key left rest word (next word (with_text job)) _ _ refl words (ap (option_map (λ k. k.now)) w.in-None.is)
           (ap is_flag (sym w.as_bytes.ensures.value) ∙ sym w.is_flag.ensures ∙ w.if-is_flag.true)
           (ap (next word) (sym w.with_text.ensures ∙ ap (option_map job_is) w.in-Some-with_text.is)) c.loop-word.invariant)
-      | in-None+else-is_flag w ↦ rw (w.with-is, w.key-is, w.as_bytes.ensures.value)
+      | in-None+else-is_flag w ↦ rw (w.with-is, w.key-is, w.as_bytes-else-is_flag.ensures.value)
           (key-word (misuse_of_options job) key left rest word (next word (with_text job)) _ refl words (ap (option_map (λ k. k.now)) w.in-None.is)
           (ap is_flag (sym w.as_bytes.ensures.value) ∙ sym w.is_flag.ensures ∙ w.if-is_flag.false) c.loop-word.invariant)
       | in-Some+in-Some-with_option w ↦ rw (w.with-is, w.key-is)
