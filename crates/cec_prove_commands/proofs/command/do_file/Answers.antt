@@ -3,14 +3,13 @@ use Rattle.base_types.proofs.Exports.{appends-nothing}
 use Rattle.base_types.specs.SinkChanges.{change}
 use Rattle.base_types.specs.Reading.{Reads}
 use Rattle.cec_text_io.proofs.Exports.{held_read}
-use Rattle.cec_text_io.proofs.Reading.{short_read}
 use Rattle.cec_text_io.specs.Contents.{Content, IsHeld}
 use Rattle.cec_prove_commands.specs.Lines.{GainsJobErr}
 use Rattle.cec_prove_commands.specs.Outcomes.{GainsOut, IsOutcomeOf, IsTextOf}
 use Rattle.cec_prove_commands.specs.Statuses.{unread_outcome}
 use Rattle.cec_prove_commands.specs.Views.{job_is}
 use Rattle.cec_prove_commands.specs.Words.{Do}
-use Rattle.cec_prove_commands.proofs.Outcomes.{counts-later, unread_agrees, unread_counts, unread_err, unread_out}
+use Rattle.cec_prove_commands.proofs.Outcomes.{counts-later, short_read, unread_agrees, unread_counts, unread_err, unread_out}
 use Rattle.cec_prove_commands.proofs.command.do_file.Goals as goal
 
 pub do_text-requires-clause-short : goal.do_text-requires-clause-short

@@ -3,12 +3,11 @@ use Rattle.base_types.proofs.Exports.{appends-nothing}
 use Rattle.base_types.specs.SinkChanges.{change}
 use Rattle.base_types.specs.Reading.{Reads}
 use Rattle.cec_text_io.proofs.Exports.{held_read}
-use Rattle.cec_text_io.proofs.Reading.{short_read}
 use Rattle.cec_prove_commands.specs.Outcomes.{IsTextOf}
 use Rattle.cec_prove_commands.specs.Statuses.{second_unread_outcome}
 use Rattle.cec_prove_commands.specs.Views.{job_is}
 use Rattle.cec_prove_commands.proofs.Outcomes.{both_held, read_counts, second_agrees, second_counts, second_err, second_unread_out, texts_agree}
-use Rattle.cec_prove_commands.proofs.Outcomes.{texts_err, texts_out, texts_read}
+use Rattle.cec_prove_commands.proofs.Outcomes.{short_read, texts_err, texts_out, texts_read}
 use Rattle.cec_prove_commands.proofs.command.do_second.Goals as goal
 
 pub told_answer-requires-clause-second : goal.told_answer-requires-clause-second
