@@ -275,9 +275,10 @@ read_speaks content job SecondTooLong first second held second_held = tt
 read_speaks content job WriteFault first second held second_held = tt
 read_speaks content job NoMemory first second held second_held = tt
 
-pub short_read : (content : Content) (name : List ℕ) (limit : ℕ) (bytes : Vec ℕ Global) → Reads content name limit (Ok bytes) → length bytes.items ≤ limit
-short_read None name limit bytes read = read
-short_read (Some held) name limit bytes read = subst (λ (b : List ℕ). length b ≤ limit) (sym read.0) read.1
+pub held_short : (content : Content) (name : List ℕ) (limit : ℕ) (bytes : Vec ℕ Global) → Reads content name limit (Ok bytes)
+    → IsHeld content name bytes.items × (length bytes.items ≤ limit)
+held_short None name limit bytes read = (tt, read)
+held_short (Some held) name limit bytes read = (read.0, subst (λ (b : List ℕ). length b ≤ limit) (sym read.0) read.1)
 
 -- ---- files that were not read
 

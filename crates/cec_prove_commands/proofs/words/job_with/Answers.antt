@@ -24,7 +24,8 @@ loop-word-preserved c =
     elim c.match-key.branch [
       | in-None+then-is_flag+in_ok-with-in-None w ↦ rw (w.with-is, w.key-is, w.in-None.is)
           (flag-word (job_with job) key left rest word (next (with_text job)) _ _ refl words (ap (option_map (λ k. k.now)) w.in-None.is)
-          (ap is_flag (sym w.as_bytes.ensures.value) ∙ sym w.is_flag.ensures ∙ w.if-is_flag.true) (ap next (sym w.in_ok-with-in-None.ensures)) c.loop-word.invariant)
+          (ap is_flag (sym w.as_bytes.ensures.value) ∙ sym w.is_flag.ensures ∙ w.if-is_flag.true)
+          (ap next (sym w.in_ok-with-in-None.ensures)) c.loop-word.invariant)
       | in-None+else-is_flag w ↦ rw (w.with-is, w.key-is, w.as_bytes-else-is_flag.ensures.value)
           (key-word (job_with job) key left rest word (next (with_text job)) _ refl words (ap (option_map (λ k. k.now)) w.in-None.is)
           (ap is_flag (sym w.as_bytes.ensures.value) ∙ sym w.is_flag.ensures ∙ w.if-is_flag.false) c.loop-word.invariant)
