@@ -30,6 +30,8 @@ loop-word-preserved c =
           (key-word (job_with job) key left rest word (next (with_text job)) _ refl words (ap (option_map (λ k. k.now)) w.in-None.is)
           (ap is_flag (sym w.as_bytes.ensures.value) ∙ sym w.is_flag.ensures ∙ w.if-is_flag.false) c.loop-word.invariant)
       | in-Some+in_ok-with-in-Some w ↦ rw (w.with-is, w.key-is)
-          (value-word (job_with job) key _ left rest _ (next (with_option job _ _)) _ _ refl (words ∙ ap (λ b. b ∷ rest) (sym w.as_bytes-in-Some.ensures.value))
+          (value-word (job_with job) key w.in-Some.name.now left rest w.as_bytes-in-Some.result.now
+          (next (with_option job w.in-Some.name.now w.as_bytes-in-Some.result.now)) _ _ refl
+          (words ∙ ap (λ b. b ∷ rest) (sym w.as_bytes-in-Some.ensures.value))
           (ap (option_map (λ k. k.now)) w.in-Some.is) (ap next (sym w.in_ok-with-in-Some.ensures)) c.loop-word.invariant)
     ]

@@ -30,7 +30,8 @@ loop-word-preserved c =
           (key-word (misuse_of_options job) key left rest word (next word (with_text job)) _ refl words (ap (option_map (λ k. k.now)) w.in-None.is)
           (ap is_flag (sym w.as_bytes.ensures.value) ∙ sym w.is_flag.ensures ∙ w.if-is_flag.false) c.loop-word.invariant)
       | in-Some+in-Some-with_option w ↦ rw (w.with-is, w.key-is)
-          (value-word (misuse_of_options job) key _ left rest _ (next _ (with_option job _ _)) _ _ refl
+          (value-word (misuse_of_options job) key w.in-Some.name.now left rest w.as_bytes-in-Some.result.now
+          (next w.in-Some.name.now (with_option job w.in-Some.name.now w.as_bytes-in-Some.result.now)) _ _ refl
           (words ∙ ap (λ b. b ∷ rest) (sym w.as_bytes-in-Some.ensures.value)) (ap (option_map (λ k. k.now)) w.in-Some.is)
-          (ap (next _) (sym w.with_option.ensures ∙ ap (option_map job_is) w.in-Some-with_option.is)) c.loop-word.invariant)
+          (ap (next w.in-Some.name.now) (sym w.with_option.ensures ∙ ap (option_map job_is) w.in-Some-with_option.is)) c.loop-word.invariant)
     ]
