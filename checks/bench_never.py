@@ -45,7 +45,7 @@ def timed(words, folder):
 def ours(source, signal, folder):
     """The answer of cec-prove, its seconds, and its megabytes."""
     form = ["--text"] if source.suffix == ".blif" else []
-    _, status, seconds, peak = timed([PROVER, "never", *form, signal, source], folder)
+    _, status, seconds, peak = timed([PROVER, "never", signal, source, *form], folder)
     return ANSWERS.get(status), seconds, peak
 
 
