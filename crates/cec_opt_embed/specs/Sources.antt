@@ -1,4 +1,4 @@
--- To believe: what it means that an embedded C text does what a kernel program means; and such texts of sources.
+-- Contract: what it means that an embedded C text does what a kernel program means; and such texts of sources.
 use Rattle.std.specs.Prelude.{◌≡◌, ◌==◌, ℕ, List, map, Option, Some}
 use Rattle.est_kernel.specs.Plain.{Program, given_names, outgoing_names}
 use Rattle.est_kernel.specs.Reactions.{Answer, run_of}

@@ -1,4 +1,4 @@
--- To believe: what an embedded C text keeps of a BLIF text.
+-- Contract: what an embedded C text keeps of a BLIF text.
 use Rattle.std.specs.Prelude.{◌≡◌, ℕ, Bool, List, [], ◌∷◌, ◌++◌, map, Ok}
 use Rattle.base_types.specs.Items.{EachEvent}
 use Rattle.base_machines.specs.Machines.{Shows}
