@@ -298,9 +298,9 @@ def observed(rng: random.Random, budget: int) -> tuple[bytes, list[str]]:
     return " ".join(words).encode(), both + outputs + ["WRONG"] * 4
 
 
-PROVE_LIST = "never always all cover same --help --version -x O f f f nofile - --main --effort 3 0 --assume t".split(
-    " "
-)
+PROVE_LIST = (
+    "never always all cover same --help --version -x O f f f nofile - --main --effort 3 0 --assume --text --text t"
+).split(" ")
 PROVE_LIST.append("")
 SMALL_CHANGES = (("await ", "await immediate "), ("||", ";"), ("present ", "present not "), ("emit", "sustain"))
 
@@ -343,6 +343,39 @@ def prove_case(rng: random.Random) -> Drawn:
     return [word.encode() for word in words], files
 
 
+ROW_CHANGES = ((b"\n1 1\n", b"\n0 1\n"), (b"\n11 1\n", b"\n1- 1\n"), (b"\n0", b"\n1"))
+
+
+def text_output_names(text: bytes) -> list[str]:
+    """Names to ask about: those of the outputs, as far as they are words."""
+    words = re.findall(rb"(?<!\S)[A-Za-z]\w*", b" ".join(re.findall(rb"^\.outputs(.*)$", text, re.MULTILINE)))
+    return [word.decode() for word in words] or ["O"]
+
+
+def claim_text_case(rng: random.Random) -> Drawn:
+    """A claim about a small text, a survey of one, or two texts that are compared."""
+    kind = rng.random()
+    text = circuit_text(rng)
+    if rng.random() < 0.3:
+        text = written_text(rng, "blif", rng.choice([1, 2, 4, 6])) or text
+    if rng.random() < 0.1:
+        text = mutate_bytes(text, rng)
+    names, files = text_output_names(text), {b"f": text}
+    words = ["all", "f"] if kind < 0.3 else [rng.choice(["never", "never", "always"]), rng.choice(names), "f"]
+    if kind > 0.7:
+        old, new = rng.choice(ROW_CHANGES)
+        words, files[b"g"] = ["same", "f", rng.choice(["g"] * 9 + ["nofile"])], text.replace(old, new, 1)
+        if rng.random() < 0.2:
+            files[b"g"] = mutate_bytes(text, rng)
+    elif rng.random() < 0.2:
+        words += ["--assume", rng.choice(names)]
+    options = [["--text"], ["--effort", rng.choice(["1", "2", "3"])]]
+    words += sum(options[:: rng.choice([1, -1])], [])
+    if rng.random() < 0.03:
+        words += rng.choice([["--text"], ["--main", "M"], ["--assume", "O0"]])
+    return [word.encode() for word in words], files
+
+
 KINDS: dict[str, Callable[[random.Random], Drawn]] = {
     "source": source_case,
     "mutated": mutated_case,
@@ -353,12 +386,24 @@ KINDS: dict[str, Callable[[random.Random], Drawn]] = {
     "optimize": opt_case,
     "cycle": cycle_case,
     "prove": prove_case,
+    "claim_text": claim_text_case,
 }
 # The program that a kind calls, where it is not `cec`.
-PROGRAMS = {"optimize": "cec-opt", "cycle": "cec-opt", "prove": "cec-prove"}
+PROGRAMS = {"optimize": "cec-opt", "cycle": "cec-opt", "prove": "cec-prove", "claim_text": "cec-prove"}
 # A call of the optimizer or of `gen` takes far longer than one of the others, and so does the search that judges a
 # claim.
-WEIGHTS = {"source": 6, "mutated": 4, "trace": 2, "exec": 6, "words": 2, "gen": 0.2, "optimize": 0.2, "cycle": 0.4, "prove": 0.4}
+WEIGHTS = {
+    "source": 6,
+    "mutated": 4,
+    "trace": 2,
+    "exec": 6,
+    "words": 2,
+    "gen": 0.2,
+    "optimize": 0.2,
+    "cycle": 0.4,
+    "prove": 0.4,
+    "claim_text": 0.2,
+}
 
 
 def drawn_case(seed: int, number: int, kinds: list[str]) -> Case:

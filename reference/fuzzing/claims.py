@@ -6,9 +6,10 @@ import re
 from typing import Optional, Sequence
 
 from fuzzing.cases import Case
-from rules.command import SourceRunner
+from rules.blif import read_blif
 from rules.compiling import Compiled, compile_source
 from rules.front import flat_program
+from rules.optimizer import BAD_TEXT, Refused
 from rules.outcomes import Outcome, line_column
 from rules.points import covered, points_of
 from rules.prover import (
@@ -21,14 +22,18 @@ from rules.prover import (
     UNDECIDED,
     USAGE,
     Asked,
+    Circuit,
     Misuse,
     Question,
+    Subject,
     asked_of,
     first_break,
     first_breaks,
     first_difference,
+    runner_of,
     trace_of,
 )
+from rules.text_faults import is_loop
 from rules.traces import TraceFault, TraceReader
 
 REACHED = re.compile(rb"(\d+:\d+: [a-z]+) (never|undecided|reached:(.*))\n", re.DOTALL)
@@ -60,7 +65,19 @@ def judge_source(outcome: Outcome, file: bytes, got: Answer) -> Optional[str]:
     return is_refused(got, REFUSED, None) or (None if is_shown else "stderr")
 
 
-def events_of(done: Compiled, text: bytes, is_one_line: bool = False) -> tuple[list[list[bool]], Optional[str]]:
+def judge_text(refused: Refused, text: bytes, name: bytes, got: Answer) -> Optional[str]:
+    """A text without a circuit; any loop of its tables may be shown. The second text of a comparison has its name."""
+    note = is_refused(got, BAD_TEXT, None)
+    if note or got[1] == line(name + refused.line):
+        return note
+    head = b"cec-prove: " + name + b"loop: "
+    if refused.names and got[1].startswith(head) and got[1].endswith(b"\n"):
+        names = got[1][len(head) : -1].split(b" -> ")
+        return None if is_loop(read_blif(text).uses(), names) else "not a loop"
+    return "stderr"
+
+
+def events_of(done: Subject, text: bytes, is_one_line: bool = False) -> tuple[list[list[bool]], Optional[str]]:
     """The events of a trace that is spelled in the one way and meets the relations; and what is amiss."""
     reader, events = TraceReader(text, done.in_names, done.relations), []
     while True:
@@ -81,7 +98,7 @@ def events_of(done: Compiled, text: bytes, is_one_line: bool = False) -> tuple[l
 def judge_trace(question: Question, text: bytes, is_one_line: bool = False) -> Optional[str]:
     """A trace breaks the claim in its last instant alone."""
     events, note = events_of(question.done, text, is_one_line)
-    runner, broken = SourceRunner(question.done, "blif"), False
+    runner, broken = runner_of(question.done), False
     for number, event in enumerate(events):
         if broken:
             return "trace: the claim is broken before the last instant"
@@ -92,10 +109,10 @@ def judge_trace(question: Question, text: bytes, is_one_line: bool = False) -> O
     return note or (None if broken else "trace: its last instant does not break the claim")
 
 
-def judge_difference(one: Compiled, two: Compiled, text: bytes) -> Optional[str]:
+def judge_difference(one: Subject, two: Subject, text: bytes) -> Optional[str]:
     """A trace leads to reactions that are not the same, in its last instant alone."""
     events, note = events_of(one, text)
-    runners, differs = [SourceRunner(done, "blif") for done in (one, two)], False
+    runners, differs = [runner_of(done) for done in (one, two)], False
     for event in events:
         if differs:
             return "trace: the programs differ before the last instant"
@@ -124,7 +141,7 @@ def judge_verdict(found: Found, got: Answer, refutation: Optional[str]) -> tuple
     return "undecided", None
 
 
-def judge_claim(asked: Asked, done: Compiled, got: Answer) -> tuple[str, Optional[str]]:
+def judge_claim(asked: Asked, done: Subject, got: Answer) -> tuple[str, Optional[str]]:
     for name in [asked.signal] + ([asked.assumed] if asked.assumed is not None else []):
         if name not in done.out_names:
             return "no signal", is_refused(got, NO_SIGNAL, line(b"no outgoing signal " + name))
@@ -132,13 +149,13 @@ def judge_claim(asked: Asked, done: Compiled, got: Answer) -> tuple[str, Optiona
     return judge_verdict(first_break(question), got, judge_trace(question, got[0]) if got[2] == REFUTED else None)
 
 
-def question_of(done: Compiled, is_always: bool, signal: bytes, assumed: Optional[bytes]) -> Question:
+def question_of(done: Subject, is_always: bool, signal: bytes, assumed: Optional[bytes]) -> Question:
     place = done.out_names.index(assumed) if assumed is not None else None
     return Question(done, is_always, done.out_names.index(signal), place)
 
 
 def judge_presence(
-    done: Compiled, name: bytes, assumed: Optional[bytes], word: bytes, rest: Sequence[bytes]
+    done: Subject, name: bytes, assumed: Optional[bytes], word: bytes, rest: Sequence[bytes]
 ) -> Optional[str]:
     """The lines of one signal in a survey: its word, and a trace to an instant with it and to one without it."""
     shown = set()
@@ -158,7 +175,7 @@ def judge_presence(
     return None if len(shown) in wanted and len(rest) == len(shown) else "the lines of %s" % name.decode()
 
 
-def judge_survey(asked: Asked, done: Compiled, got: Answer) -> tuple[str, Optional[str]]:
+def judge_survey(asked: Asked, done: Subject, got: Answer) -> tuple[str, Optional[str]]:
     out, err, status = got
     if asked.assumed is not None and asked.assumed not in done.out_names:
         return "no signal", is_refused(got, NO_SIGNAL, line(b"no outgoing signal " + asked.assumed))
@@ -218,7 +235,7 @@ def judge_covering(asked: Asked, text: bytes, done: Compiled, got: Answer) -> tu
     return "covering", None if (err, status) == (line(said), ends) else "stderr or status"
 
 
-def judge_comparison(one: Compiled, two: Compiled, got: Answer) -> tuple[str, Optional[str]]:
+def judge_comparison(one: Subject, two: Subject, got: Answer) -> tuple[str, Optional[str]]:
     """Where several parts of the interfaces differ, the line may be that of any."""
     differs = {
         b"given signals": one.in_names != two.in_names,
@@ -240,19 +257,29 @@ def judge(case: Case, got: Answer) -> tuple[str, Optional[str]]:
         return "usage", is_refused(got, USAGE, line(misuse.words + b", see cec-prove --help"))
     if asked is None:
         return "own", None if got[2] == PROVED and got[0] and not got[1] else "an answer about the program"
-    done, faults = [], []
-    for file in asked.files:
-        if file not in case.files:
-            faults.append(is_refused(got, FILE_FAULT, line(b"cannot read " + file)))
-            continue
-        try:
-            done.append(compile_source(case.files[file], asked.main))
-        except Outcome as outcome:
-            faults.append(judge_source(outcome, file, got))
+    done, faults = subjects_of(asked, case, got)
     if faults:
         return "refused", None if None in faults else faults[0]
     if asked.command == b"same":
         return judge_comparison(done[0], done[1], got)
-    if asked.command == b"cover":
+    if isinstance(done[0], Compiled) and asked.command == b"cover":
         return judge_covering(asked, case.files[asked.files[0]], done[0], got)
     return judge_survey(asked, done[0], got) if asked.command == b"all" else judge_claim(asked, done[0], got)
+
+
+def subjects_of(asked: Asked, case: Case, got: Answer) -> tuple[list[Subject], list[Optional[str]]]:
+    """What is asked about, and of each file that is at fault what is amiss."""
+    done: list[Subject] = []
+    faults: list[Optional[str]] = []
+    for number, file in enumerate(asked.files):
+        if file not in case.files:
+            faults.append(is_refused(got, FILE_FAULT, line(b"cannot read " + file)))
+            continue
+        text = case.files[file]
+        try:
+            done.append(Circuit(text) if asked.is_text else compile_source(text, asked.main))
+        except Refused as refused:
+            faults.append(judge_text(refused, text, file + b": " if number else b"", got))
+        except Outcome as outcome:
+            faults.append(judge_source(outcome, file, got))
+    return done, faults

@@ -1,24 +1,30 @@
 """The third program, `cec-prove`: what it may answer about a claim, by a search of all reachable states.
 
 Stands for `Words`, `Lines` and `Statuses` (crates/cec_prove_commands/specs/), for `Claims`, `Verdicts`, `Surveys`,
-`Sameness` and `TraceTexts` (crates/cec_prove_sources/specs/), and for `Coverings` and `Lines`
-(crates/cec_prove_covers/specs/). Whether an answer comes at all is free: `undecided` may come for any program.
+`Sameness` and `TraceTexts` (crates/cec_prove_sources/specs/), for `Coverings` and `Lines`
+(crates/cec_prove_covers/specs/), and for `Devices`, `Claims`, `Verdicts`, `Surveys` and `Sameness`
+(crates/cec_prove_texts/specs/). Whether an answer comes at all is free: `undecided` may come for any program.
 """
 
 from __future__ import annotations
 
 import itertools
-from typing import Optional, Sequence
+from typing import Optional, Sequence, Union
 
+from rules.blif import NetRunner
+from rules.command import SourceRunner
 from rules.compiling import Compiled
 from rules.netlist import NetMachine
-from rules.traces import first_broken
+from rules.optimizer import circuit_of
+from rules.traces import Relation, first_broken
 
 CLAIMS = (b"never", b"always")
 COMMANDS = CLAIMS + (b"all", b"cover", b"same")
 OWN_WORDS = (b"--help", b"--version")
 LEVELS = tuple(b"%d" % number for number in range(1, 10))
 PROVED, USAGE, FILE_FAULT, REFUSED, REFUTED, UNDECIDED, NO_SIGNAL, OTHER = 0, 2, 3, 4, 20, 21, 22, 23
+# The option that has no value: the files are texts.
+TEXT = b"--text"
 # A search over more inputs or more reactions than this is given up.
 MOST_INPUTS, MOST_REACTIONS = 6, 6_000
 
@@ -32,7 +38,7 @@ class Misuse(Exception):
 
 
 class Asked:
-    """A command about a source, or two, and the options."""
+    """A command about a source or a text, or about two, and the options."""
 
     def __init__(self, command: bytes, signal: bytes, files: list[bytes], options: dict[bytes, bytes]) -> None:
         self.command = command
@@ -40,6 +46,7 @@ class Asked:
         self.files = files
         self.assumed = options.get(b"--assume")
         self.main = options.get(b"--main")
+        self.is_text = TEXT in options
 
 
 def is_plain(word: bytes) -> bool:
@@ -52,16 +59,21 @@ def plain_word(what: bytes, word: bytes) -> bytes:
     return word
 
 
-def options_of(words: Sequence[bytes], takes_assumed: bool) -> dict[bytes, bytes]:
-    """Options, each at most once, each with its value."""
+def options_of(words: Sequence[bytes], command: bytes) -> dict[bytes, bytes]:
+    """Options, each at most once, and each but one with its value. A text has no modules and no points."""
     options: dict[bytes, bytes] = {}
-    for at in range(0, len(words), 2):
-        key = words[at]
-        if at + 1 == len(words):
+    left = list(words)
+    while left:
+        key = left.pop(0)
+        if key == TEXT:
+            is_known, is_fit, value = command != b"cover" and b"--main" not in options, True, b""
+        elif not left:
             raise Misuse(b"no value after " + key)
-        value = words[at + 1]
-        is_known = key == b"--main" or key == b"--effort" or (key == b"--assume" and takes_assumed)
-        is_fit = value in LEVELS if key == b"--effort" else is_plain(value)
+        else:
+            value = left.pop(0)
+            takes = {b"--effort": True, b"--main": TEXT not in options, b"--assume": command != b"same"}
+            is_known = takes.get(key, False)
+            is_fit = value in LEVELS if key == b"--effort" else is_plain(value)
         if key in options or not is_known or not is_fit:
             raise Misuse(b"bad option: " + key)
         options[key] = value
@@ -89,13 +101,50 @@ def asked_of(words: Sequence[bytes]) -> Optional[Asked]:
             raise Misuse(b"no file after " + last)
         last = plain_word(b"file", rest.pop(0))
         files.append(last)
-    return Asked(command, signal, files, options_of(rest, command != b"same"))
+    return Asked(command, signal, files, options_of(rest, command))
+
+
+class Circuit:
+    """The circuit of a text, by the names of its inputs and outputs; a text that has none raises Refused."""
+
+    def __init__(self, text: bytes) -> None:
+        self.blif, _ = circuit_of(text)
+        self.in_names = list(self.blif.inputs)
+        self.out_names = [name.removesuffix(b".out") for name in self.blif.outputs[:-1]]
+        self.relations: list[Relation] = []
+
+
+Subject = Union[Compiled, Circuit]
+
+
+class CircuitMachine:
+    """The machine of a circuit, whose state can be set."""
+
+    def __init__(self, circuit: Circuit) -> None:
+        self.runner = NetRunner(circuit.blif)
+        self.state = list(self.runner.latches)
+
+    def react(self, event: Sequence[bool]) -> tuple[list[bool], Optional[bool]]:
+        self.runner.latches = list(self.state)
+        self.runner.react(event)
+        self.state = list(self.runner.latches)
+        return self.runner.outputs, self.runner.word
+
+
+def machine_of(done: Subject) -> Union[NetMachine, CircuitMachine]:
+    return CircuitMachine(done) if isinstance(done, Circuit) else NetMachine(done.shape.generate())
+
+
+def runner_of(done: Subject) -> Union[SourceRunner, NetRunner]:
+    return NetRunner(done.blif) if isinstance(done, Circuit) else SourceRunner(done, "blif")
 
 
 class Question:
-    """A claim about an outgoing signal of a compiled source, by places, and the signal that is assumed."""
+    """A claim about an outgoing signal of a compiled source, or an output of a text, by places, and the one that is
+    assumed.
+    """
 
-    def __init__(self, done: Compiled, is_always: bool, place: int, assumed: Optional[int]) -> None:
+    def __init__(self, done: Subject, is_always: bool, place: int, assumed: Optional[int]) -> None:
         self.done = done
         self.is_always = is_always
         self.place = place
@@ -124,7 +173,7 @@ def first_breaks(questions: Sequence[Question]) -> list[tuple[str, int]]:
         return [("unknown", 0)] * len(questions)
     every = itertools.product((False, True), repeat=len(done.in_names))
     events = [event for event in every if first_broken(done.relations, event) is None]
-    machine = NetMachine(done.shape.generate())
+    machine = machine_of(done)
     start = tuple(machine.state)
     seen, level, reactions, depth = {start}, [start], 0, 0
     open_ones = set(range(len(questions)))
@@ -155,13 +204,13 @@ def first_break(question: Question) -> tuple[str, int]:
     return first_breaks([question])[0]
 
 
-def first_difference(one: Compiled, two: Compiled) -> tuple[str, int]:
-    """The same about a shortest trace to reactions of two programs that are not the same."""
+def first_difference(one: Subject, two: Subject) -> tuple[str, int]:
+    """The same about a shortest trace to reactions of two programs, or circuits, that are not the same."""
     if len(one.in_names) > MOST_INPUTS:
         return "unknown", 0
     every = itertools.product((False, True), repeat=len(one.in_names))
     events = [event for event in every if first_broken(one.relations, event) is None]
-    machines = [NetMachine(done.shape.generate()) for done in (one, two)]
+    machines = [machine_of(done) for done in (one, two)]
     start = tuple(tuple(machine.state) for machine in machines)
     seen, level, reactions, depth = {start}, [start], 0, 0
     while level:

@@ -1,4 +1,4 @@
-"""What the reference says of answers of `cec-prove`, right ones and wrong ones, about sources of a few lines."""
+"""What the reference says of answers of `cec-prove`, right ones and wrong ones, about sources and texts of a few lines."""
 
 import unittest
 
@@ -16,11 +16,31 @@ every BUTTON do abort
 present QUIET then emit SHORT else emit RING end; halt
 when immediate QUIET end every end module
 """
+# O is true from the second instant in which A is true on; P is never true, and A is an output too.
+LATE = b""".model LATE
+.inputs A
+.outputs O P A.out _paused
+.latch next seen 0
+.names A seen next
+1- 1
+-1 1
+.names A seen O
+11 1
+.names P
+.names A A.out
+1 1
+.names _paused
+1
+.end
+"""
+SOON = LATE.replace(b"11 1", b"1- 1")
 FILES = {b"b": BELL, b"f": ABRO, b"g": BY_HAND, b"h": AT_ONCE, b"o": ABRO.replace(b"O", b"P"), b"x": b"module M"}
+FILES.update({b"l": LATE, b"s": SOON, b"q": LATE.replace(b"A seen O", b"A none O"), b"t": LATE.replace(b" P", b" Q")})
 PROVED, REFUTED = b"cec-prove: proved\n", b"cec-prove: refuted\n"
 ALL = b"cec-prove: all signals are decided\n"
 SOME = b"cec-prove: some signals are undecided\n"
 POINTS, SOME_POINTS = b"cec-prove: all points are decided\n", b"cec-prove: some points are undecided\n"
+LINES = b"O sometimes\nO present: A ; A ;\nO absent: ;\nP never\nA sometimes\nA present: A ;\nA absent: ;\n"
 AWAITS = b"1:46: await reached: ;\n1:57: await reached: ;\n"
 RUNG = b"3:36: else reached: ; BUTTON ;\n3:36: emit reached: ; BUTTON ;\n3:51: halt reached: ; BUTTON ;\n"
 SEE = b", see cec-prove --help\n"
@@ -52,6 +72,28 @@ RIGHT = [
     (b"same f g --assume O", b"", b"cec-prove: bad option: --assume" + SEE, 2),
     (b"all f --effort 0", b"", b"cec-prove: bad option: --effort" + SEE, 2),
     (b"all f --main", b"", b"cec-prove: no value after --main" + SEE, 2),
+    (b"never P l --text", b"", PROVED, 0),
+    (b"never O l --text", b"A ;\nA ;\n", REFUTED, 20),
+    (b"never O l --text --assume P", b"", PROVED, 0),
+    (b"always O l --effort 3 --text --assume A", b"A ;\n", REFUTED, 20),
+    (b"never O l --text", b"", b"cec-prove: undecided, instants searched: 1\n", 21),
+    (b"all l --text", LINES, ALL, 0),
+    (b"never _paused l --text", b"", b"cec-prove: no outgoing signal _paused\n", 22),
+    (b"never A.out l --text", b"", b"cec-prove: no outgoing signal A.out\n", 22),
+    (b"same l l --text", b"", PROVED, 0),
+    (b"same l s --text", b"A ;\n", REFUTED, 20),
+    (b"same l t --text", b"", b"cec-prove: the outgoing signals differ\n", 23),
+    (b"never O q --text", b"", b"cec-prove: no driver: none\n", 7),
+    (b"same q l --text", b"", b"cec-prove: no driver: none\n", 7),
+    (b"same l q --text", b"", b"cec-prove: q: no driver: none\n", 7),
+    (b"all f --text", b"", b"cec-prove: line 1: not in the profile\n", 7),
+    (b"all nofile --text", b"", b"cec-prove: cannot read nofile\n", 3),
+    (b"cover l --text", b"", b"cec-prove: bad option: --text" + SEE, 2),
+    (b"all l --text --text", b"", b"cec-prove: bad option: --text" + SEE, 2),
+    (b"all l --text --main M", b"", b"cec-prove: bad option: --main" + SEE, 2),
+    (b"all l --main M --text", b"", b"cec-prove: bad option: --text" + SEE, 2),
+    (b"all l --effort --text", b"", b"cec-prove: bad option: --effort" + SEE, 2),
+    (b"same l l --text --assume P", b"", b"cec-prove: bad option: --assume" + SEE, 2),
     (b"--help f", b"", b"cec-prove: one word too many: f" + SEE, 2),
     (b"prove O f", b"", b"cec-prove: unknown word: prove" + SEE, 2),
 ]
@@ -82,6 +124,17 @@ WRONG = [
     (b"same f g", b"A ;\nB ;\n", REFUTED, 20, "no state breaks the claim"),
     (b"same f o", b"", b"cec-prove: the given signals differ\n", 23, "the interfaces differ"),
     (b"same f x", b"", PROVED, 0, "status"),
+    (b"never O l --text", b"", PROVED, 0, "2 instants break the claim"),
+    (b"never O l --text", b"A ;\n;\n", REFUTED, 20, "does not break the claim"),
+    (b"never P l --text", b";\n", REFUTED, 20, "no state breaks the claim"),
+    (b"never O l --text --assume A", b"A ;\n;\n", REFUTED, 20, "what is assumed is absent in instant 2"),
+    (b"all l --text", LINES + b"_paused always\n", ALL, 0, "stdout"),
+    (b"all l --text", LINES.replace(b"P never\n", b""), ALL, 0, "no line of P"),
+    (b"same l s --text", b"", PROVED, 0, "1 instants break the claim"),
+    (b"same l q --text", b"", b"cec-prove: no driver: none\n", 7, "stderr"),
+    (b"same q l --text", b"", b"cec-prove: l: no driver: none\n", 7, "stderr"),
+    (b"never O q --text", b"", b"cec-prove: no driver: none\n", 4, "status"),
+    (b"cover l --text", b"", POINTS, 0, "status"),
     (b"same f", b"", b"cec-prove: no file after same" + SEE, 2, "stderr"),
 ]
 

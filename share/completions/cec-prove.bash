@@ -1,18 +1,23 @@
 # Completion of cec-prove for bash.
 _cec_prove() {
-    local now=${COMP_WORDS[COMP_CWORD]} file
+    local now=${COMP_WORDS[COMP_CWORD]} file at place=0
     COMPREPLY=()
     if [ "$COMP_CWORD" -eq 1 ]; then
         mapfile -t COMPREPLY < <(compgen -W "never always all cover same --help --version" -- "$now")
         return
     fi
     [[ ${COMP_WORDS[1]} != --help && ${COMP_WORDS[1]} != --version ]] || return
-    local options="--assume --main --effort" first=3 last=3
+    local options="--assume --main --effort --text" first=3 last=3
     case ${COMP_WORDS[1]} in
-    all | cover) first=2 last=2 ;;
-    same) options="--main --effort" first=2 ;;
+    all) first=2 last=2 ;;
+    cover) options="--assume --main --effort" first=2 last=2 ;;
+    same) options="--main --effort --text" first=2 ;;
     esac
-    if [ "$COMP_CWORD" -gt "$last" ] && [ $(((COMP_CWORD - last) % 2)) -eq 1 ]; then
+    # Each option but --text has a value.
+    for ((at = last + 1; at < COMP_CWORD; at++)); do
+        [ "$place${COMP_WORDS[at]}" = 0--text ] || place=$((1 - place))
+    done
+    if [ "$COMP_CWORD" -gt "$last" ] && [ "$place" -eq 0 ]; then
         mapfile -t COMPREPLY < <(compgen -W "$options" -- "$now")
         return
     fi
@@ -20,7 +25,7 @@ _cec_prove() {
     while IFS= read -r file; do
         if [ -d "$file" ]; then
             COMPREPLY+=("$file/")
-        elif [ "${file%.strl}" != "$file" ]; then
+        elif [ "${file%.strl}" != "$file" ] || [ "${file%.blif}" != "$file" ]; then
             COMPREPLY+=("$file")
         fi
     done < <(compgen -f -- "$now")

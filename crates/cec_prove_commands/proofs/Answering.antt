@@ -18,14 +18,22 @@ use Rattle.cec_prove_sources.specs.Verdicts.{HasVerdict, IsVerdict, PlainQuestio
 use Rattle.cec_prove_sources.specs.declared.questions.Comparison.{Comparison}
 use Rattle.cec_prove_sources.specs.declared.questions.Survey.{Survey}
 use Rattle.cec_prove_sources.specs.declared.questions.Verdict.{Verdict}
+use Rattle.cec_prove_texts.specs.Devices.{Device, circuit_device}
+use Rattle.cec_prove_texts.specs.Sameness.{HasTextComparison, IsDeviceComparison}
+use Rattle.cec_prove_texts.specs.Surveys.{HasTextSurvey, IsDeviceSurvey}
+use Rattle.cec_prove_texts.specs.Verdicts.{HasTextVerdict, IsDeviceVerdict}
+use Rattle.cec_opt_texts.specs.declared.fault.OptFault.{OptFault}
 use Rattle.cec_prove_commands.specs.Answers.{IsAnswer, IsWrittenBy, SaysOfTexts}
 use Rattle.cec_prove_commands.specs.Outcomes.{Answered, ClaimSays, Compared, ComparisonSays, CoveringSays, IsCoveringBy, IsCoveringOf, IsDistinction}
 use Rattle.cec_prove_commands.specs.Outcomes.{IsRefutation, IsSurveyBy, IsSurveyOf, SurveySays, question_of}
 use Rattle.cec_prove_commands.specs.Statuses.{refusal_outcome, second_refusal_outcome, written_of, written_outcome}
-use Rattle.cec_prove_commands.specs.Words.{Job, Task, Ask, Survey as Surveys, Cover, Compare}
+use Rattle.cec_prove_commands.specs.TextOutcomes.{IsTextDistinction, IsTextRefutation, IsTextSurveyBy, TextAnswered, TextClaimSays, TextComparisonSays}
+use Rattle.cec_prove_commands.specs.TextOutcomes.{TextSurveySays, TextsCompared}
+use Rattle.cec_prove_commands.specs.Words.{Job, Task, Ask, Survey as Surveys, Cover, Compare, AskText, SurveyText, CompareTexts}
 use Rattle.cec_prove_commands.specs.declared.answers.Answer.TheVariants as answers
 use Rattle.cec_prove_commands.specs.declared.outcome.ProveOutcome.{ProveOutcome}
 use Rattle.cec_prove_commands.specs.declared.outcome.ProveOutcome.TheVariants.{Refuted, Surveyed, PartlySurveyed, Covered, PartlyCovered}
+use Rattle.cec_prove_commands.specs.declared.outcome.ProveOutcome.TheVariants.{BadText, SecondBadText, WriteFault, NoMemory}
 
 -- ---- what an answer says of the program
 
@@ -69,7 +77,49 @@ comparison_says first second job comparison v Says h is says = record {
   says = says h.left h.right (subst (IsComparison h.left h.right) is h.says);
 }
 
+-- ---- what an answer says of a text
+
+pub text_verdict_says : (text : List ℕ) (q : PlainQuestion) (verdict v : Verdict) (Says : Device → Type 0) → HasTextVerdict text q verdict → verdict ≡ v
+    → ((d : Device) → IsDeviceVerdict d q v → Says d) → TextAnswered text Says
+text_verdict_says text q verdict v Says h is says = record {
+  circuit = h.circuit;
+  names = h.names;
+  describes = h.describes;
+  says = says (circuit_device h.circuit h.names) (subst (IsDeviceVerdict (circuit_device h.circuit h.names) q) is h.says);
+}
+
+pub text_survey_says : (text : List ℕ) (assumed : Option (List ℕ)) (survey v : Survey) (Says : Device → Type 0) → HasTextSurvey text assumed survey
+    → survey ≡ v → ((d : Device) → IsDeviceSurvey d assumed v → Says d) → TextAnswered text Says
+text_survey_says text assumed survey v Says h is says = record {
+  circuit = h.circuit;
+  names = h.names;
+  describes = h.describes;
+  says = says (circuit_device h.circuit h.names) (subst (IsDeviceSurvey (circuit_device h.circuit h.names) assumed) is h.says);
+}
+
+pub text_comparison_says : (first second : List ℕ) (comparison v : Comparison) (Says : Device → Device → Type 0) → HasTextComparison first second comparison
+    → comparison ≡ v → ((d e : Device) → IsDeviceComparison d e v → Says d e) → TextsCompared first second Says
+text_comparison_says first second comparison v Says h is says =
+    let d = circuit_device h.left h.left_names in
+    let e = circuit_device h.right h.right_names in
+    record {
+      left = h.left;
+      left_names = h.left_names;
+      left_describes = h.left_describes;
+      right = h.right;
+      right_names = h.right_names;
+      right_describes = h.right_describes;
+      says = says d e (subst (IsDeviceComparison d e) is h.says);
+    }
+
 -- ---- what the outcome of a writing says
+
+-- what is so where all is written, where it is not, and where memory ran out
+pub as_written : (done : ProveOutcome) (Says : ProveOutcome → Type 0) (ended : Written) → Says done → Says WriteFault → Says NoMemory
+    → Says (written_outcome done ended)
+as_written done Says ends.Done all part none = all
+as_written done Says ends.WriteFault all part none = part
+as_written done Says ends.NoMemory all part none = none
 
 pub claim_writes : (ended : Written) (q : PlainQuestion) (job : Job) (text trace : List ℕ) → IsRefutation q job text trace
     → ClaimSays q (written_outcome Refuted ended) job text
@@ -119,6 +169,15 @@ pub trace_left : (P : List ℕ → Type 0) (bytes text : List ℕ) (s : SinkChan
 trace_left P bytes text s ends.Done p same l = left_as P bytes text s ends.Done p same l
 trace_left P bytes text s ends.WriteFault p same l = left_as P bytes text s ends.WriteFault p same l
 trace_left P bytes text s ends.NoMemory p same l = l
+
+-- lines that end with an outcome
+pub lines_left : (done : ProveOutcome) (By : ProveOutcome → List ℕ → Type 0) (bytes text : List ℕ) (s : SinkChange) (ended : Written)
+    → written_of done ≡ Some ends.Done → By done text → By WriteFault text → bytes ≡ text → LeavesText (λ t. t ≡ bytes) s (Some ended)
+    → LeavesText (By (written_outcome done ended)) s (written_of (written_outcome done ended))
+lines_left done By bytes text s ends.Done is all part same l =
+    subst (λ w. LeavesText (By done) s w) (sym is) (left_as (By done) bytes text s ends.Done all same l)
+lines_left done By bytes text s ends.WriteFault is all part same l = left_as (By WriteFault) bytes text s ends.WriteFault part same l
+lines_left done By bytes text s ends.NoMemory is all part same l = l
 
 pub survey_left : (bytes text : List ℕ) (job : Job) (source : List ℕ) (s : SinkChange) (ended : Written) → IsSurveyOf job true source text → bytes ≡ text
     → LeavesText (λ t. t ≡ bytes) s (Some ended)
@@ -207,35 +266,51 @@ second_leaves refusing.NoMemory P s a = a
 
 pub asked_says : (v : Verdict) (o : ProveOutcome) (task : Task) (job : Job) (first second : List ℕ)
     → ((q : PlainQuestion) (job : Job) (text : List ℕ) → HasVerdict text job.main q v → ClaimSays q o job text)
+    → ((q : PlainQuestion) (text : List ℕ) → HasTextVerdict text q v → TextClaimSays q o text)
     → IsAnswer (answers.Asked v) task job first second → SaysOfTexts task o job first second
-asked_says v o (Ask claim signal) job first second f h = f (question_of claim signal job) job first h
-asked_says v o Surveys job first second f h = absurd h
-asked_says v o Cover job first second f h = absurd h
-asked_says v o (Compare other) job first second f h = absurd h
+asked_says v o (Ask claim signal) job first second f t h = f (question_of claim signal job) job first h
+asked_says v o Surveys job first second f t h = absurd h
+asked_says v o Cover job first second f t h = absurd h
+asked_says v o (Compare other) job first second f t h = absurd h
+asked_says v o (AskText claim signal) job first second f t h = t (question_of claim signal job) first h
+asked_says v o SurveyText job first second f t h = absurd h
+asked_says v o (CompareTexts other) job first second f t h = absurd h
 
 pub asked_out : (v : Verdict) (o : ProveOutcome) (s : SinkChange) (task : Task) (job : Job) (first second : List ℕ)
     → ((q : PlainQuestion) (job : Job) (text : List ℕ) → HasVerdict text job.main q v → LeavesText (IsRefutation q job text) s (written_of o))
+    → ((q : PlainQuestion) (text : List ℕ) → HasTextVerdict text q v → LeavesText (IsTextRefutation q text) s (written_of o))
     → IsAnswer (answers.Asked v) task job first second → LeavesText (IsWrittenBy task o job first second) s (written_of o)
-asked_out v o s (Ask claim signal) job first second f h = f (question_of claim signal job) job first h
-asked_out v o s Surveys job first second f h = absurd h
-asked_out v o s Cover job first second f h = absurd h
-asked_out v o s (Compare other) job first second f h = absurd h
+asked_out v o s (Ask claim signal) job first second f t h = f (question_of claim signal job) job first h
+asked_out v o s Surveys job first second f t h = absurd h
+asked_out v o s Cover job first second f t h = absurd h
+asked_out v o s (Compare other) job first second f t h = absurd h
+asked_out v o s (AskText claim signal) job first second f t h = t (question_of claim signal job) first h
+asked_out v o s SurveyText job first second f t h = absurd h
+asked_out v o s (CompareTexts other) job first second f t h = absurd h
 
 pub surveyed_says : (v : Survey) (o : ProveOutcome) (task : Task) (job : Job) (first second : List ℕ)
     → ((job : Job) (text : List ℕ) → HasSurvey text job.main job.assumed v → SurveySays o job text)
+    → ((assumed : Option (List ℕ)) (text : List ℕ) → HasTextSurvey text assumed v → TextSurveySays o assumed text)
     → IsAnswer (answers.Surveyed v) task job first second → SaysOfTexts task o job first second
-surveyed_says v o (Ask claim signal) job first second f h = absurd h
-surveyed_says v o Surveys job first second f h = f job first h
-surveyed_says v o Cover job first second f h = absurd h
-surveyed_says v o (Compare other) job first second f h = absurd h
+surveyed_says v o (Ask claim signal) job first second f t h = absurd h
+surveyed_says v o Surveys job first second f t h = f job first h
+surveyed_says v o Cover job first second f t h = absurd h
+surveyed_says v o (Compare other) job first second f t h = absurd h
+surveyed_says v o (AskText claim signal) job first second f t h = absurd h
+surveyed_says v o SurveyText job first second f t h = t job.assumed first h
+surveyed_says v o (CompareTexts other) job first second f t h = absurd h
 
 pub surveyed_out : (v : Survey) (o : ProveOutcome) (s : SinkChange) (task : Task) (job : Job) (first second : List ℕ)
     → ((job : Job) (text : List ℕ) → HasSurvey text job.main job.assumed v → LeavesText (IsSurveyBy o job text) s (written_of o))
+    → ((assumed : Option (List ℕ)) (text : List ℕ) → HasTextSurvey text assumed v → LeavesText (IsTextSurveyBy o assumed text) s (written_of o))
     → IsAnswer (answers.Surveyed v) task job first second → LeavesText (IsWrittenBy task o job first second) s (written_of o)
-surveyed_out v o s (Ask claim signal) job first second f h = absurd h
-surveyed_out v o s Surveys job first second f h = f job first h
-surveyed_out v o s Cover job first second f h = absurd h
-surveyed_out v o s (Compare other) job first second f h = absurd h
+surveyed_out v o s (Ask claim signal) job first second f t h = absurd h
+surveyed_out v o s Surveys job first second f t h = f job first h
+surveyed_out v o s Cover job first second f t h = absurd h
+surveyed_out v o s (Compare other) job first second f t h = absurd h
+surveyed_out v o s (AskText claim signal) job first second f t h = absurd h
+surveyed_out v o s SurveyText job first second f t h = t job.assumed first h
+surveyed_out v o s (CompareTexts other) job first second f t h = absurd h
 
 pub covered_says : (v : Covering) (o : ProveOutcome) (task : Task) (job : Job) (first second : List ℕ)
     → ((job : Job) (text : List ℕ) → HasCovering text job.main job.assumed v → CoveringSays o job text)
@@ -244,6 +319,9 @@ covered_says v o (Ask claim signal) job first second f h = absurd h
 covered_says v o Surveys job first second f h = absurd h
 covered_says v o Cover job first second f h = f job first h
 covered_says v o (Compare other) job first second f h = absurd h
+covered_says v o (AskText claim signal) job first second f h = absurd h
+covered_says v o SurveyText job first second f h = absurd h
+covered_says v o (CompareTexts other) job first second f h = absurd h
 
 pub covered_out : (v : Covering) (o : ProveOutcome) (s : SinkChange) (task : Task) (job : Job) (first second : List ℕ)
     → ((job : Job) (text : List ℕ) → HasCovering text job.main job.assumed v → LeavesText (IsCoveringBy o job text) s (written_of o))
@@ -252,22 +330,33 @@ covered_out v o s (Ask claim signal) job first second f h = absurd h
 covered_out v o s Surveys job first second f h = absurd h
 covered_out v o s Cover job first second f h = f job first h
 covered_out v o s (Compare other) job first second f h = absurd h
+covered_out v o s (AskText claim signal) job first second f h = absurd h
+covered_out v o s SurveyText job first second f h = absurd h
+covered_out v o s (CompareTexts other) job first second f h = absurd h
 
 pub compared_says : (v : Comparison) (o : ProveOutcome) (task : Task) (job : Job) (first second : List ℕ)
     → ((first second : List ℕ) (job : Job) → HasComparison first second job.main v → ComparisonSays o job first second)
+    → ((first second : List ℕ) → HasTextComparison first second v → TextComparisonSays o first second)
     → IsAnswer (answers.Compared v) task job first second → SaysOfTexts task o job first second
-compared_says v o (Ask claim signal) job first second f h = absurd h
-compared_says v o Surveys job first second f h = absurd h
-compared_says v o Cover job first second f h = absurd h
-compared_says v o (Compare other) job first second f h = f first second job h
+compared_says v o (Ask claim signal) job first second f t h = absurd h
+compared_says v o Surveys job first second f t h = absurd h
+compared_says v o Cover job first second f t h = absurd h
+compared_says v o (Compare other) job first second f t h = f first second job h
+compared_says v o (AskText claim signal) job first second f t h = absurd h
+compared_says v o SurveyText job first second f t h = absurd h
+compared_says v o (CompareTexts other) job first second f t h = t first second h
 
 pub compared_out : (v : Comparison) (o : ProveOutcome) (s : SinkChange) (task : Task) (job : Job) (first second : List ℕ)
     → ((first second : List ℕ) (job : Job) → HasComparison first second job.main v → LeavesText (IsDistinction job first second) s (written_of o))
+    → ((first second : List ℕ) → HasTextComparison first second v → LeavesText (IsTextDistinction first second) s (written_of o))
     → IsAnswer (answers.Compared v) task job first second → LeavesText (IsWrittenBy task o job first second) s (written_of o)
-compared_out v o s (Ask claim signal) job first second f h = absurd h
-compared_out v o s Surveys job first second f h = absurd h
-compared_out v o s Cover job first second f h = absurd h
-compared_out v o s (Compare other) job first second f h = f first second job h
+compared_out v o s (Ask claim signal) job first second f t h = absurd h
+compared_out v o s Surveys job first second f t h = absurd h
+compared_out v o s Cover job first second f t h = absurd h
+compared_out v o s (Compare other) job first second f t h = f first second job h
+compared_out v o s (AskText claim signal) job first second f t h = absurd h
+compared_out v o s SurveyText job first second f t h = absurd h
+compared_out v o s (CompareTexts other) job first second f t h = t first second h
 
 pub refused_says : (refusal : Refusal) (task : Task) (job : Job) (first second : List ℕ) → IsAnswer (answers.Refused refusal) task job first second
     → SaysOfTexts task (refusal_outcome refusal) job first second
@@ -275,6 +364,9 @@ refused_says refusal (Ask claim signal) job first second h = claim_refused refus
 refused_says refusal Surveys job first second h = survey_refused refusal job first h
 refused_says refusal Cover job first second h = covering_refused refusal job first h
 refused_says refusal (Compare other) job first second h = first_refused refusal job first second h
+refused_says refusal (AskText claim signal) job first second h = absurd h
+refused_says refusal SurveyText job first second h = absurd h
+refused_says refusal (CompareTexts other) job first second h = absurd h
 
 pub second_refused_says : (refusal : Refusal) (task : Task) (job : Job) (first second : List ℕ)
     → IsAnswer (answers.SecondRefused refusal) task job first second → SaysOfTexts task (second_refusal_outcome refusal) job first second
@@ -282,3 +374,35 @@ second_refused_says refusal (Ask claim signal) job first second h = absurd h
 second_refused_says refusal Surveys job first second h = absurd h
 second_refused_says refusal Cover job first second h = absurd h
 second_refused_says refusal (Compare other) job first second h = second_refused refusal job first second h
+second_refused_says refusal (AskText claim signal) job first second h = absurd h
+second_refused_says refusal SurveyText job first second h = absurd h
+second_refused_says refusal (CompareTexts other) job first second h = absurd h
+
+pub bad_text_says : (fault : OptFault) (task : Task) (job : Job) (first second : List ℕ) → IsAnswer (answers.BadText fault) task job first second
+    → SaysOfTexts task (BadText fault) job first second
+bad_text_says fault (Ask claim signal) job first second h = absurd h
+bad_text_says fault Surveys job first second h = absurd h
+bad_text_says fault Cover job first second h = absurd h
+bad_text_says fault (Compare other) job first second h = absurd h
+bad_text_says fault (AskText claim signal) job first second h = h
+bad_text_says fault SurveyText job first second h = h
+bad_text_says fault (CompareTexts other) job first second h = h
+
+pub second_bad_text_says : (fault : OptFault) (task : Task) (job : Job) (first second : List ℕ)
+    → IsAnswer (answers.SecondBadText fault) task job first second → SaysOfTexts task (SecondBadText fault) job first second
+second_bad_text_says fault (Ask claim signal) job first second h = absurd h
+second_bad_text_says fault Surveys job first second h = absurd h
+second_bad_text_says fault Cover job first second h = absurd h
+second_bad_text_says fault (Compare other) job first second h = absurd h
+second_bad_text_says fault (AskText claim signal) job first second h = absurd h
+second_bad_text_says fault SurveyText job first second h = absurd h
+second_bad_text_says fault (CompareTexts other) job first second h = h
+
+pub no_memory_says : (task : Task) (job : Job) (first second : List ℕ) → SaysOfTexts task NoMemory job first second
+no_memory_says (Ask claim signal) job first second = tt
+no_memory_says Surveys job first second = tt
+no_memory_says Cover job first second = tt
+no_memory_says (Compare other) job first second = tt
+no_memory_says (AskText claim signal) job first second = tt
+no_memory_says SurveyText job first second = tt
+no_memory_says (CompareTexts other) job first second = tt

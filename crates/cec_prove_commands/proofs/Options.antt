@@ -1,24 +1,23 @@
--- Options of which one word was read, or both.
-use Rattle.std.specs.Prelude.{option_and_then}
+-- Options of which a further word was read, where the option that waits for its value, if any, and the words that are left give all.
+use Rattle.std.specs.Prelude.{if◌then◌else◌, true, false}
 use Rattle.std.proofs.Common.{◌≡◌, ℕ, List, ◌∷◌, Option, Some, None, sym, ap, ◌∙◌}
-use Rattle.cec_prove_commands.specs.Words.{Job, job_with, misuse_of_rest, misuse_of_options, with_option}
+use Rattle.cec_prove_commands.specs.Words.{is_flag}
 
--- the words that are left, and before them the option that waits for its value
-abbrev pub with_key : Option (List ℕ) → List (List ℕ) → List (List ℕ)
-with_key None words = words
-with_key (Some key) words = key ∷ words
+-- the word is an option that has no value
+pub flag-word : {X : Type 0} (f : Option (List ℕ) → List (List ℕ) → X) (key : Option (List ℕ)) (words rest : List (List ℕ)) (word : List ℕ) (flag done all : X)
+    → f None (word ∷ rest) ≡ (if is_flag word then flag else f (Some word) rest) → words ≡ word ∷ rest → key ≡ None → is_flag word ≡ true
+    → flag ≡ done → f key words ≡ all → done ≡ all
+flag-word f key words rest word flag done all step e none is_it is so =
+    sym is ∙ sym (ap (λ b. if b then flag else f (Some word) rest) is_it) ∙ sym step ∙ sym (λ i. f (none i) (e i)) ∙ so
 
-pub one-word : {X : Type 0} (f : List (List ℕ) → X) (key : Option (List ℕ)) (words rest : List (List ℕ)) (word : List ℕ) (all : X)
-    → words ≡ word ∷ rest → key ≡ None → f (with_key key words) ≡ all → f (with_key (Some word) rest) ≡ all
-one-word f key words rest word all e none so = sym (λ i. f (with_key (none i) (e i))) ∙ so
+-- the word is an option that has a value
+pub key-word : {X : Type 0} (f : Option (List ℕ) → List (List ℕ) → X) (key : Option (List ℕ)) (words rest : List (List ℕ)) (word : List ℕ) (flag all : X)
+    → f None (word ∷ rest) ≡ (if is_flag word then flag else f (Some word) rest) → words ≡ word ∷ rest → key ≡ None → is_flag word ≡ false
+    → f key words ≡ all → f (Some word) rest ≡ all
+key-word f key words rest word flag all step e none no so =
+    sym (ap (λ b. if b then flag else f (Some word) rest) no) ∙ sym step ∙ sym (λ i. f (none i) (e i)) ∙ so
 
-pub two-words : (j n : Job) (key : Option (List ℕ)) (name : List ℕ) (words rest : List (List ℕ)) (word : List ℕ) (all : Option Job)
-    → words ≡ word ∷ rest → key ≡ Some name → with_option j name word ≡ Some n → job_with j (with_key key words) ≡ all → job_with n rest ≡ all
-two-words j n key name words rest word all e some is so =
-    sym (ap (option_and_then (λ m. job_with m rest)) is) ∙ sym (λ i. job_with j (with_key (some i) (e i))) ∙ so
-
-pub two-faultless : (j n : Job) (key : Option (List ℕ)) (name : List ℕ) (words rest : List (List ℕ)) (word : List ℕ) (all : List ℕ)
-    → words ≡ word ∷ rest → key ≡ Some name → with_option j name word ≡ Some n → misuse_of_options j (with_key key words) ≡ all
-    → misuse_of_options n rest ≡ all
-two-faultless j n key name words rest word all e some is so =
-    sym (ap (misuse_of_rest name (λ m. misuse_of_options m rest)) is) ∙ sym (λ i. misuse_of_options j (with_key (some i) (e i))) ∙ so
+-- the word is the value
+pub value-word : {X : Type 0} (f : Option (List ℕ) → List (List ℕ) → X) (key : Option (List ℕ)) (name : List ℕ) (words rest : List (List ℕ)) (word : List ℕ)
+    (value done all : X) → f (Some name) (word ∷ rest) ≡ value → words ≡ word ∷ rest → key ≡ Some name → value ≡ done → f key words ≡ all → done ≡ all
+value-word f key name words rest word value done all step e some is so = sym is ∙ sym step ∙ sym (λ i. f (some i) (e i)) ∙ so

@@ -1,6 +1,6 @@
 -- What the answers of the steps say of the whole call.
 use Rattle.std.proofs.Common.{◌≡◌, ◌≤◌, ℕ, Bool, true, false, List, [], Option, Some, Err, refl, sym, subst, arith}
-use Rattle.base_types.specs.declared.bounds.TheConstants.Limits.{SOURCE_BYTES}
+use Rattle.base_types.specs.declared.bounds.TheConstants.Limits.{SOURCE_BYTES, TEXT_BYTES}
 use Rattle.base_types.specs.declared.files.reading.FileFault as unread
 use Rattle.base_types.specs.declared.files.reading.FileFault.TheVariants as reading
 use Rattle.base_types.specs.Reading.{Reads, Counts, KeepsFaults}
@@ -17,19 +17,23 @@ use Rattle.cec_text_io.specs.Writings.{LeavesText}
 use Rattle.cec_text_io.specs.declared.writing.Written.{Written}
 use Rattle.cec_text_io.specs.declared.writing.Written.TheVariants as ends
 use Rattle.cec_prove_sources.specs.Verdicts.{PlainQuestion}
-use Rattle.cec_prove_commands.specs.Answers.{AreHeld, GainsAll, IsWrittenBy, SaysOfTexts}
+use Rattle.cec_prove_commands.specs.Answers.{AreHeld, GainsAll, IsWrittenBy, SaysOfTexts, byte_limit}
 use Rattle.cec_prove_commands.specs.Lines.{GainsJobErr, SpeaksOf, Subject, job_subject, line_of, most_further, second_of}
+use Rattle.cec_prove_commands.specs.Outcomes.{AgreesOnTexts}
 use Rattle.cec_prove_commands.specs.Outcomes.{AgreesOnFile, AgreesOnFiles, AgreesOnTask, ClaimSays, ComparisonSays, CountsFiles, CountsJob, IsDistinction}
 use Rattle.cec_prove_commands.specs.Outcomes.{IsRefutation, IsSurveyBy, IsSurveyOf, IsTextOf, IsWriting, SurveySays, question_of}
 use Rattle.cec_prove_commands.specs.Outcomes.{CoveringSays, IsCoveringBy, IsCoveringOf}
 use Rattle.cec_prove_commands.specs.Statuses.{written_outcome, refusal_outcome, second_refusal_outcome, second_unread_outcome, unread_outcome, written_of}
-use Rattle.cec_prove_commands.specs.Views.{spoken_of}
-use Rattle.cec_prove_commands.specs.Words.{Job, Request, Task, Ask, Survey, Cover, Compare, is_comparison}
+use Rattle.cec_prove_commands.specs.TextOutcomes.{IsTextDistinction, IsTextRefutation, IsTextSurveyBy, TextClaimSays, TextComparisonSays, TextSurveySays}
+use Rattle.cec_prove_commands.specs.Views.{spoken_of, spoken_source}
+use Rattle.cec_prove_commands.specs.Words.{Job, Request, Task, Ask, Survey, Cover, Compare, AskText, SurveyText, CompareTexts, is_comparison}
+use Rattle.cec_prove_commands.specs.Words.{is_of_texts}
 use Rattle.cec_prove_commands.specs.declared.outcome.ProveOutcome.{ProveOutcome}
 use Rattle.cec_prove_commands.specs.declared.outcome.ProveOutcome.TheVariants.{Told, Proved, Refuted, Surveyed, PartlySurveyed, Covered, PartlyCovered}
 use Rattle.cec_prove_commands.specs.declared.outcome.ProveOutcome.TheVariants.{Undecided, NoSignal, NoAssumed}
 use Rattle.cec_prove_commands.specs.declared.outcome.ProveOutcome.TheVariants.{OtherGiven, OtherOutgoing, OtherRelations, Usage, FileFault, SecondFault}
-use Rattle.cec_prove_commands.specs.declared.outcome.ProveOutcome.TheVariants.{Refused, SecondRefused, WriteFault, NoMemory}
+use Rattle.cec_prove_commands.specs.declared.outcome.ProveOutcome.TheVariants.{Refused, SecondRefused, BadText, SecondBadText, TooLong, SecondTooLong}
+use Rattle.cec_prove_commands.specs.declared.outcome.ProveOutcome.TheVariants.{WriteFault, NoMemory}
 
 -- ---- what the program writes about itself
 
@@ -75,6 +79,24 @@ comparison_read outcome job first second says = record {
   second = λ is. subst (λ o. ComparisonSays o job first second) is says;
 }
 
+pub text_claim_read : (q : PlainQuestion) (outcome : ProveOutcome) (text : List ℕ) → TextClaimSays q outcome text → IsRead outcome
+text_claim_read q outcome text says = record {
+  first = λ is. subst (λ o. TextClaimSays q o text) is says;
+  second = λ is. subst (λ o. TextClaimSays q o text) is says;
+}
+
+pub text_survey_read : (outcome : ProveOutcome) (assumed : Option (List ℕ)) (text : List ℕ) → TextSurveySays outcome assumed text → IsRead outcome
+text_survey_read outcome assumed text says = record {
+  first = λ is. subst (λ o. TextSurveySays o assumed text) is says;
+  second = λ is. subst (λ o. TextSurveySays o assumed text) is says;
+}
+
+pub text_comparison_read : (outcome : ProveOutcome) (first second : List ℕ) → TextComparisonSays outcome first second → IsRead outcome
+text_comparison_read outcome first second says = record {
+  first = λ is. subst (λ o. TextComparisonSays o first second) is says;
+  second = λ is. subst (λ o. TextComparisonSays o first second) is says;
+}
+
 pub read_counts : (job : Job) (outcome : ProveOutcome) (before now : ℕ) (failed_before failed_now : List ℕ) → IsRead outcome
     → KeepsFaults before now failed_before failed_now → CountsJob job outcome before now failed_before failed_now
 read_counts job Told before now failed_before failed_now read k = k
@@ -95,6 +117,10 @@ read_counts job FileFault before now failed_before failed_now read k = absurd (r
 read_counts job SecondFault before now failed_before failed_now read k = absurd (read.second refl)
 read_counts job (Refused refusal) before now failed_before failed_now read k = k
 read_counts job (SecondRefused refusal) before now failed_before failed_now read k = k
+read_counts job (BadText fault) before now failed_before failed_now read k = k
+read_counts job (SecondBadText fault) before now failed_before failed_now read k = k
+read_counts job TooLong before now failed_before failed_now read k = k
+read_counts job SecondTooLong before now failed_before failed_now read k = k
 read_counts job WriteFault before now failed_before failed_now read k = k
 read_counts job NoMemory before now failed_before failed_now read k = k
 
@@ -118,6 +144,10 @@ file_agrees content name Says FileFault text held says read = absurd (read.first
 file_agrees content name Says SecondFault text held says read = (text, held, says)
 file_agrees content name Says (Refused refusal) text held says read = (text, held, says)
 file_agrees content name Says (SecondRefused refusal) text held says read = (text, held, says)
+file_agrees content name Says (BadText fault) text held says read = (text, held, says)
+file_agrees content name Says (SecondBadText fault) text held says read = (text, held, says)
+file_agrees content name Says TooLong text held says read = (text, held, says)
+file_agrees content name Says SecondTooLong text held says read = (text, held, says)
 file_agrees content name Says WriteFault text held says read = (text, held, says)
 file_agrees content name Says NoMemory text held says read = (text, held, says)
 
@@ -141,13 +171,78 @@ files_agree content job other FileFault first second held held' says = absurd sa
 files_agree content job other SecondFault first second held held' says = absurd says
 files_agree content job other (Refused refusal) first second held held' says = (first, held, says)
 files_agree content job other (SecondRefused refusal) first second held held' says = (second, held', says)
+files_agree content job other (BadText fault) first second held held' says = (first, held, (second, held', says))
+files_agree content job other (SecondBadText fault) first second held held' says = (first, held, (second, held', says))
+files_agree content job other TooLong first second held held' says = (first, held, (second, held', says))
+files_agree content job other SecondTooLong first second held held' says = (first, held, (second, held', says))
 files_agree content job other WriteFault first second held held' says = (first, held, (second, held', says))
 files_agree content job other NoMemory first second held held' says = (first, held, (second, held', says))
+
+pub texts_both_agree : (content : Content) (job : Job) (other : List ℕ) (outcome : ProveOutcome) (first second : List ℕ) → IsHeld content job.name first
+    → IsHeld content other second → TextComparisonSays outcome first second → AgreesOnTexts content job other outcome
+texts_both_agree content job other Told first second held held' says = (first, held, (second, held', says))
+texts_both_agree content job other Proved first second held held' says = (first, held, (second, held', says))
+texts_both_agree content job other Refuted first second held held' says = (first, held, (second, held', says))
+texts_both_agree content job other Surveyed first second held held' says = (first, held, (second, held', says))
+texts_both_agree content job other PartlySurveyed first second held held' says = (first, held, (second, held', says))
+texts_both_agree content job other Covered first second held held' says = (first, held, (second, held', says))
+texts_both_agree content job other PartlyCovered first second held held' says = (first, held, (second, held', says))
+texts_both_agree content job other (Undecided depth) first second held held' says = (first, held, (second, held', says))
+texts_both_agree content job other NoSignal first second held held' says = (first, held, (second, held', says))
+texts_both_agree content job other NoAssumed first second held held' says = (first, held, (second, held', says))
+texts_both_agree content job other OtherGiven first second held held' says = (first, held, (second, held', says))
+texts_both_agree content job other OtherOutgoing first second held held' says = (first, held, (second, held', says))
+texts_both_agree content job other OtherRelations first second held held' says = (first, held, (second, held', says))
+texts_both_agree content job other Usage first second held held' says = (first, held, (second, held', says))
+texts_both_agree content job other FileFault first second held held' says = absurd says
+texts_both_agree content job other SecondFault first second held held' says = absurd says
+texts_both_agree content job other (Refused refusal) first second held held' says = (first, held, (second, held', says))
+texts_both_agree content job other (SecondRefused refusal) first second held held' says = (first, held, (second, held', says))
+texts_both_agree content job other (BadText fault) first second held held' says = (first, held, says)
+texts_both_agree content job other (SecondBadText fault) first second held held' says = (first, held, (second, held', says))
+texts_both_agree content job other TooLong first second held held' says = (first, held, says)
+texts_both_agree content job other SecondTooLong first second held held' says = (second, held', says)
+texts_both_agree content job other WriteFault first second held held' says = (first, held, (second, held', says))
+texts_both_agree content job other NoMemory first second held held' says = (first, held, (second, held', says))
+
+-- where no source is refused, none is spoken of
+pub text_speaks : (content : Content) (job : Job) (outcome : ProveOutcome) → ((refusal : refusals.Refusal) → outcome ≡ Refused refusal → ⊥)
+    → ((refusal : refusals.Refusal) → outcome ≡ SecondRefused refusal → ⊥) → SpeaksOf content job outcome []
+text_speaks content job Told unrefused second_unrefused = tt
+text_speaks content job Proved unrefused second_unrefused = tt
+text_speaks content job Refuted unrefused second_unrefused = tt
+text_speaks content job Surveyed unrefused second_unrefused = tt
+text_speaks content job PartlySurveyed unrefused second_unrefused = tt
+text_speaks content job Covered unrefused second_unrefused = tt
+text_speaks content job PartlyCovered unrefused second_unrefused = tt
+text_speaks content job (Undecided depth) unrefused second_unrefused = tt
+text_speaks content job NoSignal unrefused second_unrefused = tt
+text_speaks content job NoAssumed unrefused second_unrefused = tt
+text_speaks content job OtherGiven unrefused second_unrefused = tt
+text_speaks content job OtherOutgoing unrefused second_unrefused = tt
+text_speaks content job OtherRelations unrefused second_unrefused = tt
+text_speaks content job Usage unrefused second_unrefused = tt
+text_speaks content job FileFault unrefused second_unrefused = tt
+text_speaks content job SecondFault unrefused second_unrefused = tt
+text_speaks content job (BadText fault) unrefused second_unrefused = tt
+text_speaks content job (SecondBadText fault) unrefused second_unrefused = tt
+text_speaks content job TooLong unrefused second_unrefused = tt
+text_speaks content job SecondTooLong unrefused second_unrefused = tt
+text_speaks content job WriteFault unrefused second_unrefused = tt
+text_speaks content job NoMemory unrefused second_unrefused = tt
+text_speaks content job (Refused (refusing.Static fault)) unrefused second_unrefused = absurd (unrefused (refusing.Static fault) refl)
+text_speaks content job (Refused (refusing.Cyclic cycle)) unrefused second_unrefused = absurd (unrefused (refusing.Cyclic cycle) refl)
+text_speaks content job (Refused (refusing.Limit limit)) unrefused second_unrefused = absurd (unrefused (refusing.Limit limit) refl)
+text_speaks content job (Refused refusing.NoMemory) unrefused second_unrefused = absurd (unrefused refusing.NoMemory refl)
+text_speaks content job (SecondRefused (refusing.Static fault)) unrefused second_unrefused = absurd (second_unrefused (refusing.Static fault) refl)
+text_speaks content job (SecondRefused (refusing.Cyclic cycle)) unrefused second_unrefused = absurd (second_unrefused (refusing.Cyclic cycle) refl)
+text_speaks content job (SecondRefused (refusing.Limit limit)) unrefused second_unrefused = absurd (second_unrefused (refusing.Limit limit) refl)
+text_speaks content job (SecondRefused refusing.NoMemory) unrefused second_unrefused = absurd (second_unrefused refusing.NoMemory refl)
 
 -- the source that is spoken of is held, the second one where it is refused
 pub read_speaks : (content : Content) (job : Job) (outcome : ProveOutcome) (first second : List ℕ) → IsHeld content job.name first
     → ((refusal : refusals.Refusal) → outcome ≡ SecondRefused refusal → IsHeld content (second_of job.task) second)
-    → SpeaksOf content job outcome (spoken_of outcome first second)
+    → SpeaksOf content job outcome (spoken_source outcome first second)
 read_speaks content job Told first second held second_held = tt
 read_speaks content job Proved first second held second_held = tt
 read_speaks content job Refuted first second held second_held = tt
@@ -172,69 +267,98 @@ read_speaks content job (SecondRefused (refusing.Static fault)) first second hel
 read_speaks content job (SecondRefused (refusing.Cyclic cycle)) first second held second_held = tt
 read_speaks content job (SecondRefused (refusing.Limit limit)) first second held second_held = tt
 read_speaks content job (SecondRefused refusing.NoMemory) first second held second_held = tt
+read_speaks content job (BadText fault) first second held second_held = tt
+read_speaks content job (SecondBadText fault) first second held second_held = tt
+read_speaks content job TooLong first second held second_held = tt
+read_speaks content job SecondTooLong first second held second_held = tt
 read_speaks content job WriteFault first second held second_held = tt
 read_speaks content job NoMemory first second held second_held = tt
 
 -- ---- files that were not read
 
-pub unread_agrees : (content : Content) (task : Task) (job : Job) (fault : unread.FileFault) → Reads content job.name SOURCE_BYTES (Err fault)
-    → AgreesOnTask task content job (unread_outcome fault)
+pub unread_agrees : (content : Content) (task : Task) (job : Job) (fault : unread.FileFault)
+    → Reads content job.name (byte_limit (is_of_texts task)) (Err fault) → AgreesOnTask task content job (unread_outcome (is_of_texts task) fault)
 unread_agrees content (Ask claim signal) job reading.Failed read = tt
 unread_agrees content Survey job reading.Failed read = tt
 unread_agrees content Cover job reading.Failed read = tt
 unread_agrees content (Compare other) job reading.Failed read = tt
+unread_agrees content (AskText claim signal) job reading.Failed read = tt
+unread_agrees content SurveyText job reading.Failed read = tt
+unread_agrees content (CompareTexts other) job reading.Failed read = tt
 unread_agrees content (Ask claim signal) job reading.TooLong read = long_unread content job.name SOURCE_BYTES read
 unread_agrees content Survey job reading.TooLong read = long_unread content job.name SOURCE_BYTES read
 unread_agrees content Cover job reading.TooLong read = long_unread content job.name SOURCE_BYTES read
 unread_agrees content (Compare other) job reading.TooLong read = long_unread content job.name SOURCE_BYTES read
+unread_agrees content (AskText claim signal) job reading.TooLong read = long_unread content job.name TEXT_BYTES read
+unread_agrees content SurveyText job reading.TooLong read = long_unread content job.name TEXT_BYTES read
+unread_agrees content (CompareTexts other) job reading.TooLong read = long_unread content job.name TEXT_BYTES read
 unread_agrees content (Ask claim signal) job reading.NoMemory read = some_bytes content job.name
 unread_agrees content Survey job reading.NoMemory read = some_bytes content job.name
 unread_agrees content Cover job reading.NoMemory read = some_bytes content job.name
 unread_agrees content (Compare other) job reading.NoMemory read =
     let some = some_bytes content job.name in (some.0, some.1, some_bytes content other)
+unread_agrees content (AskText claim signal) job reading.NoMemory read = some_bytes content job.name
+unread_agrees content SurveyText job reading.NoMemory read = some_bytes content job.name
+unread_agrees content (CompareTexts other) job reading.NoMemory read =
+    let some = some_bytes content job.name in (some.0, some.1, some_bytes content other)
 
-pub unread_counts : (job : Job) (fault : unread.FileFault) (before now : ℕ) (failed_before failed_now : List ℕ)
-    → Counts before now failed_before failed_now job.name (Err fault) → CountsJob job (unread_outcome fault) before now failed_before failed_now
-unread_counts job reading.Failed before now failed_before failed_now k = k
-unread_counts job reading.TooLong before now failed_before failed_now k = k
-unread_counts job reading.NoMemory before now failed_before failed_now k = k
+pub unread_counts : (of_texts : Bool) (job : Job) (fault : unread.FileFault) (before now : ℕ) (failed_before failed_now : List ℕ)
+    → Counts before now failed_before failed_now job.name (Err fault)
+    → CountsJob job (unread_outcome of_texts fault) before now failed_before failed_now
+unread_counts of_texts job reading.Failed before now failed_before failed_now k = k
+unread_counts true job reading.TooLong before now failed_before failed_now k = k
+unread_counts false job reading.TooLong before now failed_before failed_now k = k
+unread_counts of_texts job reading.NoMemory before now failed_before failed_now k = k
 
-pub unread_out : (P : List ℕ → Type 0) (fault : unread.FileFault) (s : SinkChange) → Appends s.before s.after s.faults_before s.faults_now []
-    → LeavesText P s (written_of (unread_outcome fault))
-unread_out P reading.Failed s a = a
-unread_out P reading.TooLong s a = a
-unread_out P reading.NoMemory s a = a
+pub unread_out : (of_texts : Bool) (P : List ℕ → Type 0) (fault : unread.FileFault) (s : SinkChange)
+    → Appends s.before s.after s.faults_before s.faults_now [] → LeavesText P s (written_of (unread_outcome of_texts fault))
+unread_out of_texts P reading.Failed s a = a
+unread_out true P reading.TooLong s a = a
+unread_out false P reading.TooLong s a = a
+unread_out of_texts P reading.NoMemory s a = a
 
-pub unread_speaks : (content : Content) (job : Job) (fault : unread.FileFault) (source : List ℕ) → SpeaksOf content job (unread_outcome fault) source
-unread_speaks content job reading.Failed source = tt
-unread_speaks content job reading.TooLong source = tt
-unread_speaks content job reading.NoMemory source = tt
+pub unread_speaks : (of_texts : Bool) (content : Content) (job : Job) (fault : unread.FileFault) (source : List ℕ)
+    → SpeaksOf content job (unread_outcome of_texts fault) source
+unread_speaks of_texts content job reading.Failed source = tt
+unread_speaks true content job reading.TooLong source = tt
+unread_speaks false content job reading.TooLong source = tt
+unread_speaks of_texts content job reading.NoMemory source = tt
 
 pub second_unread_agrees : (content : Content) (job : Job) (other : List ℕ) (fault : unread.FileFault) → Reads content other SOURCE_BYTES (Err fault)
-    → AgreesOnFiles content job other (second_unread_outcome fault)
+    → AgreesOnFiles content job other (second_unread_outcome false fault)
 second_unread_agrees content job other reading.Failed read = tt
 second_unread_agrees content job other reading.TooLong read = long_unread content other SOURCE_BYTES read
 second_unread_agrees content job other reading.NoMemory read =
     let some = some_bytes content job.name in (some.0, some.1, some_bytes content other)
 
-pub second_unread_counts : (job : Job) (fault : unread.FileFault) (before now : ℕ) (failed_before failed_now : List ℕ)
+pub second_text_unread_agrees : (content : Content) (job : Job) (other : List ℕ) (fault : unread.FileFault) → Reads content other TEXT_BYTES (Err fault)
+    → AgreesOnTexts content job other (second_unread_outcome true fault)
+second_text_unread_agrees content job other reading.Failed read = tt
+second_text_unread_agrees content job other reading.TooLong read = long_unread content other TEXT_BYTES read
+second_text_unread_agrees content job other reading.NoMemory read =
+    let some = some_bytes content job.name in (some.0, some.1, some_bytes content other)
+
+pub second_unread_counts : (of_texts : Bool) (job : Job) (fault : unread.FileFault) (before now : ℕ) (failed_before failed_now : List ℕ)
     → Counts before now failed_before failed_now (second_of job.task) (Err fault)
-    → CountsJob job (second_unread_outcome fault) before now failed_before failed_now
-second_unread_counts job reading.Failed before now failed_before failed_now k = k
-second_unread_counts job reading.TooLong before now failed_before failed_now k = k
-second_unread_counts job reading.NoMemory before now failed_before failed_now k = k
+    → CountsJob job (second_unread_outcome of_texts fault) before now failed_before failed_now
+second_unread_counts of_texts job reading.Failed before now failed_before failed_now k = k
+second_unread_counts true job reading.TooLong before now failed_before failed_now k = k
+second_unread_counts false job reading.TooLong before now failed_before failed_now k = k
+second_unread_counts of_texts job reading.NoMemory before now failed_before failed_now k = k
 
-pub second_unread_out : (P : List ℕ → Type 0) (fault : unread.FileFault) (s : SinkChange) → Appends s.before s.after s.faults_before s.faults_now []
-    → LeavesText P s (written_of (second_unread_outcome fault))
-second_unread_out P reading.Failed s a = a
-second_unread_out P reading.TooLong s a = a
-second_unread_out P reading.NoMemory s a = a
+pub second_unread_out : (of_texts : Bool) (P : List ℕ → Type 0) (fault : unread.FileFault) (s : SinkChange)
+    → Appends s.before s.after s.faults_before s.faults_now [] → LeavesText P s (written_of (second_unread_outcome of_texts fault))
+second_unread_out of_texts P reading.Failed s a = a
+second_unread_out true P reading.TooLong s a = a
+second_unread_out false P reading.TooLong s a = a
+second_unread_out of_texts P reading.NoMemory s a = a
 
-pub second_unread_speaks : (content : Content) (job : Job) (fault : unread.FileFault) (source : List ℕ)
-    → SpeaksOf content job (second_unread_outcome fault) source
-second_unread_speaks content job reading.Failed source = tt
-second_unread_speaks content job reading.TooLong source = tt
-second_unread_speaks content job reading.NoMemory source = tt
+pub second_unread_speaks : (of_texts : Bool) (content : Content) (job : Job) (fault : unread.FileFault) (source : List ℕ)
+    → SpeaksOf content job (second_unread_outcome of_texts fault) source
+second_unread_speaks of_texts content job reading.Failed source = tt
+second_unread_speaks true content job reading.TooLong source = tt
+second_unread_speaks false content job reading.TooLong source = tt
+second_unread_speaks of_texts content job reading.NoMemory source = tt
 
 -- ---- the outcome of a task about texts, in the words of the whole call
 
@@ -248,6 +372,9 @@ one_held content (Ask claim signal) job first second one held = held
 one_held content Survey job first second one held = held
 one_held content Cover job first second one held = held
 one_held content (Compare other) job first second one held = absurd (cc)
+one_held content (AskText claim signal) job first second one held = held
+one_held content SurveyText job first second one held = held
+one_held content (CompareTexts other) job first second one held = absurd (cc)
 
 pub both_held : (content : Content) (task : Task) (job : Job) (first second name read : List ℕ) → is_comparison task ≡ true
     → IsHeld content job.name first → name ≡ second_of task → second ≡ read → IsHeld content name read → AreHeld content task job first second
@@ -256,12 +383,19 @@ both_held content Survey job first second name read two held same is held' = abs
 both_held content Cover job first second name read two held same is held' = absurd (cc)
 both_held content (Compare other) job first second name read two held same is held' =
     (held, subst (λ n. IsHeld content n second) same (subst (IsHeld content name) (sym is) held'))
+both_held content (AskText claim signal) job first second name read two held same is held' = absurd (cc)
+both_held content SurveyText job first second name read two held same is held' = absurd (cc)
+both_held content (CompareTexts other) job first second name read two held same is held' =
+    (held, subst (λ n. IsHeld content n second) same (subst (IsHeld content name) (sym is) held'))
 
 pub texts_read : (task : Task) (outcome : ProveOutcome) (job : Job) (first second : List ℕ) → SaysOfTexts task outcome job first second → IsRead outcome
 texts_read (Ask claim signal) outcome job first second says = claim_read (question_of claim signal job) outcome job first says
 texts_read Survey outcome job first second says = survey_read outcome job first says
 texts_read Cover outcome job first second says = covering_read outcome job first says
 texts_read (Compare other) outcome job first second says = comparison_read outcome job first second says
+texts_read (AskText claim signal) outcome job first second says = text_claim_read (question_of claim signal job) outcome first says
+texts_read SurveyText outcome job first second says = text_survey_read outcome job.assumed first says
+texts_read (CompareTexts other) outcome job first second says = text_comparison_read outcome first second says
 
 pub texts_agree : (content : Content) (task : Task) (job : Job) (outcome : ProveOutcome) (first second : List ℕ) → AreHeld content task job first second
     → SaysOfTexts task outcome job first second → AgreesOnTask task content job outcome
@@ -273,6 +407,13 @@ texts_agree content Survey job outcome first second held says =
 texts_agree content Cover job outcome first second held says =
     file_agrees content job.name (λ o t. CoveringSays o job t) outcome first held says (covering_read outcome job first says)
 texts_agree content (Compare other) job outcome first second held says = files_agree content job other outcome first second held.0 held.1 says
+texts_agree content (AskText claim signal) job outcome first second held says =
+    let q = question_of claim signal job in
+    file_agrees content job.name (λ o t. TextClaimSays q o t) outcome first held says (text_claim_read q outcome first says)
+texts_agree content SurveyText job outcome first second held says =
+    file_agrees content job.name (λ o t. TextSurveySays o job.assumed t) outcome first held says (text_survey_read outcome job.assumed first says)
+texts_agree content (CompareTexts other) job outcome first second held says =
+    texts_both_agree content job other outcome first second held.0 held.1 says
 
 pub texts_out : (content : Content) (task : Task) (job : Job) (outcome : ProveOutcome) (first second : List ℕ) (s : SinkChange)
     → AreHeld content task job first second → LeavesText (IsWrittenBy task outcome job first second) s (written_of outcome)
@@ -287,9 +428,19 @@ texts_out content Cover job outcome first second s held l =
 texts_out content (Compare other) job outcome first second s held l =
     texts.text_as (IsDistinction job first second) (IsTextOf (Compare other) job content outcome) s (written_of outcome)
     (λ trace of. (first, held.0, (second, held.1, of))) l
+texts_out content (AskText claim signal) job outcome first second s held l =
+    texts.text_as (IsTextRefutation (question_of claim signal job) first) (IsTextOf (AskText claim signal) job content outcome) s (written_of outcome)
+    (λ trace of. (first, held, of)) l
+texts_out content SurveyText job outcome first second s held l =
+    texts.text_as (IsTextSurveyBy outcome job.assumed first) (IsTextOf SurveyText job content outcome) s (written_of outcome)
+    (λ lines of. (first, held, of)) l
+texts_out content (CompareTexts other) job outcome first second s held l =
+    texts.text_as (IsTextDistinction first second) (IsTextOf (CompareTexts other) job content outcome) s (written_of outcome)
+    (λ trace of. (first, held.0, (second, held.1, of))) l
 
 texts_speak : (content : Content) (task : Task) (job : Job) (outcome : ProveOutcome) (first second : List ℕ) → job.task ≡ task
-    → AreHeld content task job first second → SaysOfTexts task outcome job first second → SpeaksOf content job outcome (spoken_of outcome first second)
+    → AreHeld content task job first second → SaysOfTexts task outcome job first second
+    → SpeaksOf content job outcome (spoken_of (is_of_texts task) outcome first second)
 texts_speak content (Ask claim signal) job outcome first second is held says =
     read_speaks content job outcome first second held
     (λ refusal ends. absurd (subst (λ o. ClaimSays (question_of claim signal job) o job first) ends says))
@@ -299,13 +450,23 @@ texts_speak content Cover job outcome first second is held says =
     read_speaks content job outcome first second held (λ refusal ends. absurd (subst (λ o. CoveringSays o job first) ends says))
 texts_speak content (Compare other) job outcome first second is held says =
     read_speaks content job outcome first second held.0 (λ refusal ends. subst (λ t. IsHeld content (second_of t) second) (sym is) held.1)
+texts_speak content (AskText claim signal) job outcome first second is held says =
+    let q = question_of claim signal job in
+    text_speaks content job outcome (λ refusal ends. subst (λ o. TextClaimSays q o first) ends says)
+    (λ refusal ends. subst (λ o. TextClaimSays q o first) ends says)
+texts_speak content SurveyText job outcome first second is held says =
+    text_speaks content job outcome (λ refusal ends. subst (λ o. TextSurveySays o job.assumed first) ends says)
+    (λ refusal ends. subst (λ o. TextSurveySays o job.assumed first) ends says)
+texts_speak content (CompareTexts other) job outcome first second is held says =
+    text_speaks content job outcome (λ refusal ends. subst (λ o. TextComparisonSays o first second) ends says)
+    (λ refusal ends. subst (λ o. TextComparisonSays o first second) ends says)
 
 pub texts_err : (progress : Bool) (content : Content) (job : Job) (outcome : ProveOutcome) (first second : List ℕ) (s : SinkChange)
     → AreHeld content job.task job first second → SaysOfTexts job.task outcome job first second
-    → GainsAll progress s (line_of (job_subject job (spoken_of outcome first second)) outcome)
+    → GainsAll progress s (line_of (job_subject job (spoken_of (is_of_texts job.task) outcome first second)) outcome)
     → GainsJobErr progress job content outcome s.before s.after s.faults_before s.faults_now
 texts_err progress content job outcome first second s held says all = record {
-  source = spoken_of outcome first second;
+  source = spoken_of (is_of_texts job.task) outcome first second;
   held = texts_speak content job.task job outcome first second refl held says;
   further = all.further;
   few = all.few;
@@ -318,41 +479,46 @@ no-further : (progress : Bool) → 0 ≤ most_further progress
 no-further true = omega arith
 no-further false = omega arith
 
-pub unread_err : (progress : Bool) (content : Content) (job : Job) (fault : unread.FileFault) (outcome : ProveOutcome) (subject : Subject)
-    (source : List ℕ) (old new : Option (List ℕ)) (before now : ℕ) → outcome ≡ unread_outcome fault → subject ≡ job_subject job source
+pub unread_err : (progress of_texts : Bool) (content : Content) (job : Job) (fault : unread.FileFault) (outcome : ProveOutcome) (subject : Subject)
+    (source : List ℕ) (old new : Option (List ℕ)) (before now : ℕ) → outcome ≡ unread_outcome of_texts fault → subject ≡ job_subject job source
     → GainsLine old new before now (line_of subject outcome) → GainsJobErr progress job content outcome old new before now
-unread_err progress content job fault outcome subject source old new before now is about gains = record {
+unread_err progress of_texts content job fault outcome subject source old new before now is about gains = record {
   source = source;
-  held = subst (λ o. SpeaksOf content job o source) (sym is) (unread_speaks content job fault source);
+  held = subst (λ o. SpeaksOf content job o source) (sym is) (unread_speaks of_texts content job fault source);
   further = 0;
   few = no-further progress;
   gains = subst (λ s. GainsLine old new before now (line_of s outcome)) about gains;
 }
 
-pub second_err : (progress : Bool) (content : Content) (job : Job) (fault : unread.FileFault) (outcome : ProveOutcome) (subject : Subject)
-    (source : List ℕ) (old new : Option (List ℕ)) (before now : ℕ) → outcome ≡ second_unread_outcome fault → subject ≡ job_subject job source
+pub second_err : (progress of_texts : Bool) (content : Content) (job : Job) (fault : unread.FileFault) (outcome : ProveOutcome) (subject : Subject)
+    (source : List ℕ) (old new : Option (List ℕ)) (before now : ℕ) → outcome ≡ second_unread_outcome of_texts fault → subject ≡ job_subject job source
     → GainsLine old new before now (line_of subject outcome) → GainsJobErr progress job content outcome old new before now
-second_err progress content job fault outcome subject source old new before now is about gains = record {
+second_err progress of_texts content job fault outcome subject source old new before now is about gains = record {
   source = source;
-  held = subst (λ o. SpeaksOf content job o source) (sym is) (second_unread_speaks content job fault source);
+  held = subst (λ o. SpeaksOf content job o source) (sym is) (second_unread_speaks of_texts content job fault source);
   further = 0;
   few = no-further progress;
   gains = subst (λ s. GainsLine old new before now (line_of s outcome)) about gains;
 }
 
 pub second_agrees : (content : Content) (task : Task) (job : Job) (name : List ℕ) (fault : unread.FileFault) → is_comparison task ≡ true
-    → name ≡ second_of task → Reads content name SOURCE_BYTES (Err fault) → AgreesOnTask task content job (second_unread_outcome fault)
+    → name ≡ second_of task → Reads content name (byte_limit (is_of_texts task)) (Err fault)
+    → AgreesOnTask task content job (second_unread_outcome (is_of_texts task) fault)
 second_agrees content (Ask claim signal) job name fault two same read = absurd (cc)
 second_agrees content Survey job name fault two same read = absurd (cc)
 second_agrees content Cover job name fault two same read = absurd (cc)
 second_agrees content (Compare other) job name fault two same read =
     second_unread_agrees content job other fault (subst (λ n. Reads content n SOURCE_BYTES (Err fault)) same read)
+second_agrees content (AskText claim signal) job name fault two same read = absurd (cc)
+second_agrees content SurveyText job name fault two same read = absurd (cc)
+second_agrees content (CompareTexts other) job name fault two same read =
+    second_text_unread_agrees content job other fault (subst (λ n. Reads content n TEXT_BYTES (Err fault)) same read)
 
-pub second_counts : (job : Job) (name : List ℕ) (fault : unread.FileFault) (before now : ℕ) (failed_before failed_now : List ℕ)
+pub second_counts : (of_texts : Bool) (job : Job) (name : List ℕ) (fault : unread.FileFault) (before now : ℕ) (failed_before failed_now : List ℕ)
     → name ≡ second_of job.task → Counts before now failed_before failed_now name (Err fault)
-    → CountsJob job (second_unread_outcome fault) before now failed_before failed_now
-second_counts job name fault before now failed_before failed_now same counts =
-    second_unread_counts job fault before now failed_before failed_now
+    → CountsJob job (second_unread_outcome of_texts fault) before now failed_before failed_now
+second_counts of_texts job name fault before now failed_before failed_now same counts =
+    second_unread_counts of_texts job fault before now failed_before failed_now
     (subst (λ n. Counts before now failed_before failed_now n (Err fault)) same counts)
 
 -- what was counted after a read that kept the counts

@@ -1,5 +1,6 @@
 -- Inner: what the answer to a task says, before any of it is written, and what a search told meanwhile.
-use Rattle.std.specs.Prelude.{ℕ, ◌≤◌, Bool, true, false, List, ◌++◌, Result}
+use Rattle.std.specs.Prelude.{ℕ, ◌≤◌, ⊤, Bool, true, false, List, ◌++◌, Result}
+use Rattle.base_types.specs.declared.bounds.TheConstants.Limits.{SOURCE_BYTES, TEXT_BYTES}
 use Rattle.base_types.specs.Writing.{Wrote}
 use Rattle.base_types.specs.declared.sinks.writing.SinkFault.{SinkFault}
 use Rattle.base_types.specs.SinkChanges.{SinkChange}
@@ -12,12 +13,21 @@ use Rattle.cec_prove_sources.specs.Verdicts.{HasVerdict}
 use Rattle.cec_prove_sources.specs.declared.questions.Comparison.TheVariants as comparing
 use Rattle.cec_prove_sources.specs.declared.questions.Survey.TheVariants as surveying
 use Rattle.cec_prove_sources.specs.declared.questions.Verdict.TheVariants as deciding
+use Rattle.cec_prove_texts.specs.Sameness.{HasTextComparison}
+use Rattle.cec_prove_texts.specs.Surveys.{HasTextSurvey}
+use Rattle.cec_prove_texts.specs.Verdicts.{HasTextVerdict}
+use Rattle.cec_prove_texts.specs.Faults.{IsPairFault}
+use Rattle.cec_prove_texts.specs.declared.fault.PairFault.TheVariants as pairs
+use Rattle.cec_opt_texts.specs.Faults.{IsOptFault}
 use Rattle.cec_text_io.specs.Contents.{Content, IsHeld}
 use Rattle.cec_text_io.specs.ErrorLines.{GainsLine}
 use Rattle.cec_prove_commands.specs.Lines.{most_further, progress_lines}
 use Rattle.cec_prove_commands.specs.Outcomes.{ClaimSays, ComparisonSays, CoveringSays, SurveySays, question_of}
 use Rattle.cec_prove_commands.specs.Outcomes.{IsCoveringBy, IsDistinction, IsRefutation, IsSurveyBy}
+use Rattle.cec_prove_commands.specs.TextOutcomes.{IsTextDistinction, IsTextRefutation, IsTextSurveyBy}
+use Rattle.cec_prove_commands.specs.TextOutcomes.{TextClaimSays, TextComparisonSays, TextSurveySays}
 use Rattle.cec_prove_commands.specs.Words.{Job, Task, Ask, Survey, Cover, Compare}
+use Rattle.cec_prove_commands.specs.Words.{AskText, SurveyText, CompareTexts}
 use Rattle.cec_prove_commands.specs.declared.answers.Answer.{Answer}
 use Rattle.cec_prove_commands.specs.declared.answers.Answer.TheVariants as answers
 use Rattle.cec_prove_commands.specs.declared.outcome.ProveOutcome.{ProveOutcome}
@@ -30,8 +40,22 @@ IsAnswer (answers.Surveyed survey) Survey job first second = HasSurvey first job
 IsAnswer (answers.Covered covering) Cover job first second = HasCovering first job.main job.assumed covering
 IsAnswer (answers.Compared comparison) (Compare other) job first second =
     HasComparison first second job.main comparison
-IsAnswer (answers.Refused refusal) task job first second = IsRefused first job.main refusal
+IsAnswer (answers.Refused refusal) (Ask claim signal) job first second = IsRefused first job.main refusal
+IsAnswer (answers.Refused refusal) Survey job first second = IsRefused first job.main refusal
+IsAnswer (answers.Refused refusal) Cover job first second = IsRefused first job.main refusal
+IsAnswer (answers.Refused refusal) (Compare other) job first second = IsRefused first job.main refusal
 IsAnswer (answers.SecondRefused refusal) (Compare other) job first second = IsRefused second job.main refusal
+IsAnswer (answers.Asked verdict) (AskText claim signal) job first second =
+    HasTextVerdict first (question_of claim signal job) verdict
+IsAnswer (answers.Surveyed survey) SurveyText job first second = HasTextSurvey first job.assumed survey
+IsAnswer (answers.Compared comparison) (CompareTexts other) job first second =
+    HasTextComparison first second comparison
+IsAnswer (answers.BadText fault) (AskText claim signal) job first second = IsOptFault first fault
+IsAnswer (answers.BadText fault) SurveyText job first second = IsOptFault first fault
+IsAnswer (answers.BadText fault) (CompareTexts other) job first second = IsOptFault first fault
+IsAnswer (answers.SecondBadText fault) (CompareTexts other) job first second =
+    IsPairFault first second (pairs.Second fault)
+IsAnswer answers.NoMemory task job first second = ⊤
 IsAnswer others task job first second = ⊥
 
 -- an answer leaves something undecided
@@ -48,6 +72,9 @@ SaysOfTexts (Ask claim signal) outcome job first second = ClaimSays (question_of
 SaysOfTexts Survey outcome job first second = SurveySays outcome job first
 SaysOfTexts Cover outcome job first second = CoveringSays outcome job first
 SaysOfTexts (Compare other) outcome job first second = ComparisonSays outcome job first second
+SaysOfTexts (AskText claim signal) outcome job first second = TextClaimSays (question_of claim signal job) outcome first
+SaysOfTexts SurveyText outcome job first second = TextSurveySays outcome job.assumed first
+SaysOfTexts (CompareTexts other) outcome job first second = TextComparisonSays outcome first second
 
 -- what a task writes about these texts, where it ends with an outcome
 abbrev pub IsWrittenBy : Task → ProveOutcome → Job → (first second written : List ℕ) → Type 0
@@ -56,6 +83,10 @@ IsWrittenBy (Ask claim signal) outcome job first second written =
 IsWrittenBy Survey outcome job first second written = IsSurveyBy outcome job first written
 IsWrittenBy Cover outcome job first second written = IsCoveringBy outcome job first written
 IsWrittenBy (Compare other) outcome job first second written = IsDistinction job first second written
+IsWrittenBy (AskText claim signal) outcome job first second written =
+    IsTextRefutation (question_of claim signal job) first written
+IsWrittenBy SurveyText outcome job first second written = IsTextSurveyBy outcome job.assumed first written
+IsWrittenBy (CompareTexts other) outcome job first second written = IsTextDistinction first second written
 
 -- A sink gained the lines of a search so far, or a prefix of them, as the last write of one ended.
 pub record HasTold (progress : Bool) (told : Result (Unit {0}) SinkFault) (s : SinkChange) : Type 0 where
@@ -75,3 +106,11 @@ AreHeld content (Ask claim signal) job first second = IsHeld content job.name fi
 AreHeld content Survey job first second = IsHeld content job.name first
 AreHeld content Cover job first second = IsHeld content job.name first
 AreHeld content (Compare other) job first second = IsHeld content job.name first × IsHeld content other second
+AreHeld content (AskText claim signal) job first second = IsHeld content job.name first
+AreHeld content SurveyText job first second = IsHeld content job.name first
+AreHeld content (CompareTexts other) job first second = IsHeld content job.name first × IsHeld content other second
+
+-- how many bytes a text, or a source, may have
+abbrev pub byte_limit : (of_texts : Bool) → ℕ
+byte_limit true = TEXT_BYTES
+byte_limit false = SOURCE_BYTES

@@ -13,6 +13,7 @@ help_text =
     ∷ codes "cec-prove same FILE FILE       whether two sources do the same\n"
     ∷ codes "    --assume SIGNAL            where this signal is present in each instant; not of same\n"
     ∷ codes "    --main M                   of the module M, not of the first one\n"
+    ∷ codes "    --text                     each FILE is a BLIF file; not of cover, and not with --main\n"
     ∷ codes "    --effort N                 how long to search, from 1 to 9; without it 5\n"
     ∷ codes "cec-prove --help               writes these lines\n"
     ∷ codes "cec-prove --version            writes the program's name and version\n" ∷ [])

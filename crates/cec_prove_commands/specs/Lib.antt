@@ -1,6 +1,8 @@
 pub mod Words
 pub mod Statuses
 pub mod HelpTexts
+pub mod TextFaults
+pub mod TextOutcomes
 pub mod Outcomes
 pub mod Lines
 pub mod Views

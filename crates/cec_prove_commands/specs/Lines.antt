@@ -5,7 +5,9 @@ use Rattle.cec_compile.specs.declared.refusal.Refusal.TheVariants as refusing
 use Rattle.cec_refusals.specs.RefusalLines.{RefusalSubject, refusal_line}
 use Rattle.cec_text_io.specs.Contents.{Content, IsHeld}
 use Rattle.cec_text_io.specs.ErrorLines.{GainsLine}
-use Rattle.cec_prove_commands.specs.Words.{Job, Request, Tell, Do, Task, Ask, Survey, Cover, Compare, misuse_of}
+use Rattle.cec_prove_commands.specs.TextFaults.{fault_text}
+use Rattle.cec_prove_commands.specs.Words.{Job, Request, Tell, Do, Task, Ask, Survey, Cover, Compare, AskText}
+use Rattle.cec_prove_commands.specs.Words.{SurveyText, CompareTexts, misuse_of}
 use Rattle.cec_prove_commands.specs.declared.outcome.ProveOutcome.{ProveOutcome}
 use Rattle.cec_prove_commands.specs.declared.outcome.ProveOutcome.TheVariants.{Told, Proved, Refuted, Surveyed}
 use Rattle.cec_prove_commands.specs.declared.outcome.ProveOutcome.TheVariants.{Covered, PartlyCovered}
@@ -13,6 +15,8 @@ use Rattle.cec_prove_commands.specs.declared.outcome.ProveOutcome.TheVariants.{P
 use Rattle.cec_prove_commands.specs.declared.outcome.ProveOutcome.TheVariants.{NoAssumed, OtherGiven, OtherOutgoing}
 use Rattle.cec_prove_commands.specs.declared.outcome.ProveOutcome.TheVariants.{OtherRelations, Usage, FileFault}
 use Rattle.cec_prove_commands.specs.declared.outcome.ProveOutcome.TheVariants.{SecondFault, Refused, SecondRefused}
+use Rattle.cec_prove_commands.specs.declared.outcome.ProveOutcome.TheVariants.{BadText, SecondBadText}
+use Rattle.cec_prove_commands.specs.declared.outcome.ProveOutcome.TheVariants.{TooLong, SecondTooLong}
 use Rattle.cec_prove_commands.specs.declared.outcome.ProveOutcome.TheVariants.{WriteFault, NoMemory}
 
 -- what a line speaks of
@@ -36,6 +40,10 @@ own_line said = codes "cec-prove: " ++ (said ++ codes "\n")
 abbrev pub refused_of : Subject → (name : List ℕ) → RefusalSubject
 refused_of s name = record { program = codes "cec-prove: "; name = name; main = s.main; source = s.source }
 
+-- the same of the second text of a comparison: the name of its file comes first
+abbrev pub second_line : Subject → List ℕ → List ℕ
+second_line s said = (codes "cec-prove: " ++ (s.other ++ codes ": ")) ++ (said ++ codes "\n")
+
 -- the line of an outcome; none for Told
 abbrev pub line_of : Subject → ProveOutcome → List ℕ
 line_of s Told = []
@@ -56,6 +64,10 @@ line_of s FileFault = own_line (codes "cannot read " ++ s.name)
 line_of s SecondFault = own_line (codes "cannot read " ++ s.other)
 line_of s (Refused refusal) = refusal_line (refused_of s s.name) refusal
 line_of s (SecondRefused refusal) = refusal_line (refused_of s s.other) refusal
+line_of s (BadText fault) = own_line (fault_text fault)
+line_of s (SecondBadText fault) = second_line s (fault_text fault)
+line_of s TooLong = own_line (codes "limit: text")
+line_of s SecondTooLong = second_line s (codes "limit: text")
 line_of s WriteFault = own_line (codes "cannot write")
 line_of s NoMemory = own_line (codes "out of memory")
 
@@ -65,6 +77,9 @@ asked_signal (Ask claim signal) = signal
 asked_signal Survey = []
 asked_signal Cover = []
 asked_signal (Compare other) = []
+asked_signal (AskText claim signal) = signal
+asked_signal SurveyText = []
+asked_signal (CompareTexts other) = []
 
 -- the second file of a task
 abbrev pub second_of : Task → List ℕ
@@ -72,6 +87,9 @@ second_of (Ask claim signal) = []
 second_of Survey = []
 second_of Cover = []
 second_of (Compare other) = other
+second_of (AskText claim signal) = []
+second_of SurveyText = []
+second_of (CompareTexts other) = other
 
 -- a line about a static fault speaks of the source that the file holds
 abbrev pub SpeaksOf : Content → Job → ProveOutcome → List ℕ → Type 0

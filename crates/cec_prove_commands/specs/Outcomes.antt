@@ -9,6 +9,7 @@ use Rattle.net_ir.specs.NameLists.{is_among}
 use Rattle.cec_compile.specs.Refusals.{Compiles, IsRefused}
 use Rattle.cec_compile.specs.declared.refusal.Refusal.{Refusal}
 use Rattle.cec_compile.specs.declared.refusal.Refusal.TheVariants as refusing
+use Rattle.cec_opt_texts.specs.Faults.{IsOptFault}
 use Rattle.cec_text_io.specs.Contents.{Content, Holds}
 use Rattle.cec_text_io.specs.Writings.{LeavesText}
 use Rattle.cec_prove_covers.specs.Coverings.{IsCovering}
@@ -20,7 +21,10 @@ use Rattle.cec_prove_sources.specs.declared.questions.Layout.TheVariants.{LinePe
 use Rattle.cec_prove_commands.specs.HelpTexts.{own_text}
 use Rattle.cec_prove_commands.specs.Lines.{second_of}
 use Rattle.cec_prove_commands.specs.Statuses.{written_of}
-use Rattle.cec_prove_commands.specs.Words.{Job, Request, Tell, Do, Task, Ask, Survey, Cover, Compare}
+use Rattle.cec_prove_commands.specs.TextOutcomes.{IsLongText, IsTextDistinction, IsTextRefutation, IsTextSurveyBy}
+use Rattle.cec_prove_commands.specs.TextOutcomes.{TextClaimSays, TextComparisonSays, TextSurveySays}
+use Rattle.cec_prove_commands.specs.Words.{Job, Request, Tell, Do, Task, Ask, Survey, Cover, Compare, AskText}
+use Rattle.cec_prove_commands.specs.Words.{SurveyText, CompareTexts}
 use Rattle.cec_prove_commands.specs.declared.outcome.ProveOutcome.{ProveOutcome}
 use Rattle.cec_prove_commands.specs.declared.outcome.ProveOutcome.TheVariants.{Told, Proved, Refuted, Surveyed}
 use Rattle.cec_prove_commands.specs.declared.outcome.ProveOutcome.TheVariants.{Covered, PartlyCovered}
@@ -28,6 +32,7 @@ use Rattle.cec_prove_commands.specs.declared.outcome.ProveOutcome.TheVariants.{P
 use Rattle.cec_prove_commands.specs.declared.outcome.ProveOutcome.TheVariants.{NoAssumed, OtherGiven, OtherOutgoing}
 use Rattle.cec_prove_commands.specs.declared.outcome.ProveOutcome.TheVariants.{OtherRelations, Usage, FileFault}
 use Rattle.cec_prove_commands.specs.declared.outcome.ProveOutcome.TheVariants.{SecondFault, Refused, SecondRefused}
+use Rattle.cec_prove_commands.specs.declared.outcome.ProveOutcome.TheVariants.{BadText, TooLong, SecondTooLong}
 use Rattle.cec_prove_commands.specs.declared.outcome.ProveOutcome.TheVariants.{WriteFault, NoMemory}
 
 -- The bytes stand for a program that compiles, by its main module, and this is so of it.
@@ -152,12 +157,26 @@ AgreesOnFiles content job other (Refused refusal) = Holds content job.name (IsRe
 AgreesOnFiles content job other (SecondRefused refusal) = Holds content other (IsRefusedFor job refusal)
 AgreesOnFiles content job other others = BothHold content job.name other (ComparisonSays others job)
 
+-- the same of two texts
+abbrev pub AgreesOnTexts : Content → Job → (other : List ℕ) → ProveOutcome → Type 0
+AgreesOnTexts content job other FileFault = ⊤
+AgreesOnTexts content job other SecondFault = ⊤
+AgreesOnTexts content job other (BadText fault) = Holds content job.name (λ text. IsOptFault text fault)
+AgreesOnTexts content job other TooLong = Holds content job.name IsLongText
+AgreesOnTexts content job other SecondTooLong = Holds content other IsLongText
+AgreesOnTexts content job other others = BothHold content job.name other (TextComparisonSays others)
+
 abbrev pub AgreesOnTask : Task → Content → Job → ProveOutcome → Type 0
 AgreesOnTask (Ask claim signal) content job outcome =
     AgreesOnFile content job.name (λ o text. ClaimSays (question_of claim signal job) o job text) outcome
 AgreesOnTask Survey content job outcome = AgreesOnFile content job.name (λ o text. SurveySays o job text) outcome
 AgreesOnTask Cover content job outcome = AgreesOnFile content job.name (λ o text. CoveringSays o job text) outcome
 AgreesOnTask (Compare other) content job outcome = AgreesOnFiles content job other outcome
+AgreesOnTask (AskText claim signal) content job outcome =
+    AgreesOnFile content job.name (λ o text. TextClaimSays (question_of claim signal job) o text) outcome
+AgreesOnTask SurveyText content job outcome =
+    AgreesOnFile content job.name (λ o text. TextSurveySays o job.assumed text) outcome
+AgreesOnTask (CompareTexts other) content job outcome = AgreesOnTexts content job other outcome
 
 -- how a command ends that reads no file
 abbrev pub IsWriting : ProveOutcome → Type 0
@@ -188,7 +207,8 @@ CountsFiles None outcome before now failed_before failed_now = KeepsFaults befor
 
 -- ---- what is written
 
--- what a task writes about the sources in the files, where it ends with an outcome: a trace, a survey or a covering
+-- what a task writes about the sources, or the texts, in the files, where it ends with an outcome: a trace, a survey or
+-- a covering
 abbrev pub IsTextOf : Task → Job → Content → ProveOutcome → List ℕ → Type 0
 IsTextOf (Ask claim signal) job content outcome written =
     Holds content job.name (λ text. IsRefutation (question_of claim signal job) job text written)
@@ -196,6 +216,12 @@ IsTextOf Survey job content outcome written = Holds content job.name (λ text. I
 IsTextOf Cover job content outcome written = Holds content job.name (λ text. IsCoveringBy outcome job text written)
 IsTextOf (Compare other) job content outcome written =
     BothHold content job.name other (λ first second. IsDistinction job first second written)
+IsTextOf (AskText claim signal) job content outcome written =
+    Holds content job.name (λ text. IsTextRefutation (question_of claim signal job) text written)
+IsTextOf SurveyText job content outcome written =
+    Holds content job.name (λ text. IsTextSurveyBy outcome job.assumed text written)
+IsTextOf (CompareTexts other) job content outcome written =
+    BothHold content job.name other (λ first second. IsTextDistinction first second written)
 
 -- what `out` gained: what a task writes, or what the program writes about itself, and else nothing
 abbrev pub GainsOut : Option Request → Content → ProveOutcome → SinkChange → Type 0

@@ -1,5 +1,5 @@
 -- To believe: the status that the program ends with, and the outcome that a fault or the end of a writing is.
-use Rattle.std.specs.Prelude.{ℕ, Option, Some, None}
+use Rattle.std.specs.Prelude.{ℕ, Bool, true, false, Option, Some, None}
 use Rattle.base_types.specs.declared.files.reading.FileFault as unread
 use Rattle.base_types.specs.declared.files.reading.FileFault.TheVariants as reading
 use Rattle.cec_compile.specs.declared.refusal.Limit.TheVariants as limits
@@ -14,6 +14,8 @@ use Rattle.cec_prove_commands.specs.declared.outcome.ProveOutcome.TheVariants.{P
 use Rattle.cec_prove_commands.specs.declared.outcome.ProveOutcome.TheVariants.{NoAssumed, OtherGiven, OtherOutgoing}
 use Rattle.cec_prove_commands.specs.declared.outcome.ProveOutcome.TheVariants.{OtherRelations, Usage, FileFault}
 use Rattle.cec_prove_commands.specs.declared.outcome.ProveOutcome.TheVariants.{SecondFault, Refused, SecondRefused}
+use Rattle.cec_prove_commands.specs.declared.outcome.ProveOutcome.TheVariants.{BadText, SecondBadText}
+use Rattle.cec_prove_commands.specs.declared.outcome.ProveOutcome.TheVariants.{TooLong, SecondTooLong}
 use Rattle.cec_prove_commands.specs.declared.outcome.ProveOutcome.TheVariants.{WriteFault, NoMemory}
 
 abbrev pub status_of : ProveOutcome → ℕ
@@ -35,6 +37,10 @@ status_of FileFault = 3
 status_of SecondFault = 3
 status_of (Refused refusal) = 4
 status_of (SecondRefused refusal) = 4
+status_of (BadText fault) = 7
+status_of (SecondBadText fault) = 7
+status_of TooLong = 8
+status_of SecondTooLong = 8
 status_of WriteFault = 9
 status_of NoMemory = 10
 
@@ -66,13 +72,22 @@ abbrev pub second_refusal_outcome : refusals.Refusal → ProveOutcome
 second_refusal_outcome refusing.NoMemory = NoMemory
 second_refusal_outcome others = SecondRefused others
 
-abbrev pub unread_outcome : unread.FileFault → ProveOutcome
-unread_outcome reading.Failed = FileFault
-unread_outcome reading.TooLong = Refused (refusing.Limit limits.Source)
-unread_outcome reading.NoMemory = NoMemory
+-- of a text, or a source, that is too long
+abbrev pub long_outcome : (of_texts : Bool) → ProveOutcome
+long_outcome true = TooLong
+long_outcome false = Refused (refusing.Limit limits.Source)
+
+abbrev pub unread_outcome : (of_texts : Bool) → unread.FileFault → ProveOutcome
+unread_outcome of_texts reading.Failed = FileFault
+unread_outcome of_texts reading.TooLong = long_outcome of_texts
+unread_outcome of_texts reading.NoMemory = NoMemory
 
 -- of the second file of a comparison
-abbrev pub second_unread_outcome : unread.FileFault → ProveOutcome
-second_unread_outcome reading.Failed = SecondFault
-second_unread_outcome reading.TooLong = SecondRefused (refusing.Limit limits.Source)
-second_unread_outcome reading.NoMemory = NoMemory
+abbrev pub second_long_outcome : (of_texts : Bool) → ProveOutcome
+second_long_outcome true = SecondTooLong
+second_long_outcome false = SecondRefused (refusing.Limit limits.Source)
+
+abbrev pub second_unread_outcome : (of_texts : Bool) → unread.FileFault → ProveOutcome
+second_unread_outcome of_texts reading.Failed = SecondFault
+second_unread_outcome of_texts reading.TooLong = second_long_outcome of_texts
+second_unread_outcome of_texts reading.NoMemory = NoMemory

@@ -1,5 +1,5 @@
 -- Inner: the plain form of what is asked for.
-use Rattle.std.specs.Prelude.{ℕ, List, option_map}
+use Rattle.std.specs.Prelude.{ℕ, Bool, true, false, List, [], option_map}
 use Rattle.cec_prove_commands.specs.declared.lines.Subject as subjects
 use Rattle.cec_prove_commands.specs.declared.words.Command as commands
 use Rattle.cec_prove_commands.specs.declared.words.Command.TheVariants as commanded
@@ -12,7 +12,7 @@ use Rattle.cec_prove_commands.specs.declared.outcome.ProveOutcome.{ProveOutcome}
 use Rattle.cec_prove_commands.specs.declared.outcome.ProveOutcome.TheVariants.{SecondRefused}
 use Rattle.cec_prove_commands.specs.Lines.{Subject}
 use Rattle.cec_prove_commands.specs.Words.{Command, Asks, Surveys, Covers, Compares, Job, Request, Tell, Do, Task, Ask}
-use Rattle.cec_prove_commands.specs.Words.{Survey, Cover, Compare}
+use Rattle.cec_prove_commands.specs.Words.{Survey, Cover, Compare, AskText, SurveyText, CompareTexts}
 
 abbrev pub command_is : commands.Command → Command
 command_is (commanded.Asks claim) = Asks claim
@@ -25,6 +25,9 @@ task_is (doing.Ask claim signal) = Ask claim signal.now
 task_is doing.Survey = Survey
 task_is doing.Cover = Cover
 task_is (doing.Compare other) = Compare other.now
+task_is (doing.AskText claim signal) = AskText claim signal.now
+task_is doing.SurveyText = SurveyText
+task_is (doing.CompareTexts other) = CompareTexts other.now
 
 abbrev pub job_is : jobs.Job → Job
 job_is job = record {
@@ -50,6 +53,11 @@ subject_is s = record {
 }
 
 -- the source that a line about a comparison speaks of: the second one where it is refused
-abbrev pub spoken_of : ProveOutcome → (first second : List ℕ) → List ℕ
-spoken_of (SecondRefused refusal) first second = second
-spoken_of others first second = first
+abbrev pub spoken_source : ProveOutcome → (first second : List ℕ) → List ℕ
+spoken_source (SecondRefused refusal) first second = second
+spoken_source others first second = first
+
+-- a line about a text speaks of no source
+abbrev pub spoken_of : (of_texts : Bool) → ProveOutcome → (first second : List ℕ) → List ℕ
+spoken_of true outcome first second = []
+spoken_of false outcome first second = spoken_source outcome first second

@@ -18,7 +18,7 @@ pub data Command : Type 0 where
   -- two sources
   Compares : Command
 
--- what a command finds out about a source
+-- what a command finds out about a source, or about a BLIF text
 pub data Task : Type 0 where
   -- whether a claim about the outgoing signal of this name holds
   Ask : (claim : Claim) (signal : List ℕ) → Task
@@ -28,8 +28,14 @@ pub data Task : Type 0 where
   Cover : Task
   -- whether the source in the file of this name does the same
   Compare : (other : List ℕ) → Task
+  -- whether a claim about the output of a text that has this name holds
+  AskText : (claim : Claim) (signal : List ℕ) → Task
+  -- when each output of a text is true
+  SurveyText : Task
+  -- whether the text in the file of this name does the same as another text
+  CompareTexts : (other : List ℕ) → Task
 
--- a task about the source in the file of this name
+-- a task about the source, or the text, in the file of this name
 pub record Job : Type 0 where
   pub task : Task
   pub name : List ℕ
@@ -73,6 +79,32 @@ is_comparison (Ask claim signal) = false
 is_comparison Survey = false
 is_comparison Cover = false
 is_comparison (Compare other) = true
+is_comparison (AskText claim signal) = false
+is_comparison SurveyText = false
+is_comparison (CompareTexts other) = true
+
+-- a text has no modules
+abbrev pub is_of_texts : Task → Bool
+is_of_texts (Ask claim signal) = false
+is_of_texts Survey = false
+is_of_texts Cover = false
+is_of_texts (Compare other) = false
+is_of_texts (AskText claim signal) = true
+is_of_texts SurveyText = true
+is_of_texts (CompareTexts other) = true
+
+-- the same task about texts; a text has no points
+abbrev pub text_task : Task → Option Task
+text_task (Ask claim signal) = Some (AskText claim signal)
+text_task Survey = Some SurveyText
+text_task Cover = None
+text_task (Compare other) = Some (CompareTexts other)
+text_task (AskText claim signal) = None
+text_task SurveyText = None
+text_task (CompareTexts other) = None
+
+abbrev pub with_text : Job → Option Job
+with_text job = if is_some job.main then None else option_map (λ task. record job { task = task }) (text_task job.task)
 
 abbrev pub with_assumed : Job → List ℕ → Option Job
 with_assumed job value =
@@ -81,7 +113,8 @@ with_assumed job value =
 
 abbrev pub with_main : Job → List ℕ → Option Job
 with_main job value =
-    if is_some job.main || not (is_plain value) then None else Some (record job { main = Some value })
+    if is_of_texts job.task || (is_some job.main || not (is_plain value)) then None
+    else Some (record job { main = Some value })
 
 -- one digit, from 1 to 9
 abbrev pub level_of : List ℕ → Option ℕ
@@ -100,10 +133,19 @@ with_option job key value =
     else if is_same_name key (codes "--effort") then with_level job value
     else None
 
-abbrev pub job_with : Job → List (List ℕ) → Option Job
-job_with job [] = Some job
-job_with job (key ∷ []) = None
-job_with job (key ∷ value ∷ more) = option_and_then (λ next. job_with next more) (with_option job key value)
+-- the one option without a value
+abbrev pub is_flag : List ℕ → Bool
+is_flag word = is_same_name word (codes "--text")
+
+-- the options that follow; every one but `--text` has a value, for which the one that is named here waits
+abbrev pub job_with : Job → (waiting : Option (List ℕ)) → List (List ℕ) → Option Job
+job_with job None [] = Some job
+job_with job None (word ∷ more) =
+    if is_flag word then option_and_then (λ next. job_with next None more) (with_text job)
+    else job_with job (Some word) more
+job_with job (Some key) [] = None
+job_with job (Some key) (value ∷ more) =
+    option_and_then (λ next. job_with next None more) (with_option job key value)
 
 -- ---- all words
 
@@ -113,7 +155,7 @@ plain_job task name = record { task = task; name = name; assumed = None; main = 
 
 -- a task about a file, with options
 abbrev pub job_asked : Task → (name : List ℕ) → List (List ℕ) → Option Request
-job_asked task name options = option_map Do (job_with (plain_job task name) options)
+job_asked task name options = option_map Do (job_with (plain_job task name) None options)
 
 -- after a claim come a signal and a file
 abbrev pub claim_asked : Claim → List (List ℕ) → Option Request
@@ -153,18 +195,22 @@ abbrev pub misuse_of_rest : (key : List ℕ) → (Job → List ℕ) → Option J
 misuse_of_rest key rest None = codes "bad option: " ++ key
 misuse_of_rest key rest (Some next) = rest next
 
--- the first option without a value, unknown, given before, or with a value that it does not take
-abbrev pub misuse_of_options : Job → List (List ℕ) → List ℕ
-misuse_of_options job [] = codes "no fault"
-misuse_of_options job (key ∷ []) = codes "no value after " ++ key
-misuse_of_options job (key ∷ value ∷ more) =
-    misuse_of_rest key (λ next. misuse_of_options next more) (with_option job key value)
+-- the first option without its value, unknown, given before, with a value that it does not take, or beside a command or
+-- an option that it does not go with; the one that is named here waits for its value
+abbrev pub misuse_of_options : Job → (waiting : Option (List ℕ)) → List (List ℕ) → List ℕ
+misuse_of_options job None [] = codes "no fault"
+misuse_of_options job None (word ∷ more) =
+    if is_flag word then misuse_of_rest word (λ next. misuse_of_options next None more) (with_text job)
+    else misuse_of_options job (Some word) more
+misuse_of_options job (Some key) [] = codes "no value after " ++ key
+misuse_of_options job (Some key) (value ∷ more) =
+    misuse_of_rest key (λ next. misuse_of_options next None more) (with_option job key value)
 
 -- in words that begin with a file: it, and then the options
 abbrev pub misuse_of_file : Task → (before : List ℕ) → List (List ℕ) → List ℕ
 misuse_of_file task before [] = codes "no file after " ++ before
 misuse_of_file task before (name ∷ options) =
-    if not (is_plain name) then codes "not a file: " ++ name else misuse_of_options (plain_job task name) options
+    if not (is_plain name) then codes "not a file: " ++ name else misuse_of_options (plain_job task name) None options
 
 -- after a claim come a signal, a file, and options
 abbrev pub misuse_of_claim : Claim → (command : List ℕ) → List (List ℕ) → List ℕ
@@ -181,7 +227,7 @@ misuse_of_comparison command (name ∷ []) =
 misuse_of_comparison command (name ∷ other ∷ options) =
     if not (is_plain name) then codes "not a file: " ++ name
     else if not (is_plain other) then codes "not a file: " ++ other
-    else misuse_of_options (plain_job (Compare other) name) options
+    else misuse_of_options (plain_job (Compare other) name) None options
 
 abbrev pub misuse_of_command : Command → (command : List ℕ) → List (List ℕ) → List ℕ
 misuse_of_command (Asks claim) command rest = misuse_of_claim claim command rest

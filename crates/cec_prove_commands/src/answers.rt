@@ -4,24 +4,31 @@ ghost use Rattle.std.specs.Prelude.{◌≡◌};
 ghost use Rattle.cec_prove_commands.specs.Answers.{is_open};
 
 use cec_compile::Refusal;
+use cec_opt_texts::OptFault;
 use cec_prove_covers::Covering;
 use cec_prove_sources::{Comparison, Survey, Verdict};
 
 /// The answer to a task.
 #[derive(Drop)]
 pub(crate) enum Answer {
-    /// To a claim about an outgoing signal.
+    /// To a claim about an outgoing signal, or about an output.
     Asked(Verdict),
-    /// About all outgoing signals.
+    /// About all outgoing signals, or about all outputs.
     Surveyed(Survey),
     /// About all points.
     Covered(Covering),
-    /// About two sources.
+    /// About two sources, or two texts.
     Compared(Comparison),
     /// The source is refused.
     Refused(Refusal),
     /// The second source of a comparison is refused.
     SecondRefused(Refusal),
+    /// The text has this fault.
+    BadText(OptFault),
+    /// The second text of a comparison has this fault, and the first one has none.
+    SecondBadText(OptFault),
+    /// Running out of memory.
+    NoMemory,
 }
 
 /// Whether an answer leaves something undecided.

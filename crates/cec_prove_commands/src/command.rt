@@ -5,7 +5,7 @@ ghost use Rattle.std.specs.String.{string_bytes};
 ghost use Rattle.base_types.specs.SinkChanges.{change};
 ghost use Rattle.cec_text_io.specs.Contents.{IsHeld};
 ghost use Rattle.cec_text_io.specs.ErrorLines.{GainsLine};
-ghost use Rattle.cec_prove_commands.specs.Answers.{GainsAll, IsWrittenBy, SaysOfTexts};
+ghost use Rattle.cec_prove_commands.specs.Answers.{GainsAll, IsWrittenBy, SaysOfTexts, byte_limit};
 ghost use Rattle.cec_prove_commands.specs.HelpTexts.{own_text};
 ghost use Rattle.cec_prove_commands.specs.Lines.{GainsErr, GainsJobErr, job_subject, line_of, nothing, second_of};
 ghost use Rattle.cec_prove_commands.specs.Lines.{asked_signal};
@@ -13,12 +13,12 @@ ghost use Rattle.cec_text_io.specs.Writings.{LeavesText};
 ghost use Rattle.cec_prove_commands.specs.Outcomes.{CountsFiles, GainsOut, IsOutcomeOf};
 ghost use Rattle.cec_prove_commands.specs.Statuses.{written_of};
 ghost use Rattle.cec_prove_commands.specs.Views.{job_is, spoken_of, subject_is, task_is};
-ghost use Rattle.cec_prove_commands.specs.Words.{is_comparison, request_by, Do, Tell};
+ghost use Rattle.cec_prove_commands.specs.Words.{is_comparison, is_of_texts, request_by, Do, Tell};
 
 use crate::lines::{Subject, report, report_after, report_misuse};
 use crate::outcome::{ProveOutcome, second_unread_outcome, unread_outcome, written_outcome};
 use crate::search::{Searched, patient_answer};
-use crate::words::{About, Job, Request, Task, is_comparison, request_by};
+use crate::words::{About, Job, Request, Task, is_comparison, is_of_texts, request_by};
 use crate::writing::answer_outcome;
 use base_types::{Files, Limits, Sink};
 use cec_text_io::write_whole;
@@ -31,6 +31,7 @@ cec-prove cover FILE           which statements and branches are ever reached
 cec-prove same FILE FILE       whether two sources do the same
     --assume SIGNAL            where this signal is present in each instant; not of same
     --main M                   of the module M, not of the first one
+    --text                     each FILE is a BLIF file; not of cover, and not with --main
     --effort N                 how long to search, from 1 to 9; without it 5
 cec-prove --help               writes these lines
 cec-prove --version            writes the program's name and version
@@ -49,6 +50,8 @@ const VERSION: &[u8] = b"cec-prove 0.1.0\n";
 /// - `same FILE FILE` answers whether two sources do the same.
 /// - `--assume SIGNAL` asks `never`, `always`, `all` and `cover` of the runs in each of whose reactions another
 ///   outgoing signal is present, `--main M` asks of the module M, and `--effort N` says how long to search.
+/// - `--text` asks `never`, `always`, `all` and `same` of BLIF texts in place of sources: of the outputs of their
+///   circuits, except `_paused`.
 /// - `--help` writes the list of the commands, and `--version` the program's name and version.
 ///
 /// Every other list of words is `Usage`. For every outcome but `Told` one line goes to `err`, which for `Usage` names
@@ -63,6 +66,10 @@ const VERSION: &[u8] = b"cec-prove 0.1.0\n";
 /// that `out` gained leads to a reaction in which it is not (`IsBroken`). Of a comparison `Proved` says that both
 /// sources have the same reactions (`SameAnswers`), and the trace of `Refuted` leads to reactions that differ
 /// (`IsDifference`). `Undecided` says only that the signals exist, or that the interfaces are the same.
+///
+/// Of texts the same holds over every list of events with one value for each input, and resets: the circuit has a run,
+/// and all its runs show the output as claimed (`DeviceHolds`), or as the circuit of the other text shows all outputs
+/// and `_paused` (`SameRows`). `BadText` and `SecondBadText` have the first fault of a text, or that of its circuit.
 pub fn cec_prove<F: Files, O: Sink, E: Sink>(
     alloc: Global,
     words: &[String],
@@ -133,8 +140,9 @@ fn asked_signal(task: Task<'_>) -> &[u8]
     ensures { result.now ≡ asked_signal (task_is task.entry) }
 {
     match task {
-        Task::Ask(_, signal) => signal,
+        Task::Ask(_, signal) | Task::AskText(_, signal) => signal,
         Task::Survey | Task::Cover | Task::Compare(_) => b"",
+        Task::SurveyText | Task::CompareTexts(_) => b"",
     }
 }
 
@@ -144,7 +152,8 @@ fn second_of(task: Task<'_>) -> &str
 {
     match task {
         Task::Ask(_, _) | Task::Survey | Task::Cover => "",
-        Task::Compare(other) => other,
+        Task::AskText(_, _) | Task::SurveyText => "",
+        Task::Compare(other) | Task::CompareTexts(other) => other,
     }
 }
 
@@ -163,7 +172,18 @@ fn subject_of<'a>(job: Job<'a>, source: &'a [u8]) -> Subject<'a>
     }
 }
 
-// Does a task about the source in a file.
+// How many bytes a text, or a source, may have.
+fn byte_limit(task: Task<'_>) -> u64
+    ensures { result ≡ byte_limit (is_of_texts (task_is task.entry)) }
+{
+    if is_of_texts(task) {
+        Limits::TEXT_BYTES
+    } else {
+        Limits::SOURCE_BYTES
+    }
+}
+
+// Does a task about the source, or the text, in a file.
 fn do_file<F: Files, O: Sink, E: Sink>(
     alloc: Global,
     job: Job<'_>,
@@ -181,17 +201,17 @@ fn do_file<F: Files, O: Sink, E: Sink>(
     ensures err { GainsJobErr progress (job_is job.entry) (F.content files.old) result
         (E.told err.old) (E.told err.new) (E.faults err.old) (E.faults err.new) }
 {
-    match files.read(alloc, job.name, Limits::SOURCE_BYTES) {
+    match files.read(alloc, job.name, byte_limit(job.task)) {
         Ok(text) => do_text(alloc, job, &text, files, progress, out, err),
         Err(fault) => {
-            let outcome = unread_outcome(fault);
+            let outcome = unread_outcome(is_of_texts(job.task), fault);
             report(err, subject_of(job, b""), &outcome);
             outcome
         }
     }
 }
 
-// Does a task about the source that was read.
+// Does a task about the source, or the text, that was read.
 fn do_text<F: Files, O: Sink, E: Sink>(
     alloc: Global,
     job: Job<'_>,
@@ -201,7 +221,7 @@ fn do_text<F: Files, O: Sink, E: Sink>(
     out: &mut O,
     err: &mut E,
 ) -> ProveOutcome
-    requires short { length text.now ≤ Limits.SOURCE_BYTES }
+    requires short { length text.now ≤ byte_limit (is_of_texts (task_is job.task)) }
     requires held { IsHeld (F.content files.old) job.name.now text.now }
     ensures agrees { IsOutcomeOf (Some (Do (job_is job.entry))) (F.content files.old) result }
     ensures files_counted { CountsFiles (Some (Do (job_is job.entry))) result
@@ -219,7 +239,7 @@ fn do_text<F: Files, O: Sink, E: Sink>(
     }
 }
 
-// Does a comparison of the source that was read with that in the second file.
+// Does a comparison of the source, or the text, that was read with that in the second file.
 fn do_second<F: Files, O: Sink, E: Sink>(
     alloc: Global,
     job: Job<'_>,
@@ -229,7 +249,7 @@ fn do_second<F: Files, O: Sink, E: Sink>(
     out: &mut O,
     err: &mut E,
 ) -> ProveOutcome
-    requires short { length text.now ≤ Limits.SOURCE_BYTES }
+    requires short { length text.now ≤ byte_limit (is_of_texts (task_is job.task)) }
     requires held { IsHeld (F.content files.old) job.name.now text.now }
     requires compares { is_comparison (task_is job.task) ≡ true }
     ensures agrees { IsOutcomeOf (Some (Do (job_is job.entry))) (F.content files.old) result }
@@ -241,10 +261,10 @@ fn do_second<F: Files, O: Sink, E: Sink>(
     ensures err { GainsJobErr progress (job_is job.entry) (F.content files.old) result
         (E.told err.old) (E.told err.new) (E.faults err.old) (E.faults err.new) }
 {
-    match files.read(alloc, second_of(job.task), Limits::SOURCE_BYTES) {
+    match files.read(alloc, second_of(job.task), byte_limit(job.task)) {
         Ok(second) => told_answer(alloc, job, text, &second, progress, out, err),
         Err(fault) => {
-            let outcome = second_unread_outcome(fault);
+            let outcome = second_unread_outcome(is_of_texts(job.task), fault);
             report(err, subject_of(job, b""), &outcome);
             outcome
         }
@@ -261,29 +281,37 @@ fn told_answer<O: Sink, E: Sink>(
     out: &mut O,
     err: &mut E,
 ) -> ProveOutcome
-    requires first { length first.now ≤ Limits.SOURCE_BYTES }
-    requires second { length second.now ≤ Limits.SOURCE_BYTES }
+    requires first { length first.now ≤ byte_limit (is_of_texts (task_is job.task)) }
+    requires second { length second.now ≤ byte_limit (is_of_texts (task_is job.task)) }
     ensures says { SaysOfTexts (job_is job.entry).task result (job_is job.entry) first.now second.now }
     ensures out { LeavesText (IsWrittenBy (job_is job.entry).task result (job_is job.entry) first.now second.now)
         (change O.told O.faults out.old out.new) (written_of result) }
     ensures err { GainsAll progress (change E.told E.faults err.old err.new)
-        (line_of (job_subject (job_is job.entry) (spoken_of result first.now second.now)) result) }
+        (line_of (job_subject (job_is job.entry)
+        (spoken_of (is_of_texts (task_is job.entry.task)) result first.now second.now)) result) }
 {
     let Searched { answer, told } = patient_answer(alloc, job, first, second, progress, err);
     let outcome = answer_outcome(answer, out);
-    report_after(
-        err,
-        told,
-        subject_of(job, spoken_of(&outcome, first, second)),
-        &outcome,
-    );
+    let source = spoken_of(is_of_texts(job.task), &outcome, first, second);
+    report_after(err, told, subject_of(job, source), &outcome);
     outcome
 }
 
-// The source that a line speaks of: the second one where it is refused.
-fn spoken_of<'a>(outcome: &ProveOutcome, first: &'a [u8], second: &'a [u8]) -> &'a [u8]
-    ensures { result.now ≡ spoken_of outcome.now first.now second.now }
+// The source that a line speaks of: the second one where it is refused, and none where the task is about texts.
+fn spoken_of<'a>(
+    of_texts: bool,
+    outcome: &ProveOutcome,
+    first: &'a [u8],
+    second: &'a [u8],
+) -> &'a [u8]
+    requires first { length first.now ≤ byte_limit of_texts }
+    requires second { length second.now ≤ byte_limit of_texts }
+    ensures spoken { result.now ≡ spoken_of of_texts outcome.now first.now second.now }
+    ensures short { length result.now ≤ Limits.SOURCE_BYTES }
 {
+    if of_texts {
+        return b"";
+    }
     match outcome {
         ProveOutcome::SecondRefused(_) => second,
         _ => first,

@@ -5,13 +5,16 @@ ghost use Rattle.std.specs.String.{string_bytes};
 ghost use Rattle.base_types.specs.Writing.{Wrote};
 ghost use Rattle.cec_text_io.specs.ErrorLines.{GainsLine};
 ghost use Rattle.cec_refusals.specs.Views.{refused_is};
-ghost use Rattle.cec_prove_commands.specs.Lines.{line_of, own_line, progress_line, refused_of};
+ghost use Rattle.cec_prove_commands.specs.Lines.{line_of, own_line, progress_line, refused_of, second_line};
+ghost use Rattle.cec_prove_commands.specs.TextFaults.{fault_text};
 ghost use Rattle.cec_prove_commands.specs.Views.{subject_is};
 ghost use Rattle.cec_prove_commands.specs.Words.{misuse_of};
 
+use crate::faults::put_fault;
 use crate::outcome::ProveOutcome;
 use crate::words::misuse_of;
 use base_types::{Limits, Sink, SinkFault, write_pieces};
+use cec_opt_texts::OptFault;
 use cec_refusals::{RefusedSource, put_refusal};
 use itoa::Buffer;
 
@@ -145,9 +148,47 @@ fn put_line<E: Sink>(
             refused_of(subject, subject.other),
             refusal,
         ),
+        ProveOutcome::BadText(fault) => put_fault(err, b"cec-prove: ", fault),
+        ProveOutcome::SecondBadText(fault) => put_second_fault(err, subject, fault),
+        ProveOutcome::TooLong => put_said(err, b"limit: text", b""),
+        ProveOutcome::SecondTooLong => put_second_limit(err, subject),
         ProveOutcome::WriteFault => put_said(err, b"cannot write", b""),
         ProveOutcome::NoMemory => put_said(err, b"out of memory", b""),
     }
+}
+
+// The line about the second text of a comparison, which has a fault.
+fn put_second_fault<E: Sink>(
+    err: &mut E,
+    subject: Subject<'_>,
+    fault: &OptFault,
+) -> Result<(), SinkFault>
+    ensures { Wrote (E.told err.old) (E.told err.new) (E.faults err.old) (E.faults err.new)
+        (second_line (subject_is subject.entry) (fault_text fault.now)) result }
+{
+    if let Err(stop) = put_second_name(err, subject) {
+        return Err(stop);
+    }
+    put_fault(err, b"", fault)
+}
+
+// The line about the second text of a comparison, which is too long.
+fn put_second_limit<E: Sink>(err: &mut E, subject: Subject<'_>) -> Result<(), SinkFault>
+    ensures { Wrote (E.told err.old) (E.told err.new) (E.faults err.old) (E.faults err.new)
+        (second_line (subject_is subject.entry) (codes "limit: text")) result }
+{
+    if let Err(stop) = put_second_name(err, subject) {
+        return Err(stop);
+    }
+    write_pieces(err, &[b"limit: text", b"\n"])
+}
+
+// The name of the second file, with which such a line begins.
+fn put_second_name<E: Sink>(err: &mut E, subject: Subject<'_>) -> Result<(), SinkFault>
+    ensures { Wrote (E.told err.old) (E.told err.new) (E.faults err.old) (E.faults err.new)
+        (codes "cec-prove: " ++ (subject.entry.other.now ++ codes ": ")) result }
+{
+    write_pieces(err, &[b"cec-prove: ", subject.other.as_bytes(), b": "])
 }
 
 // The line of a search that ended without an answer.

@@ -3,9 +3,11 @@
 ghost use Rattle.std.specs.Prelude.{◌≡◌};
 ghost use Rattle.cec_prove_commands.specs.Statuses.{written_outcome, refusal_outcome, second_refusal_outcome};
 ghost use Rattle.cec_prove_commands.specs.Statuses.{second_unread_outcome, status_of, unread_outcome};
+ghost use Rattle.cec_prove_commands.specs.Statuses.{long_outcome, second_long_outcome};
 
 use base_types::FileFault;
 use cec_compile::{Limit, Refusal};
+use cec_opt_texts::OptFault;
 use cec_text_io::Written;
 
 /// How a command ended, with the cause of each refusal.
@@ -13,9 +15,9 @@ use cec_text_io::Written;
 pub enum ProveOutcome {
     /// What the program writes about itself was written.
     Told,
-    /// The claim holds, or the two sources do the same.
+    /// The claim holds, or the two sources, or texts, do the same.
     Proved,
-    /// The claim does not hold, or the two sources do not do the same: the trace was written.
+    /// The claim does not hold, or the two sources, or texts, do not do the same: the trace was written.
     Refuted,
     /// The survey was written, and each signal is decided.
     Surveyed,
@@ -31,9 +33,9 @@ pub enum ProveOutcome {
     NoSignal,
     /// No outgoing signal has the name that is assumed.
     NoAssumed,
-    /// The given signals of the two sources differ.
+    /// The given signals of the two sources, or the inputs of the two texts, differ.
     OtherGiven,
-    /// The outgoing signals of the two sources differ.
+    /// The outgoing signals of the two sources, or the outputs of the two texts, differ.
     OtherOutgoing,
     /// The relations of the two sources differ.
     OtherRelations,
@@ -47,6 +49,14 @@ pub enum ProveOutcome {
     Refused(Refusal),
     /// The second source of a comparison does not compile.
     SecondRefused(Refusal),
+    /// The first fault of the text, or that of its circuit.
+    BadText(OptFault),
+    /// The same of the second text of a comparison, the first one of which has none.
+    SecondBadText(OptFault),
+    /// The text has more bytes than `Limits::TEXT_BYTES`.
+    TooLong,
+    /// The same of the second text of a comparison.
+    SecondTooLong,
     /// The output was not taken: its count of faults rose.
     WriteFault,
     /// Running out of memory.
@@ -84,25 +94,47 @@ pub(crate) fn second_refusal_outcome(refusal: Refusal) -> ProveOutcome
     }
 }
 
-/// The outcome of a file that was not read.
-pub(crate) fn unread_outcome(fault: FileFault) -> ProveOutcome
-    ensures { result ≡ unread_outcome fault }
+/// The outcome of a file that was not read, with a text or a source.
+pub(crate) fn unread_outcome(of_texts: bool, fault: FileFault) -> ProveOutcome
+    ensures { result ≡ unread_outcome of_texts fault }
 {
     match fault {
         FileFault::Failed => ProveOutcome::FileFault,
-        FileFault::TooLong => ProveOutcome::Refused(Refusal::Limit(Limit::Source)),
+        FileFault::TooLong => long_outcome(of_texts),
         FileFault::NoMemory => ProveOutcome::NoMemory,
     }
 }
 
+// The outcome of a text, or a source, that is too long.
+fn long_outcome(of_texts: bool) -> ProveOutcome
+    ensures { result ≡ long_outcome of_texts }
+{
+    if of_texts {
+        ProveOutcome::TooLong
+    } else {
+        ProveOutcome::Refused(Refusal::Limit(Limit::Source))
+    }
+}
+
 /// The same of the second file of a comparison.
-pub(crate) fn second_unread_outcome(fault: FileFault) -> ProveOutcome
-    ensures { result ≡ second_unread_outcome fault }
+pub(crate) fn second_unread_outcome(of_texts: bool, fault: FileFault) -> ProveOutcome
+    ensures { result ≡ second_unread_outcome of_texts fault }
 {
     match fault {
         FileFault::Failed => ProveOutcome::SecondFault,
-        FileFault::TooLong => ProveOutcome::SecondRefused(Refusal::Limit(Limit::Source)),
+        FileFault::TooLong => second_long_outcome(of_texts),
         FileFault::NoMemory => ProveOutcome::NoMemory,
+    }
+}
+
+// The outcome of a second text, or source, that is too long.
+fn second_long_outcome(of_texts: bool) -> ProveOutcome
+    ensures { result ≡ second_long_outcome of_texts }
+{
+    if of_texts {
+        ProveOutcome::SecondTooLong
+    } else {
+        ProveOutcome::SecondRefused(Refusal::Limit(Limit::Source))
     }
 }
 
@@ -117,6 +149,8 @@ impl ProveOutcome {
             ProveOutcome::Usage => 2,
             ProveOutcome::FileFault | ProveOutcome::SecondFault => 3,
             ProveOutcome::Refused(_) | ProveOutcome::SecondRefused(_) => 4,
+            ProveOutcome::BadText(_) | ProveOutcome::SecondBadText(_) => 7,
+            ProveOutcome::TooLong | ProveOutcome::SecondTooLong => 8,
             ProveOutcome::WriteFault => 9,
             ProveOutcome::NoMemory => 10,
             ProveOutcome::Refuted => 20,

@@ -3,15 +3,16 @@
 ghost use Rattle.std.specs.Prelude.{◌≡◌, ◌≤◌, ◌++◌, ℕ, List, Option, length};
 ghost use Rattle.base_types.specs.SinkChanges.{change};
 ghost use Rattle.base_types.specs.Writing.{Wrote};
-ghost use Rattle.cec_prove_commands.specs.Answers.{HasTold, IsAnswer};
+ghost use Rattle.cec_prove_commands.specs.Answers.{HasTold, IsAnswer, byte_limit};
 ghost use Rattle.cec_prove_commands.specs.Lines.{most_further, progress_line};
-ghost use Rattle.cec_prove_commands.specs.Views.{job_is};
+ghost use Rattle.cec_prove_commands.specs.Views.{job_is, task_is};
+ghost use Rattle.cec_prove_commands.specs.Words.{is_of_texts};
 
 use crate::answers::{Answer, is_open};
 use crate::lines::put_progress;
 use crate::sources::answer;
 use crate::words::Job;
-use base_types::{Limits, Sink, SinkFault};
+use base_types::{Sink, SinkFault};
 use std::alloc::Global;
 
 // The effort of the level 0. Each level has ten times that of the one before.
@@ -63,8 +64,8 @@ pub(crate) fn patient_answer<E: Sink>(
     progress: bool,
     err: &mut E,
 ) -> Searched
-    requires first { length first.now ≤ Limits.SOURCE_BYTES }
-    requires second { length second.now ≤ Limits.SOURCE_BYTES }
+    requires first { length first.now ≤ byte_limit (is_of_texts (task_is job.task)) }
+    requires second { length second.now ≤ byte_limit (is_of_texts (task_is job.task)) }
     ensures answers { IsAnswer result.answer (job_is job.entry).task (job_is job.entry) first.now second.now }
     ensures told { HasTold progress result.told (change E.told E.faults err.old err.new) }
 {

@@ -1,4 +1,4 @@
-// Answers to tasks about sources.
+// Answers to tasks. Those about sources are here.
 
 ghost use Rattle.std.specs.Prelude.{◌≤◌, ℕ, List, length, IfErr, IfOk};
 ghost use Rattle.cec_compile.specs.Refusals.{IsRefused};
@@ -6,12 +6,13 @@ ghost use Rattle.cec_prove_covers.specs.Coverings.{HasCovering};
 ghost use Rattle.cec_prove_sources.specs.Sameness.{HasComparison, IsPairRefused};
 ghost use Rattle.cec_prove_sources.specs.Surveys.{HasSurvey};
 ghost use Rattle.cec_prove_sources.specs.Verdicts.{HasVerdict};
-ghost use Rattle.cec_prove_commands.specs.Answers.{IsAnswer};
+ghost use Rattle.cec_prove_commands.specs.Answers.{IsAnswer, byte_limit};
 ghost use Rattle.cec_prove_commands.specs.Outcomes.{question_of};
-ghost use Rattle.cec_prove_commands.specs.Views.{job_is};
-ghost use Rattle.cec_prove_commands.specs.Words.{Ask, Compare, Cover, Survey as OfSignals};
+ghost use Rattle.cec_prove_commands.specs.Views.{job_is, task_is};
+ghost use Rattle.cec_prove_commands.specs.Words.{Ask, Compare, Cover, Survey as OfSignals, is_of_texts};
 
 use crate::answers::Answer;
+use crate::texts::{text_claim_answer, text_comparison_answer, text_survey_answer};
 use crate::words::{Job, Task};
 use base_types::Limits;
 use cec_compile::Refusal;
@@ -30,8 +31,8 @@ pub(crate) fn answer(
     second: &[u8],
     effort: u64,
 ) -> Answer
-    requires first { length first.now ≤ Limits.SOURCE_BYTES }
-    requires second { length second.now ≤ Limits.SOURCE_BYTES }
+    requires first { length first.now ≤ byte_limit (is_of_texts (task_is job.task)) }
+    requires second { length second.now ≤ byte_limit (is_of_texts (task_is job.task)) }
     ensures { IsAnswer result (job_is job.entry).task (job_is job.entry) first.now second.now }
 {
     match job.task {
@@ -39,6 +40,9 @@ pub(crate) fn answer(
         Task::Survey => survey_answer(alloc, job, first, effort),
         Task::Cover => covering_answer(alloc, job, first, effort),
         Task::Compare(_) => comparison_answer(alloc, job, first, second, effort),
+        Task::AskText(claim, signal) => text_claim_answer(alloc, job, claim, signal, first, effort),
+        Task::SurveyText => text_survey_answer(alloc, job, first, effort),
+        Task::CompareTexts(_) => text_comparison_answer(alloc, job, first, second, effort),
     }
 }
 

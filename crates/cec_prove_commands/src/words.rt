@@ -1,6 +1,6 @@
 // What the words of a command line ask for.
 
-ghost use Rattle.std.specs.Prelude.{◌≡◌, ◌++◌, map, option_map};
+ghost use Rattle.std.specs.Prelude.{◌≡◌, ◌++◌, map, option_map, None};
 ghost use Rattle.std.specs.String.{string_bytes};
 ghost use Rattle.cec_prove_commands.specs.Views.{command_is, job_is, request_is, task_is};
 ghost use Rattle.cec_prove_commands.specs.Words.{
@@ -10,6 +10,8 @@ ghost use Rattle.cec_prove_commands.specs.Words.{
   comparison_asked,
   file_asked,
   is_comparison,
+  is_flag,
+  is_of_texts,
   is_plain,
   job_asked,
   job_with,
@@ -24,10 +26,12 @@ ghost use Rattle.cec_prove_commands.specs.Words.{
   misuse_of_own,
   plain_job,
   request_by,
+  text_task,
   with_assumed,
   with_level,
   with_main,
   with_option,
+  with_text,
   word_asked,
 };
 
@@ -55,7 +59,7 @@ pub(crate) enum Command {
     Compares,
 }
 
-/// What a command finds out about a source.
+/// What a command finds out about a source, or about a BLIF text.
 #[derive(Clone, Copy)]
 pub(crate) enum Task<'a> {
     /// Whether a claim about the outgoing signal of this name holds.
@@ -66,9 +70,15 @@ pub(crate) enum Task<'a> {
     Cover,
     /// Whether the source in the file of this name does the same.
     Compare(&'a str),
+    /// Whether a claim about the output of a text that has this name holds.
+    AskText(Claim, &'a [u8]),
+    /// When each output of a text is true.
+    SurveyText,
+    /// Whether the text in the file of this name does the same as another text.
+    CompareTexts(&'a str),
 }
 
-/// A task about the source in a file.
+/// A task about the source, or the text, in a file.
 #[derive(Clone, Copy)]
 pub(crate) struct Job<'a> {
     pub(crate) task: Task<'a>,
@@ -214,15 +224,21 @@ fn is_plain(word: &[u8]) -> bool
     }
 }
 
-// The task with options, each of which is two words.
+// The task with options: `--text`, and others of two words.
 fn job_with<'a>(job: Job<'a>, options: &'a [String]) -> Option<Job<'a>>
-    ensures { option_map job_is result ≡ job_with (job_is job.entry) (map string_bytes options.now) }
+    ensures { option_map job_is result ≡ job_with (job_is job.entry) None (map string_bytes options.now) }
 {
     let mut with = job;
     let mut key: Option<&[u8]> = None;
     for word in options {
         match key {
-            None => key = Some(word.as_bytes()),
+            None => {
+                if is_flag(word.as_bytes()) {
+                    with = with_text(with)?;
+                } else {
+                    key = Some(word.as_bytes());
+                }
+            }
             Some(name) => {
                 with = with_option(with, name, word.as_bytes())?;
                 key = None;
@@ -233,6 +249,13 @@ fn job_with<'a>(job: Job<'a>, options: &'a [String]) -> Option<Job<'a>>
         None => Some(with),
         Some(_) => None,
     }
+}
+
+// Whether a word is the option that has no value.
+fn is_flag(word: &[u8]) -> bool
+    ensures { result ≡ is_flag word.now }
+{
+    word == b"--text".as_slice()
 }
 
 // The task with one option.
@@ -256,8 +279,41 @@ pub(crate) fn is_comparison(task: Task<'_>) -> bool
 {
     match task {
         Task::Ask(_, _) | Task::Survey | Task::Cover => false,
-        Task::Compare(_) => true,
+        Task::AskText(_, _) | Task::SurveyText => false,
+        Task::Compare(_) | Task::CompareTexts(_) => true,
     }
+}
+
+/// Whether a task is about texts, which have no modules.
+pub(crate) fn is_of_texts(task: Task<'_>) -> bool
+    ensures { result ≡ is_of_texts (task_is task.entry) }
+{
+    match task {
+        Task::Ask(_, _) | Task::Survey | Task::Cover | Task::Compare(_) => false,
+        Task::AskText(_, _) | Task::SurveyText | Task::CompareTexts(_) => true,
+    }
+}
+
+// The same task about texts. There is none where the task is about texts already, and none about points.
+fn text_task(task: Task<'_>) -> Option<Task<'_>>
+    ensures { option_map task_is result ≡ text_task (task_is task.entry) }
+{
+    match task {
+        Task::Ask(claim, signal) => Some(Task::AskText(claim, signal)),
+        Task::Survey => Some(Task::SurveyText),
+        Task::Compare(other) => Some(Task::CompareTexts(other)),
+        Task::Cover | Task::AskText(_, _) | Task::SurveyText | Task::CompareTexts(_) => None,
+    }
+}
+
+fn with_text(job: Job<'_>) -> Option<Job<'_>>
+    ensures { option_map job_is result ≡ with_text (job_is job.entry) }
+{
+    if job.main.is_some() {
+        return None;
+    }
+    let task = text_task(job.task)?;
+    Some(Job { task, ..job })
 }
 
 fn with_assumed<'a>(job: Job<'a>, value: &'a [u8]) -> Option<Job<'a>>
@@ -275,7 +331,7 @@ fn with_assumed<'a>(job: Job<'a>, value: &'a [u8]) -> Option<Job<'a>>
 fn with_main<'a>(job: Job<'a>, value: &'a [u8]) -> Option<Job<'a>>
     ensures { option_map job_is result ≡ with_main (job_is job.entry) value.now }
 {
-    if job.main.is_some() || !is_plain(value) {
+    if is_of_texts(job.task) || job.main.is_some() || !is_plain(value) {
         return None;
     }
     Some(Job {
@@ -415,13 +471,22 @@ fn misuse_of_comparison<'a>(command: &'a [u8], rest: &'a [String]) -> Misuse<'a>
 // The same in options.
 fn misuse_of_options<'a>(job: Job<'a>, options: &'a [String]) -> Misuse<'a>
     ensures { result.fault.now ++ result.word.now
-        ≡ misuse_of_options (job_is job.entry) (map string_bytes options.now) }
+        ≡ misuse_of_options (job_is job.entry) None (map string_bytes options.now) }
 {
     let mut with = job;
     let mut key: Option<&'a [u8]> = None;
     for word in options {
         match key {
-            None => key = Some(word.as_bytes()),
+            None => {
+                if is_flag(word.as_bytes()) {
+                    match with_text(with) {
+                        None => return faulty(b"bad option: ", word.as_bytes()),
+                        Some(next) => with = next,
+                    }
+                } else {
+                    key = Some(word.as_bytes());
+                }
+            }
             Some(name) => match with_option(with, name, word.as_bytes()) {
                 None => return faulty(b"bad option: ", name),
                 Some(next) => {

@@ -1,16 +1,21 @@
 // The outcome of an answer, and what is written of it.
 
-ghost use Rattle.std.specs.Prelude.{ℕ, List};
+ghost use Rattle.std.specs.Prelude.{ℕ, List, Option};
 ghost use Rattle.base_types.specs.SinkChanges.{change};
 ghost use Rattle.cec_text_io.specs.Writings.{LeavesText};
 ghost use Rattle.cec_prove_covers.specs.Coverings.{HasCovering};
 ghost use Rattle.cec_prove_sources.specs.Sameness.{HasComparison};
 ghost use Rattle.cec_prove_sources.specs.Surveys.{HasSurvey};
 ghost use Rattle.cec_prove_sources.specs.Verdicts.{HasVerdict, PlainQuestion};
+ghost use Rattle.cec_prove_texts.specs.Sameness.{HasTextComparison};
+ghost use Rattle.cec_prove_texts.specs.Surveys.{HasTextSurvey};
+ghost use Rattle.cec_prove_texts.specs.Verdicts.{HasTextVerdict};
 ghost use Rattle.cec_prove_commands.specs.Answers.{IsAnswer, IsWrittenBy, SaysOfTexts};
 ghost use Rattle.cec_prove_commands.specs.Outcomes.{ClaimSays, ComparisonSays, IsDistinction, IsRefutation, IsSurveyBy};
 ghost use Rattle.cec_prove_commands.specs.Outcomes.{CoveringSays, IsCoveringBy, SurveySays};
 ghost use Rattle.cec_prove_commands.specs.Statuses.{written_of};
+ghost use Rattle.cec_prove_commands.specs.TextOutcomes.{IsTextDistinction, IsTextRefutation, IsTextSurveyBy};
+ghost use Rattle.cec_prove_commands.specs.TextOutcomes.{TextClaimSays, TextComparisonSays, TextSurveySays};
 ghost use Rattle.cec_prove_commands.specs.Words.{Job, Task};
 
 use crate::answers::Answer;
@@ -35,6 +40,9 @@ pub(crate) fn answer_outcome<O: Sink>(answer: Answer, out: &mut O) -> ProveOutco
         Answer::Compared(comparison) => comparison_outcome(comparison, out),
         Answer::Refused(refusal) => refusal_outcome(refusal),
         Answer::SecondRefused(refusal) => second_refusal_outcome(refusal),
+        Answer::BadText(fault) => ProveOutcome::BadText(fault),
+        Answer::SecondBadText(fault) => ProveOutcome::SecondBadText(fault),
+        Answer::NoMemory => ProveOutcome::NoMemory,
     }
 }
 
@@ -44,6 +52,10 @@ fn verdict_outcome<O: Sink>(verdict: Verdict, out: &mut O) -> ProveOutcome
         → ClaimSays q result job text }
     ensures out { (q : PlainQuestion) (job : Job) (text : List ℕ) → HasVerdict text job.main q verdict
         → LeavesText (IsRefutation q job text) (change O.told O.faults out.old out.new) (written_of result) }
+    ensures says_of_text { (q : PlainQuestion) (text : List ℕ) → HasTextVerdict text q verdict
+        → TextClaimSays q result text }
+    ensures out_of_text { (q : PlainQuestion) (text : List ℕ) → HasTextVerdict text q verdict
+        → LeavesText (IsTextRefutation q text) (change O.told O.faults out.old out.new) (written_of result) }
 {
     match verdict {
         Verdict::Holds => ProveOutcome::Proved,
@@ -62,6 +74,11 @@ fn survey_outcome<O: Sink>(survey: Survey, out: &mut O) -> ProveOutcome
         → SurveySays result job text }
     ensures out { (job : Job) (text : List ℕ) → HasSurvey text job.main job.assumed survey
         → LeavesText (IsSurveyBy result job text) (change O.told O.faults out.old out.new) (written_of result) }
+    ensures says_of_text { (assumed : Option (List ℕ)) (text : List ℕ) → HasTextSurvey text assumed survey
+        → TextSurveySays result assumed text }
+    ensures out_of_text { (assumed : Option (List ℕ)) (text : List ℕ) → HasTextSurvey text assumed survey
+        → LeavesText (IsTextSurveyBy result assumed text) (change O.told O.faults out.old out.new)
+        (written_of result) }
 {
     match survey {
         Survey::Whole(lines) => {
@@ -98,6 +115,10 @@ fn comparison_outcome<O: Sink>(comparison: Comparison, out: &mut O) -> ProveOutc
         → ComparisonSays result job first second }
     ensures out { (first second : List ℕ) (job : Job) → HasComparison first second job.main comparison
         → LeavesText (IsDistinction job first second) (change O.told O.faults out.old out.new) (written_of result) }
+    ensures says_of_texts { (first second : List ℕ) → HasTextComparison first second comparison
+        → TextComparisonSays result first second }
+    ensures out_of_texts { (first second : List ℕ) → HasTextComparison first second comparison
+        → LeavesText (IsTextDistinction first second) (change O.told O.faults out.old out.new) (written_of result) }
 {
     match comparison {
         Comparison::Same => ProveOutcome::Proved,

@@ -2,9 +2,10 @@
 //! answer that an outgoing signal is never, or always, present, to a survey of all outgoing signals, and to the answer
 //! that two sources do the same.
 //!
-//! A source whose dependencies have no cycle is answered by `cec_prove_sources`. For another one `cec_cycles` shows that
-//! the program is constructive and makes a netlist that keeps what it means. Then the calls of `cec_prove_sources` that
-//! ask for a netlist alone give the answer. If the program is not constructive, the error has a trace that shows it.
+//! A source whose dependencies have no cycle is answered by `cec_prove_sources`. For another one `cec_cycles` shows
+//! that the program is constructive and makes a netlist that keeps what it means. Then the calls of
+//! `cec_prove_sources` that ask for a netlist alone give the answer. If the program is not constructive, the error has
+//! a trace that shows it.
 #![tactic(auto)]
 
 mod comparing;

@@ -1,8 +1,9 @@
-use Rattle.std.proofs.Common.{subst, sym, Some}
+use Rattle.std.proofs.Common.{ℕ, ◌≤◌, List, length, Err, Some, subst, sym}
 use Rattle.base_types.proofs.Exports.{appends-nothing}
 use Rattle.base_types.specs.SinkChanges.{change}
-use Rattle.base_types.specs.declared.bounds.TheConstants.Limits.{SOURCE_BYTES}
+use Rattle.base_types.specs.Reading.{Reads}
 use Rattle.cec_text_io.proofs.Exports.{held_read}
+use Rattle.cec_text_io.proofs.Reading.{short_read}
 use Rattle.cec_text_io.specs.Contents.{Content, IsHeld}
 use Rattle.cec_prove_commands.specs.Lines.{GainsJobErr}
 use Rattle.cec_prove_commands.specs.Outcomes.{GainsOut, IsOutcomeOf, IsTextOf}
@@ -12,12 +13,18 @@ use Rattle.cec_prove_commands.specs.Words.{Do}
 use Rattle.cec_prove_commands.proofs.Outcomes.{counts-later, unread_agrees, unread_counts, unread_err, unread_out}
 use Rattle.cec_prove_commands.proofs.command.do_file.Goals as goal
 
+pub do_text-requires-clause-short : goal.do_text-requires-clause-short
+do_text-requires-clause-short g c =
+    subst (λ n. length c.deref.result.now ≤ n) c.byte_limit.ensures
+    (subst (λ (b : List ℕ). length b ≤ c.byte_limit.result) (sym c.deref.ensures.value)
+    (short_read (g.F.Files.content c.args.files.now) c.args.job.name.now _ c.in-Ok.text c.in-Ok.ensures.bytes))
+
 pub do_text-requires-clause-held : goal.do_text-requires-clause-held
 do_text-requires-clause-held g c =
     let content = g.F.Files.content c.args.files.now in
     let name = c.args.job.name.now in
     subst (λ (k : Content). IsHeld k name c.deref.result.now) (sym c.in-Ok.ensures.content_stays)
-    (subst (IsHeld content name) (sym c.deref.ensures.value) (held_read content name SOURCE_BYTES c.in-Ok.text c.in-Ok.ensures.bytes))
+    (subst (IsHeld content name) (sym c.deref.ensures.value) (held_read content name _ c.in-Ok.text c.in-Ok.ensures.bytes))
 
 pub returns-in-Ok-clause-agrees : goal.returns-in-Ok-clause-agrees
 returns-in-Ok-clause-agrees g c =
@@ -40,21 +47,26 @@ returns-in-Ok-clause-err g c =
 pub returns-in-Err-clause-agrees : goal.returns-in-Err-clause-agrees
 returns-in-Err-clause-agrees g c =
     let job = job_is c.args.job in
-    rw c.unread_outcome-outcome.ensures (unread_agrees (g.F.Files.content c.args.files.now) job.task job c.in-Err.fault c.in-Err.ensures.bytes)
+    let content = g.F.Files.content c.args.files.now in
+    rw (c.unread_outcome-outcome.ensures, c.is_of_texts.ensures)
+    (unread_agrees content job.task job c.in-Err.fault
+    (subst (λ n. Reads content job.name n (Err c.in-Err.fault)) c.byte_limit.ensures c.in-Err.ensures.bytes))
 
 pub returns-in-Err-clause-files_counted : goal.returns-in-Err-clause-files_counted
 returns-in-Err-clause-files_counted g c =
-    rw c.unread_outcome-outcome.ensures (unread_counts (job_is c.args.job) c.in-Err.fault _ _ _ _ c.in-Err.ensures.counts)
+    rw c.unread_outcome-outcome.ensures (unread_counts c.is_of_texts.result (job_is c.args.job) c.in-Err.fault _ _ _ _ c.in-Err.ensures.counts)
 
 pub returns-in-Err-clause-out : goal.returns-in-Err-clause-out
 returns-in-Err-clause-out g c =
     let job = job_is c.args.job in
     rw c.unread_outcome-outcome.ensures
-    (unread_out (IsTextOf job.task job (g.F.Files.content c.args.files.now) (unread_outcome c.in-Err.fault)) c.in-Err.fault
+    (unread_out c.is_of_texts.result
+    (IsTextOf job.task job (g.F.Files.content c.args.files.now) (unread_outcome c.is_of_texts.result c.in-Err.fault))
+    c.in-Err.fault
     (change g.O.Sink.told g.O.Sink.faults c.args.out.now c.args.out.now)
     (appends-nothing (g.O.Sink.told c.args.out.now) (g.O.Sink.faults c.args.out.now)))
 
 pub returns-in-Err-clause-err : goal.returns-in-Err-clause-err
 returns-in-Err-clause-err g c =
-    unread_err c.args.progress (g.F.Files.content c.args.files.now) (job_is c.args.job) c.in-Err.fault _ _ _ _ _ _ _ c.unread_outcome-outcome.ensures
+    unread_err c.args.progress c.is_of_texts.result (g.F.Files.content c.args.files.now) (job_is c.args.job) c.in-Err.fault _ _ _ _ _ _ _ c.unread_outcome-outcome.ensures
     c.subject_of.ensures.subject c.report.ensures

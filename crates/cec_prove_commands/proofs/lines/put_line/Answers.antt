@@ -51,3 +51,6 @@ returns-in-Covered g c = rw c.in-Covered.is c.put_said-in-Covered.ensures
 
 pub returns-in-PartlyCovered : goal.returns-in-PartlyCovered
 returns-in-PartlyCovered g c = rw c.in-PartlyCovered.is c.put_said-in-PartlyCovered.ensures
+
+pub returns-in-TooLong : goal.returns-in-TooLong
+returns-in-TooLong g c = rw c.in-TooLong.is c.put_said-in-TooLong.ensures

@@ -1,11 +1,11 @@
-use Rattle.std.specs.Prelude.{option_map}
+use Rattle.std.specs.Prelude.{option_and_then, option_map}
 use Rattle.std.specs.String.{string_bytes}
-use Rattle.std.proofs.Common.{◌≡◌, ◌∷◌, ◌+◌, drop, drop-cons, map, suc, sym, ap, ◌∙◌, arith}
+use Rattle.std.proofs.Common.{◌≡◌, ◌∷◌, ◌+◌, None, drop, drop-cons, map, refl, suc, sym, ap, ◌∙◌, arith}
 use Rattle.cec_prove_commands.specs.Views.{job_is}
-use Rattle.cec_prove_commands.specs.Words.{job_with}
-use Rattle.cec_prove_commands.proofs.Options.{one-word, two-words}
+use Rattle.cec_prove_commands.specs.Words.{job_with, with_option, with_text}
+use Rattle.cec_prove_commands.proofs.Options.{flag-word, key-word, value-word}
 use Rattle.cec_prove_commands.proofs.words.job_with.Goals as goal
-use Rattle.cec_prove_commands.proofs.words.job_with.Goals.{in-None, in-Some+in_ok-with-in-Some}
+use Rattle.cec_prove_commands.proofs.words.job_with.Goals.{in-None+then-is_flag+in_ok-with-in-None, in-None+else-is_flag, in-Some+in_ok-with-in-Some}
 
 pub loop-word-preserved : goal.loop-word-preserved
 loop-word-preserved c =
@@ -17,12 +17,18 @@ loop-word-preserved c =
     let words : map string_bytes (drop i options) ≡ string_bytes c.word-item.result ∷ rest = ap (map string_bytes)
     (drop-cons options i c.word-item.result (omega arith) ∙ ap (λ s. s ∷ drop (suc i) options) (sym c.word-item.is)
     ∙ ap (λ n. c.word-item.result ∷ drop n options) more) in
+    let left = map string_bytes (drop i options) in
+    let word = string_bytes c.word-item.result in
+    let job = job_is c.loop-word.with in
+    let next = option_and_then (λ n. job_with n None rest) in
     elim c.match-key.branch [
-      | in-None w ↦ rw (w.with-is, w.key-is, w.as_bytes.ensures.value)
-          (one-word (job_with (job_is c.loop-word.with)) key (map string_bytes (drop i options)) rest (string_bytes c.word-item.result) _ words
-          (ap (option_map (λ k. k.now)) w.in-None.is) c.loop-word.invariant)
+      | in-None+then-is_flag+in_ok-with-in-None w ↦ rw (w.with-is, w.key-is)
+          (flag-word (job_with job) key left rest word (next (with_text job)) _ _ refl words (ap (option_map (λ k. k.now)) w.in-None.is)
+          (sym w.is_flag.ensures ∙ w.if-is_flag.true) (ap next (sym w.in_ok-with-in-None.ensures)) c.loop-word.invariant)
+      | in-None+else-is_flag w ↦ rw (w.with-is, w.key-is, w.as_bytes.ensures.value)
+          (key-word (job_with job) key left rest word (next (with_text job)) _ refl words (ap (option_map (λ k. k.now)) w.in-None.is)
+          (sym w.is_flag.ensures ∙ w.if-is_flag.false) c.loop-word.invariant)
       | in-Some+in_ok-with-in-Some w ↦ rw (w.with-is, w.key-is)
-          (two-words (job_is c.loop-word.with) _ key _ (map string_bytes (drop i options)) rest _ _
-          (words ∙ ap (λ b. b ∷ rest) (sym w.as_bytes-in-Some.ensures.value))
-          (ap (option_map (λ k. k.now)) w.in-Some.is) (sym w.in_ok-with-in-Some.ensures) c.loop-word.invariant)
+          (value-word (job_with job) key _ left rest _ (next (with_option job _ _)) _ _ refl (words ∙ ap (λ b. b ∷ rest) (sym w.as_bytes-in-Some.ensures.value))
+          (ap (option_map (λ k. k.now)) w.in-Some.is) (ap next (sym w.in_ok-with-in-Some.ensures)) c.loop-word.invariant)
     ]

@@ -1,12 +1,11 @@
 use Rattle.std.specs.Prelude.{option_map}
 use Rattle.std.specs.String.{string_bytes}
-use Rattle.std.proofs.Common.{◌≡◌, drop, map}
+use Rattle.std.proofs.Common.{◌≡◌, None, drop, map}
 use Rattle.cec_prove_commands.specs.Views.{job_is}
 use Rattle.cec_prove_commands.specs.Words.{job_with}
-use Rattle.cec_prove_commands.proofs.Options.{with_key}
 use Rattle.cec_prove_commands.proofs.words.job_with.Given as goal
 
 abbrev pub invariant-loop-word : goal.invariant-loop-word
 invariant-loop-word l =
-    job_with (job_is l.with) (with_key (option_map (λ k. k.now) l.key) (map string_bytes (drop l.word-index l.options)))
-    ≡ job_with (job_is l.job) (map string_bytes l.options)
+    job_with (job_is l.with) (option_map (λ k. k.now) l.key) (map string_bytes (drop l.word-index l.options))
+    ≡ job_with (job_is l.job) None (map string_bytes l.options)

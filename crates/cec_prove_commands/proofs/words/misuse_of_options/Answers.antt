@@ -1,11 +1,11 @@
-use Rattle.std.specs.Prelude.{option_map}
+use Rattle.std.specs.Prelude.{option_and_then, option_map}
 use Rattle.std.specs.String.{string_bytes}
-use Rattle.std.proofs.Common.{◌≡◌, ◌∷◌, ◌+◌, drop, drop-cons, map, suc, sym, ap, ◌∙◌, arith}
+use Rattle.std.proofs.Common.{◌≡◌, ◌∷◌, ◌+◌, None, drop, drop-cons, map, refl, suc, sym, ap, ◌∙◌, arith}
 use Rattle.cec_prove_commands.specs.Views.{job_is}
-use Rattle.cec_prove_commands.specs.Words.{misuse_of_options}
-use Rattle.cec_prove_commands.proofs.Options.{one-word, two-faultless}
+use Rattle.cec_prove_commands.specs.Words.{misuse_of_options, misuse_of_rest, with_option, with_text}
+use Rattle.cec_prove_commands.proofs.Options.{flag-word, key-word, value-word}
 use Rattle.cec_prove_commands.proofs.words.misuse_of_options.Goals as goal
-use Rattle.cec_prove_commands.proofs.words.misuse_of_options.Goals.{in-None, in-Some+in-Some-with_option}
+use Rattle.cec_prove_commands.proofs.words.misuse_of_options.Goals.{in-None+then-is_flag+in-Some-with_text, in-None+else-is_flag, in-Some+in-Some-with_option}
 
 pub loop-word-preserved : goal.loop-word-preserved
 loop-word-preserved c =
@@ -17,12 +17,20 @@ loop-word-preserved c =
     let words : map string_bytes (drop i options) ≡ string_bytes c.word-item.result ∷ rest = ap (map string_bytes)
     (drop-cons options i c.word-item.result (omega arith) ∙ ap (λ s. s ∷ drop (suc i) options) (sym c.word-item.is)
     ∙ ap (λ n. c.word-item.result ∷ drop n options) more) in
+    let left = map string_bytes (drop i options) in
+    let word = string_bytes c.word-item.result in
+    let job = job_is c.loop-word.with in
+    let next = λ k. misuse_of_rest k (λ n. misuse_of_options n None rest) in
     elim c.match-key.branch [
-      | in-None w ↦ rw (w.with-is, w.key-is, w.as_bytes.ensures.value)
-          (one-word (misuse_of_options (job_is c.loop-word.with)) key (map string_bytes (drop i options)) rest (string_bytes c.word-item.result) _ words
-          (ap (option_map (λ k. k.now)) w.in-None.is) c.loop-word.invariant)
+      | in-None+then-is_flag+in-Some-with_text w ↦ rw (w.with-is, w.key-is)
+          (flag-word (misuse_of_options job) key left rest word (next word (with_text job)) _ _ refl words (ap (option_map (λ k. k.now)) w.in-None.is)
+          (sym w.is_flag.ensures ∙ w.if-is_flag.true)
+          (ap (next word) (sym w.with_text.ensures ∙ ap (option_map job_is) w.in-Some-with_text.is)) c.loop-word.invariant)
+      | in-None+else-is_flag w ↦ rw (w.with-is, w.key-is, w.as_bytes.ensures.value)
+          (key-word (misuse_of_options job) key left rest word (next word (with_text job)) _ refl words (ap (option_map (λ k. k.now)) w.in-None.is)
+          (sym w.is_flag.ensures ∙ w.if-is_flag.false) c.loop-word.invariant)
       | in-Some+in-Some-with_option w ↦ rw (w.with-is, w.key-is)
-          (two-faultless (job_is c.loop-word.with) _ key _ (map string_bytes (drop i options)) rest _ _
-          (words ∙ ap (λ b. b ∷ rest) (sym w.as_bytes-in-Some.ensures.value))
-          (ap (option_map (λ k. k.now)) w.in-Some.is) (sym w.with_option.ensures ∙ ap (option_map job_is) w.in-Some-with_option.is) c.loop-word.invariant)
+          (value-word (misuse_of_options job) key _ left rest _ (next _ (with_option job _ _)) _ _ refl
+          (words ∙ ap (λ b. b ∷ rest) (sym w.as_bytes-in-Some.ensures.value)) (ap (option_map (λ k. k.now)) w.in-Some.is)
+          (ap (next _) (sym w.with_option.ensures ∙ ap (option_map job_is) w.in-Some-with_option.is)) c.loop-word.invariant)
     ]

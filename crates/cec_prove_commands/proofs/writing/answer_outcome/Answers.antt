@@ -6,6 +6,7 @@ use Rattle.cec_prove_commands.specs.Answers.{IsAnswer, IsWrittenBy, SaysOfTexts}
 use Rattle.cec_prove_commands.specs.Statuses.{written_of}
 use Rattle.cec_prove_commands.specs.declared.answers.Answer.{Answer}
 use Rattle.cec_prove_commands.specs.declared.outcome.ProveOutcome.{ProveOutcome}
+use Rattle.cec_prove_commands.proofs.Answering.{bad_text_says, no_memory_says, second_bad_text_says}
 use Rattle.cec_prove_commands.proofs.Answering.{asked_out, asked_says, compared_out, compared_says, covered_out, covered_says, refusal_leaves}
 use Rattle.cec_prove_commands.proofs.Answering.{refused_says, second_leaves, second_refused_says, surveyed_out, surveyed_says}
 use Rattle.cec_prove_commands.proofs.writing.answer_outcome.Goals as goal
@@ -13,24 +14,26 @@ use Rattle.cec_prove_commands.proofs.writing.answer_outcome.Goals as goal
 pub returns-in-Asked-clause-says : goal.returns-in-Asked-clause-says
 returns-in-Asked-clause-says g c = λ task job first second h.
     asked_says c.in-Asked.verdict c.verdict_outcome.result task job first second c.verdict_outcome.ensures.says
+    c.verdict_outcome.ensures.says_of_text
     (subst (λ (a : Answer). IsAnswer a task job first second) c.in-Asked.is h)
 
 pub returns-in-Asked-clause-out : goal.returns-in-Asked-clause-out
 returns-in-Asked-clause-out g c = λ task job first second h.
     asked_out c.in-Asked.verdict c.verdict_outcome.result (change g.O.Sink.told g.O.Sink.faults c.args.out.now c.verdict_outcome.new.out) task job
     first second
-    c.verdict_outcome.ensures.out (subst (λ (a : Answer). IsAnswer a task job first second) c.in-Asked.is h)
+    c.verdict_outcome.ensures.out c.verdict_outcome.ensures.out_of_text (subst (λ (a : Answer). IsAnswer a task job first second) c.in-Asked.is h)
 
 pub returns-in-Surveyed-clause-says : goal.returns-in-Surveyed-clause-says
 returns-in-Surveyed-clause-says g c = λ task job first second h.
     surveyed_says c.in-Surveyed.survey c.survey_outcome.result task job first second c.survey_outcome.ensures.says
+    c.survey_outcome.ensures.says_of_text
     (subst (λ (a : Answer). IsAnswer a task job first second) c.in-Surveyed.is h)
 
 pub returns-in-Surveyed-clause-out : goal.returns-in-Surveyed-clause-out
 returns-in-Surveyed-clause-out g c = λ task job first second h.
     surveyed_out c.in-Surveyed.survey c.survey_outcome.result (change g.O.Sink.told g.O.Sink.faults c.args.out.now c.survey_outcome.new.out) task job
     first second
-    c.survey_outcome.ensures.out (subst (λ (a : Answer). IsAnswer a task job first second) c.in-Surveyed.is h)
+    c.survey_outcome.ensures.out c.survey_outcome.ensures.out_of_text (subst (λ (a : Answer). IsAnswer a task job first second) c.in-Surveyed.is h)
 
 pub returns-in-Covered-clause-says : goal.returns-in-Covered-clause-says
 returns-in-Covered-clause-says g c = λ task job first second h.
@@ -46,13 +49,14 @@ returns-in-Covered-clause-out g c = λ task job first second h.
 pub returns-in-Compared-clause-says : goal.returns-in-Compared-clause-says
 returns-in-Compared-clause-says g c = λ task job first second h.
     compared_says c.in-Compared.comparison c.comparison_outcome.result task job first second c.comparison_outcome.ensures.says
+    c.comparison_outcome.ensures.says_of_texts
     (subst (λ (a : Answer). IsAnswer a task job first second) c.in-Compared.is h)
 
 pub returns-in-Compared-clause-out : goal.returns-in-Compared-clause-out
 returns-in-Compared-clause-out g c = λ task job first second h.
     compared_out c.in-Compared.comparison c.comparison_outcome.result
     (change g.O.Sink.told g.O.Sink.faults c.args.out.now c.comparison_outcome.new.out) task job first second
-    c.comparison_outcome.ensures.out (subst (λ (a : Answer). IsAnswer a task job first second) c.in-Compared.is h)
+    c.comparison_outcome.ensures.out c.comparison_outcome.ensures.out_of_texts (subst (λ (a : Answer). IsAnswer a task job first second) c.in-Compared.is h)
 
 pub returns-in-Refused-clause-says : goal.returns-in-Refused-clause-says
 returns-in-Refused-clause-says g c = λ task job first second h.
@@ -75,3 +79,23 @@ returns-in-SecondRefused-clause-out g c = λ task job first second h.
     let s = change g.O.Sink.told g.O.Sink.faults c.args.out.now c.args.out.now in
     subst (λ (o : ProveOutcome). LeavesText (IsWrittenBy task o job first second) s (written_of o)) (sym c.second_refusal_outcome.ensures)
     (second_leaves c.in-SecondRefused.refusal _ s (appends-nothing _ _))
+
+pub returns-in-BadText-clause-says : goal.returns-in-BadText-clause-says
+returns-in-BadText-clause-says g c = λ task job first second h.
+    bad_text_says c.in-BadText.fault task job first second (subst (λ (a : Answer). IsAnswer a task job first second) c.in-BadText.is h)
+
+pub returns-in-BadText-clause-out : goal.returns-in-BadText-clause-out
+returns-in-BadText-clause-out g c = λ task job first second h. appends-nothing _ _
+
+pub returns-in-SecondBadText-clause-says : goal.returns-in-SecondBadText-clause-says
+returns-in-SecondBadText-clause-says g c = λ task job first second h.
+    second_bad_text_says c.in-SecondBadText.fault task job first second (subst (λ (a : Answer). IsAnswer a task job first second) c.in-SecondBadText.is h)
+
+pub returns-in-SecondBadText-clause-out : goal.returns-in-SecondBadText-clause-out
+returns-in-SecondBadText-clause-out g c = λ task job first second h. appends-nothing _ _
+
+pub returns-in-NoMemory-clause-says : goal.returns-in-NoMemory-clause-says
+returns-in-NoMemory-clause-says g c = λ task job first second h. no_memory_says task job first second
+
+pub returns-in-NoMemory-clause-out : goal.returns-in-NoMemory-clause-out
+returns-in-NoMemory-clause-out g c = λ task job first second h. appends-nothing _ _

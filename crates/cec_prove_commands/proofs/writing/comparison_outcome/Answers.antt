@@ -5,10 +5,13 @@ use Rattle.base_types.proofs.Exports.{appends-nothing}
 use Rattle.est_kernel.specs.Plain.{given_names, outgoing_names}
 use Rattle.cec_text_io.specs.Writings.{LeavesText}
 use Rattle.cec_prove_sources.specs.Sameness.{AreDifferent, AreSame, SharesInterface}
+use Rattle.cec_prove_texts.specs.Sameness.{AreDifferentDevices, AreSameDevices, SharesNames}
 use Rattle.cec_prove_commands.specs.Outcomes.{ComparisonSays, IsDistinction}
 use Rattle.cec_prove_commands.specs.Statuses.{written_of}
+use Rattle.cec_prove_commands.specs.TextOutcomes.{IsTextDistinction, TextComparisonSays}
 use Rattle.cec_prove_commands.specs.declared.outcome.ProveOutcome.{ProveOutcome}
-use Rattle.cec_prove_commands.proofs.Answering.{comparison_says, comparison_writes, trace_left}
+use Rattle.cec_prove_commands.specs.declared.outcome.ProveOutcome.TheVariants.{Refuted}
+use Rattle.cec_prove_commands.proofs.Answering.{as_written, comparison_says, comparison_writes, text_comparison_says, trace_left}
 use Rattle.cec_prove_commands.proofs.writing.comparison_outcome.Goals as goal
 
 pub returns-in-Same-clause-says : goal.returns-in-Same-clause-says
@@ -58,4 +61,56 @@ returns-in-Different-clause-out g c = λ first second job h.
     subst (λ (o : ProveOutcome). LeavesText (IsDistinction job first second) s (written_of o)) (sym c.written_outcome.ensures)
     (trace_left (IsDistinction job first second) _ trace s c.write_whole.result
     (comparison_says first second job _ _ (λ p q. AreDifferent p q trace) h c.in-Different.is (λ p q is. is))
+    c.deref.ensures.value c.write_whole.ensures)
+
+pub returns-in-Same-clause-says_of_texts : goal.returns-in-Same-clause-says_of_texts
+returns-in-Same-clause-says_of_texts g c = λ first second h. text_comparison_says first second _ _
+    (λ d e. AreSameDevices d e) h c.in-Same.is (λ d e is. is)
+
+pub returns-in-Same-clause-out_of_texts : goal.returns-in-Same-clause-out_of_texts
+returns-in-Same-clause-out_of_texts g c = λ first second h. appends-nothing _ _
+
+pub returns-in-Open-clause-says_of_texts : goal.returns-in-Open-clause-says_of_texts
+returns-in-Open-clause-says_of_texts g c = λ first second h. text_comparison_says first second _ _
+    (λ d e. SharesNames d e) h c.in-Open.is (λ d e is. is)
+
+pub returns-in-Open-clause-out_of_texts : goal.returns-in-Open-clause-out_of_texts
+returns-in-Open-clause-out_of_texts g c = λ first second h. appends-nothing _ _
+
+pub returns-in-OtherGiven-clause-says_of_texts : goal.returns-in-OtherGiven-clause-says_of_texts
+returns-in-OtherGiven-clause-says_of_texts g c = λ first second h. text_comparison_says first second _ _
+    (λ d e. d.inputs ≢ e.inputs) h c.in-OtherGiven.is (λ d e is. is)
+
+pub returns-in-OtherGiven-clause-out_of_texts : goal.returns-in-OtherGiven-clause-out_of_texts
+returns-in-OtherGiven-clause-out_of_texts g c = λ first second h. appends-nothing _ _
+
+pub returns-in-OtherOutgoing-clause-says_of_texts : goal.returns-in-OtherOutgoing-clause-says_of_texts
+returns-in-OtherOutgoing-clause-says_of_texts g c = λ first second h. text_comparison_says first second _ _
+    (λ d e. (d.inputs ≡ e.inputs) × (d.outputs ≢ e.outputs)) h c.in-OtherOutgoing.is (λ d e is. is)
+
+pub returns-in-OtherOutgoing-clause-out_of_texts : goal.returns-in-OtherOutgoing-clause-out_of_texts
+returns-in-OtherOutgoing-clause-out_of_texts g c = λ first second h. appends-nothing _ _
+
+pub returns-in-OtherRelations-clause-says_of_texts : goal.returns-in-OtherRelations-clause-says_of_texts
+returns-in-OtherRelations-clause-says_of_texts g c = λ first second h.
+    let none = text_comparison_says first second _ _ (λ d e. ⊥) h c.in-OtherRelations.is (λ d e is. is) in absurd none.says
+
+pub returns-in-OtherRelations-clause-out_of_texts : goal.returns-in-OtherRelations-clause-out_of_texts
+returns-in-OtherRelations-clause-out_of_texts g c = λ first second h. appends-nothing _ _
+
+pub returns-in-Different-clause-says_of_texts : goal.returns-in-Different-clause-says_of_texts
+returns-in-Different-clause-says_of_texts g c = λ first second h.
+    let trace = c.in-Different.trace.items in
+    let apart : IsTextDistinction first second trace =
+      text_comparison_says first second _ _ (λ d e. AreDifferentDevices d e trace) h c.in-Different.is (λ d e is. is) in
+    subst (λ (o : ProveOutcome). TextComparisonSays o first second) (sym c.written_outcome.ensures)
+    (as_written Refuted (λ o. TextComparisonSays o first second) c.write_whole.result (trace, apart) (trace, apart) tt)
+
+pub returns-in-Different-clause-out_of_texts : goal.returns-in-Different-clause-out_of_texts
+returns-in-Different-clause-out_of_texts g c = λ first second h.
+    let trace = c.in-Different.trace.items in
+    let s = change g.O.Sink.told g.O.Sink.faults c.args.out.now c.write_whole.new.out in
+    subst (λ (o : ProveOutcome). LeavesText (IsTextDistinction first second) s (written_of o)) (sym c.written_outcome.ensures)
+    (trace_left (IsTextDistinction first second) _ trace s c.write_whole.result
+    (text_comparison_says first second _ _ (λ d e. AreDifferentDevices d e trace) h c.in-Different.is (λ d e is. is))
     c.deref.ensures.value c.write_whole.ensures)

@@ -7,10 +7,13 @@ use Rattle.net_ir.specs.NameLists.{is_among}
 use Rattle.cec_text_io.specs.Writings.{LeavesText}
 use Rattle.cec_prove_sources.specs.Verdicts.{AnswersBroken, AnswersHolds, HasSignals, IsNone}
 use Rattle.cec_prove_sources.specs.declared.questions.Layout.TheVariants.{LinePerInstant}
+use Rattle.cec_prove_texts.specs.Verdicts.{AnswersDeviceBroken, AnswersDeviceHolds, DeviceHasSignals, IsNoOutput}
 use Rattle.cec_prove_commands.specs.Outcomes.{ClaimSays, IsRefutation}
 use Rattle.cec_prove_commands.specs.Statuses.{written_of}
+use Rattle.cec_prove_commands.specs.TextOutcomes.{IsTextRefutation, TextClaimSays}
 use Rattle.cec_prove_commands.specs.declared.outcome.ProveOutcome.{ProveOutcome}
-use Rattle.cec_prove_commands.proofs.Answering.{claim_writes, trace_left, verdict_says}
+use Rattle.cec_prove_commands.specs.declared.outcome.ProveOutcome.TheVariants.{Refuted}
+use Rattle.cec_prove_commands.proofs.Answering.{as_written, claim_writes, text_verdict_says, trace_left, verdict_says}
 use Rattle.cec_prove_commands.proofs.writing.verdict_outcome.Goals as goal
 
 pub returns-in-Holds-clause-says : goal.returns-in-Holds-clause-says
@@ -52,4 +55,45 @@ returns-in-Broken-clause-out g c = λ q job text h.
     subst (λ (o : ProveOutcome). LeavesText (IsRefutation q job text) s (written_of o)) (sym c.written_outcome.ensures)
     (trace_left (IsRefutation q job text) _ trace s c.write_whole.result
     (verdict_says text job q _ _ (λ p. AnswersBroken LinePerInstant p q trace) h c.in-Broken.is (λ p is. is))
+    c.deref.ensures.value c.write_whole.ensures)
+
+pub returns-in-Holds-clause-says_of_text : goal.returns-in-Holds-clause-says_of_text
+returns-in-Holds-clause-says_of_text g c = λ q text h. text_verdict_says text q _ _ (λ d. AnswersDeviceHolds d q) h c.in-Holds.is (λ d is. is)
+
+pub returns-in-Holds-clause-out_of_text : goal.returns-in-Holds-clause-out_of_text
+returns-in-Holds-clause-out_of_text g c = λ q text h. appends-nothing _ _
+
+pub returns-in-Open-clause-says_of_text : goal.returns-in-Open-clause-says_of_text
+returns-in-Open-clause-says_of_text g c = λ q text h. text_verdict_says text q _ _ (λ d. DeviceHasSignals d q) h c.in-Open.is (λ d is. is)
+
+pub returns-in-Open-clause-out_of_text : goal.returns-in-Open-clause-out_of_text
+returns-in-Open-clause-out_of_text g c = λ q text h. appends-nothing _ _
+
+pub returns-in-NoSignal-clause-says_of_text : goal.returns-in-NoSignal-clause-says_of_text
+returns-in-NoSignal-clause-says_of_text g c = λ q text h. text_verdict_says text q _ _ (λ d. is_among q.signal d.outputs ≡ false) h c.in-NoSignal.is (λ d is. is)
+
+pub returns-in-NoSignal-clause-out_of_text : goal.returns-in-NoSignal-clause-out_of_text
+returns-in-NoSignal-clause-out_of_text g c = λ q text h. appends-nothing _ _
+
+pub returns-in-NoAssumed-clause-says_of_text : goal.returns-in-NoAssumed-clause-says_of_text
+returns-in-NoAssumed-clause-says_of_text g c = λ q text h. text_verdict_says text q _ _ (λ d. IsNoOutput d q.assumed) h c.in-NoAssumed.is (λ d is. is)
+
+pub returns-in-NoAssumed-clause-out_of_text : goal.returns-in-NoAssumed-clause-out_of_text
+returns-in-NoAssumed-clause-out_of_text g c = λ q text h. appends-nothing _ _
+
+pub returns-in-Broken-clause-says_of_text : goal.returns-in-Broken-clause-says_of_text
+returns-in-Broken-clause-says_of_text g c = λ q text h.
+    let trace = c.in-Broken.trace.items in
+    let broken : IsTextRefutation q text trace =
+      text_verdict_says text q _ _ (λ d. AnswersDeviceBroken LinePerInstant d q trace) h c.in-Broken.is (λ d is. is) in
+    subst (λ (o : ProveOutcome). TextClaimSays q o text) (sym c.written_outcome.ensures)
+    (as_written Refuted (λ o. TextClaimSays q o text) c.write_whole.result (trace, broken) (trace, broken) tt)
+
+pub returns-in-Broken-clause-out_of_text : goal.returns-in-Broken-clause-out_of_text
+returns-in-Broken-clause-out_of_text g c = λ q text h.
+    let trace = c.in-Broken.trace.items in
+    let s = change g.O.Sink.told g.O.Sink.faults c.args.out.now c.write_whole.new.out in
+    subst (λ (o : ProveOutcome). LeavesText (IsTextRefutation q text) s (written_of o)) (sym c.written_outcome.ensures)
+    (trace_left (IsTextRefutation q text) _ trace s c.write_whole.result
+    (text_verdict_says text q _ _ (λ d. AnswersDeviceBroken LinePerInstant d q trace) h c.in-Broken.is (λ d is. is))
     c.deref.ensures.value c.write_whole.ensures)

@@ -1,0 +1,23 @@
+-- To believe: what a line says about a BLIF text that is refused, as the lines of `cec-opt` do.
+use Rattle.std.specs.Prelude.{ℕ, List, ◌++◌, codes, decimal}
+use Rattle.blif_net.specs.declared.fault.CircuitFault.{CircuitFault}
+use Rattle.blif_net.specs.declared.fault.CircuitFault.TheVariants.{NoPause, Model, Input, Output, Again, Loop}
+use Rattle.blif_net.specs.declared.fault.CircuitFault.TheVariants.{TooManyNets}
+use Rattle.cec_opt_texts.specs.declared.fault.OptFault.{OptFault}
+use Rattle.cec_opt_texts.specs.declared.fault.OptFault.TheVariants.{Line, TwoDrivers, NoDriver, Circuit}
+use Rattle.cec_text_io.specs.ErrorLines.{joined_names}
+
+abbrev pub circuit_fault_text : CircuitFault → List ℕ
+circuit_fault_text NoPause = codes "last output is not _paused"
+circuit_fault_text (Model name) = codes "bad model: " ++ name
+circuit_fault_text (Input name) = codes "bad input: " ++ name
+circuit_fault_text (Output name) = codes "bad output: " ++ name
+circuit_fault_text (Again name) = codes "output twice: " ++ name
+circuit_fault_text (Loop names) = codes "loop: " ++ joined_names names.items
+circuit_fault_text TooManyNets = codes "limit: nets"
+
+abbrev pub fault_text : OptFault → List ℕ
+fault_text (Line number) = codes "line " ++ (decimal number ++ codes ": not in the profile")
+fault_text (TwoDrivers name) = codes "two drivers: " ++ name
+fault_text (NoDriver name) = codes "no driver: " ++ name
+fault_text (Circuit fault) = circuit_fault_text fault
