@@ -61,7 +61,7 @@ module _ (c : Component) (k : ℕ) where
       ∙ sym (ap (λ l. own_seen k (run_calls c alone l)) (own-first false k x calls other))
 
   apart-told : (calls : List Call) → Told calls
-  apart-told [] instances alone e = refl
+  apart-told [] = λ instances alone e. refl
   apart-told (x ∷ calls) = ⊎_elim (own-call x calls (apart-told calls)) (other-call x calls (apart-told calls)) (cases_Bool (nat_eq x.instance k))
 
 pub apart : (c : Component) → AreApart c
