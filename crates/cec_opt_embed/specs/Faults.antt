@@ -1,7 +1,7 @@
 -- Contract: why a source or a BLIF text has no embedded text under a name. Where the fault is one of the name or of a
 -- signal, there is a netlist.
 use Rattle.std.specs.Prelude.{ℕ, List, ◌++◌, Option}
-use Rattle.est_kernel.specs.Plain.{Program, given_names, outgoing_names}
+use Rattle.est_kernel.specs.Plain.{given_names, outgoing_names}
 use Rattle.net_ir.specs.Netlists.{Netlist}
 use Rattle.csub_embed.specs.Faults.{IsEmbedFault}
 use Rattle.csub_embed.specs.declared.fault.EmbedFault.{EmbedFault}

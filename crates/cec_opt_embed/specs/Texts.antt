@@ -37,7 +37,7 @@ pub record EmbedKeeps (text name embedded : List ℕ) : Type 0 where
   pub shows : (instances : InstanceStates) (calls : List Call) (k : ℕ) → BeginsReset (own_items k calls)
       → EachEvent (FitsCircuit old) (own_items k calls)
       → Shows (circuit_machine old) (λ v. map v old.outputs) (circuit_machine old).start (own_items k calls)
-          (map row_of (own_seen k (run_calls new instances calls)))
+      (map row_of (own_seen k (run_calls new instances calls)))
   pub apart : AreApart new
 
 -- The netlist is the optimized one of the text, under the name of its component.

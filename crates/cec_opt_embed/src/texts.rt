@@ -25,7 +25,11 @@ use std::alloc::Global;
 /// (`IsEmbedFault`). Running out of memory is the only other error.
 ///
 /// Example: the text with an input `int` has none.
-pub fn optimized_embedded(alloc: Global, text: &[u8], name: &[u8]) -> Result<Vec<u8>, Stop<TextEmbedFault>>
+pub fn optimized_embedded(
+    alloc: Global,
+    text: &[u8],
+    name: &[u8],
+) -> Result<Vec<u8>, Stop<TextEmbedFault>>
     requires { length text.now ≤ Limits.TEXT_BYTES }
     ensures keeps { IfOk result (λ written. EmbedKeeps text.now name.now written.items) }
     ensures small { IfOk result (λ written. IsSmallEmbedded text.now name.now written.items) }
@@ -38,7 +42,11 @@ pub fn optimized_embedded(alloc: Global, text: &[u8], name: &[u8]) -> Result<Vec
 
 /// The optimized netlist of a BLIF text under the name of its component, for callers who write its embedded text piece
 /// by piece. It is refused as `optimized_embedded` refuses the text.
-pub fn embedded_text_net(alloc: Global, text: &[u8], name: &[u8]) -> Result<Net, Stop<TextEmbedFault>>
+pub fn embedded_text_net(
+    alloc: Global,
+    text: &[u8],
+    name: &[u8],
+) -> Result<Net, Stop<TextEmbedFault>>
     requires { length text.now ≤ Limits.TEXT_BYTES }
     ensures small { IfOk result (λ net. IsSmallComponent text.now name.now (netlist_of net)) }
     ensures fits { IfOk result (λ net. IsEmbeddable (netlist_of net)) }
