@@ -14,8 +14,8 @@ flag-word f key words rest word flag done all step e none is_it is so =
 pub key-word : {X : Type 0} (f : Option (List ℕ) → List (List ℕ) → X) (key : Option (List ℕ)) (words rest : List (List ℕ)) (word : List ℕ) (flag all : X)
     → f None (word ∷ rest) ≡ (if is_flag word then flag else f (Some word) rest) → words ≡ word ∷ rest → key ≡ None → is_flag word ≡ false
     → f key words ≡ all → f (Some word) rest ≡ all
-key-word f key words rest word flag all step e none no so =
-    sym (ap (λ b. if b then flag else f (Some word) rest) no) ∙ sym step ∙ sym (λ i. f (none i) (e i)) ∙ so
+key-word f key words rest word flag all step e none is_none so =
+    sym (ap (λ b. if b then flag else f (Some word) rest) is_none) ∙ sym step ∙ sym (λ i. f (none i) (e i)) ∙ so
 
 -- the word is the value
 pub value-word : {X : Type 0} (f : Option (List ℕ) → List (List ℕ) → X) (key : Option (List ℕ)) (name : List ℕ) (words rest : List (List ℕ)) (word : List ℕ)

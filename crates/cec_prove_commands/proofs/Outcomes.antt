@@ -1,5 +1,6 @@
 -- What the answers of the steps say of the whole call.
-use Rattle.std.proofs.Common.{◌≡◌, ◌≤◌, ℕ, Bool, true, false, List, [], Option, Some, Err, refl, sym, subst, arith}
+use Rattle.std.specs.declared.alloc.Global.{Global}
+use Rattle.std.proofs.Common.{◌≡◌, ◌≤◌, ℕ, Bool, true, false, List, [], length, Option, None, Some, Ok, Err, Vec, refl, sym, subst, arith}
 use Rattle.base_types.specs.declared.bounds.TheConstants.Limits.{SOURCE_BYTES, TEXT_BYTES}
 use Rattle.base_types.specs.declared.files.reading.FileFault as unread
 use Rattle.base_types.specs.declared.files.reading.FileFault.TheVariants as reading
@@ -273,6 +274,11 @@ read_speaks content job TooLong first second held second_held = tt
 read_speaks content job SecondTooLong first second held second_held = tt
 read_speaks content job WriteFault first second held second_held = tt
 read_speaks content job NoMemory first second held second_held = tt
+
+pub held_short : (content : Content) (name : List ℕ) (limit : ℕ) (bytes : Vec ℕ Global) → Reads content name limit (Ok bytes)
+    → IsHeld content name bytes.items × (length bytes.items ≤ limit)
+held_short None name limit bytes read = (tt, read)
+held_short (Some held) name limit bytes read = (read.0, subst (λ (b : List ℕ). length b ≤ limit) (sym read.0) read.1)
 
 -- ---- files that were not read
 

@@ -2,7 +2,7 @@
 
 ghost use Rattle.std.specs.Prelude.{◌++◌, codes};
 ghost use Rattle.base_types.specs.Writing.{Wrote};
-ghost use Rattle.cec_prove_commands.specs.TextFaults.{circuit_fault_text, fault_text};
+ghost use Rattle.cec_prove_commands.specs.TextFaults.{netlist_fault_text, fault_text};
 
 use base_types::{Sink, SinkFault, write_pieces};
 use blif_net::CircuitFault;
@@ -52,7 +52,7 @@ fn put_circuit_fault<E: Sink>(
     fault: &CircuitFault,
 ) -> Result<(), SinkFault>
     ensures { Wrote (E.told err.old) (E.told err.new) (E.faults err.old) (E.faults err.new)
-        (begin.now ++ (circuit_fault_text fault.now ++ codes "\n")) result }
+        (begin.now ++ (netlist_fault_text fault.now ++ codes "\n")) result }
 {
     match fault {
         CircuitFault::NoPause => {

@@ -1,4 +1,4 @@
--- Contract: what is claimed of an output of a device, and what refutes it.
+-- To believe: what is claimed of an output of a device, and what refutes it.
 use Rattle.std.specs.Prelude.{◌≡◌, ℕ, Bool, true, false, not, List, map, Option, Some, None, IsTrue, slice_index_or}
 use Rattle.std.specs.List.{AllByRecursion, list_all}
 use Rattle.base_types.specs.Items.{Item}

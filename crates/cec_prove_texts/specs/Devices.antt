@@ -1,4 +1,4 @@
--- Contract: what questions about BLIF texts are about: names of inputs and outputs, and what is shown over items.
+-- To believe: what questions about BLIF texts are about: names of inputs and outputs, and what is shown over items.
 use Rattle.std.specs.Prelude.{◌≡◌, ℕ, Bool, List, length, map, All, IsTrue, Ok}
 use Rattle.base_types.specs.Items.{Item, EachEvent}
 use Rattle.base_types.specs.Names.{is_name}

@@ -1,4 +1,4 @@
--- Contract: why there is no comparison of two BLIF texts.
+-- To believe: why there is no comparison of two BLIF texts.
 use Rattle.std.specs.Prelude.{ℕ, List}
 use Rattle.net_ir.specs.Netlists.{Netlist}
 use Rattle.cec_opt_texts.specs.Faults.{IsOptFault}

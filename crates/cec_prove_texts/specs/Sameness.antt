@@ -1,4 +1,4 @@
--- Contract: what it means that two devices show the same, and what a comparison of two BLIF texts says.
+-- To believe: what it means that two devices show the same, and what a comparison of two BLIF texts says.
 use Rattle.std.specs.Prelude.{◌≡◌, ◌≢◌, ℕ, Bool, List, [], ◌∷◌, ◌++◌}
 use Rattle.base_types.specs.Items.{Item}
 use Rattle.blif_text.specs.Circuits.{Circuit}

@@ -1,4 +1,4 @@
--- Contract: what a survey says of the outputs of a BLIF text.
+-- To believe: what a survey says of the outputs of a BLIF text.
 use Rattle.std.specs.Prelude.{◌≡◌, ℕ, Bool, true, false, List, Option, IfSome}
 use Rattle.std.specs.List.{AllZip, list_all}
 use Rattle.blif_text.specs.Circuits.{Circuit}

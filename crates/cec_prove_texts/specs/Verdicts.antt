@@ -1,4 +1,4 @@
--- Contract: what the answer to a question says of a BLIF text. `Open` says only that the circuit has the outputs.
+-- To believe: what the answer to a question says of a BLIF text. `Open` says only that the circuit has the outputs.
 use Rattle.std.specs.Prelude.{◌≡◌, ◌≤◌, ℕ, Bool, false, List, [], length, Option, Some, None}
 use Rattle.base_types.specs.declared.bounds.TheConstants.Limits.{TRACE_BYTES}
 use Rattle.blif_text.specs.Circuits.{Circuit}

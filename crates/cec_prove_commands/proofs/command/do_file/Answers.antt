@@ -3,21 +3,20 @@ use Rattle.base_types.proofs.Exports.{appends-nothing}
 use Rattle.base_types.specs.SinkChanges.{change}
 use Rattle.base_types.specs.Reading.{Reads}
 use Rattle.cec_text_io.proofs.Exports.{held_read}
-use Rattle.cec_text_io.proofs.Reading.{short_read}
 use Rattle.cec_text_io.specs.Contents.{Content, IsHeld}
 use Rattle.cec_prove_commands.specs.Lines.{GainsJobErr}
 use Rattle.cec_prove_commands.specs.Outcomes.{GainsOut, IsOutcomeOf, IsTextOf}
 use Rattle.cec_prove_commands.specs.Statuses.{unread_outcome}
 use Rattle.cec_prove_commands.specs.Views.{job_is}
 use Rattle.cec_prove_commands.specs.Words.{Do}
-use Rattle.cec_prove_commands.proofs.Outcomes.{counts-later, unread_agrees, unread_counts, unread_err, unread_out}
+use Rattle.cec_prove_commands.proofs.Outcomes.{counts-later, held_short, unread_agrees, unread_counts, unread_err, unread_out}
 use Rattle.cec_prove_commands.proofs.command.do_file.Goals as goal
 
 pub do_text-requires-clause-short : goal.do_text-requires-clause-short
 do_text-requires-clause-short g c =
     subst (λ n. length c.deref.result.now ≤ n) c.byte_limit.ensures
     (subst (λ (b : List ℕ). length b ≤ c.byte_limit.result) (sym c.deref.ensures.value)
-    (short_read (g.F.Files.content c.args.files.now) c.args.job.name.now _ c.in-Ok.text c.in-Ok.ensures.bytes))
+    (held_short (g.F.Files.content c.args.files.now) c.args.job.name.now _ c.in-Ok.text c.in-Ok.ensures.bytes).1)
 
 pub do_text-requires-clause-held : goal.do_text-requires-clause-held
 do_text-requires-clause-held g c =
@@ -68,5 +67,5 @@ returns-in-Err-clause-out g c =
 
 pub returns-in-Err-clause-err : goal.returns-in-Err-clause-err
 returns-in-Err-clause-err g c =
-    unread_err c.args.progress c.is_of_texts.result (g.F.Files.content c.args.files.now) (job_is c.args.job) c.in-Err.fault _ _ _ _ _ _ _ c.unread_outcome-outcome.ensures
-    c.subject_of.ensures.subject c.report.ensures
+    unread_err c.args.progress c.is_of_texts.result (g.F.Files.content c.args.files.now) (job_is c.args.job) c.in-Err.fault _ _ _ _ _ _ _
+    c.unread_outcome-outcome.ensures c.subject_of.ensures.subject c.report.ensures

@@ -3,19 +3,18 @@ use Rattle.base_types.proofs.Exports.{appends-nothing}
 use Rattle.base_types.specs.SinkChanges.{change}
 use Rattle.base_types.specs.Reading.{Reads}
 use Rattle.cec_text_io.proofs.Exports.{held_read}
-use Rattle.cec_text_io.proofs.Reading.{short_read}
 use Rattle.cec_prove_commands.specs.Outcomes.{IsTextOf}
 use Rattle.cec_prove_commands.specs.Statuses.{second_unread_outcome}
 use Rattle.cec_prove_commands.specs.Views.{job_is}
 use Rattle.cec_prove_commands.proofs.Outcomes.{both_held, read_counts, second_agrees, second_counts, second_err, second_unread_out, texts_agree}
-use Rattle.cec_prove_commands.proofs.Outcomes.{texts_err, texts_out, texts_read}
+use Rattle.cec_prove_commands.proofs.Outcomes.{held_short, texts_err, texts_out, texts_read}
 use Rattle.cec_prove_commands.proofs.command.do_second.Goals as goal
 
 pub told_answer-requires-clause-second : goal.told_answer-requires-clause-second
 told_answer-requires-clause-second g c =
     subst (λ n. length c.deref.result.now ≤ n) c.byte_limit.ensures
     (subst (λ (b : List ℕ). length b ≤ c.byte_limit.result) (sym c.deref.ensures.value)
-    (short_read (g.F.Files.content c.args.files.now) _ _ c.in-Ok.second c.in-Ok.ensures.bytes))
+    (held_short (g.F.Files.content c.args.files.now) _ _ c.in-Ok.second c.in-Ok.ensures.bytes).1)
 
 pub returns-in-Ok-clause-agrees : goal.returns-in-Ok-clause-agrees
 returns-in-Ok-clause-agrees g c =

@@ -15,10 +15,12 @@ pub covering_answer-requires : goal.covering_answer-requires
 covering_answer-requires c = subst (λ (t : tasks.Task). length c.args.first.now ≤ byte_limit (is_of_texts (task_is t))) c.in-Cover.is c.requires.first
 
 pub comparison_answer-requires-clause-first : goal.comparison_answer-requires-clause-first
-comparison_answer-requires-clause-first c = subst (λ (t : tasks.Task). length c.args.first.now ≤ byte_limit (is_of_texts (task_is t))) c.in-Compare.is c.requires.first
+comparison_answer-requires-clause-first c =
+    subst (λ (t : tasks.Task). length c.args.first.now ≤ byte_limit (is_of_texts (task_is t))) c.in-Compare.is c.requires.first
 
 pub comparison_answer-requires-clause-second : goal.comparison_answer-requires-clause-second
-comparison_answer-requires-clause-second c = subst (λ (t : tasks.Task). length c.args.second.now ≤ byte_limit (is_of_texts (task_is t))) c.in-Compare.is c.requires.second
+comparison_answer-requires-clause-second c =
+    subst (λ (t : tasks.Task). length c.args.second.now ≤ byte_limit (is_of_texts (task_is t))) c.in-Compare.is c.requires.second
 
 pub text_claim_answer-requires : goal.text_claim_answer-requires
 text_claim_answer-requires c = subst (λ (t : tasks.Task). length c.args.first.now ≤ byte_limit (is_of_texts (task_is t))) c.in-AskText.is c.requires.first
@@ -27,7 +29,9 @@ pub text_survey_answer-requires : goal.text_survey_answer-requires
 text_survey_answer-requires c = subst (λ (t : tasks.Task). length c.args.first.now ≤ byte_limit (is_of_texts (task_is t))) c.in-SurveyText.is c.requires.first
 
 pub text_comparison_answer-requires-clause-first : goal.text_comparison_answer-requires-clause-first
-text_comparison_answer-requires-clause-first c = subst (λ (t : tasks.Task). length c.args.first.now ≤ byte_limit (is_of_texts (task_is t))) c.in-CompareTexts.is c.requires.first
+text_comparison_answer-requires-clause-first c =
+    subst (λ (t : tasks.Task). length c.args.first.now ≤ byte_limit (is_of_texts (task_is t))) c.in-CompareTexts.is c.requires.first
 
 pub text_comparison_answer-requires-clause-second : goal.text_comparison_answer-requires-clause-second
-text_comparison_answer-requires-clause-second c = subst (λ (t : tasks.Task). length c.args.second.now ≤ byte_limit (is_of_texts (task_is t))) c.in-CompareTexts.is c.requires.second
+text_comparison_answer-requires-clause-second c =
+    subst (λ (t : tasks.Task). length c.args.second.now ≤ byte_limit (is_of_texts (task_is t))) c.in-CompareTexts.is c.requires.second

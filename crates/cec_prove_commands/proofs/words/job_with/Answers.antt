@@ -2,7 +2,7 @@ use Rattle.std.specs.Prelude.{option_and_then, option_map}
 use Rattle.std.specs.String.{string_bytes}
 use Rattle.std.proofs.Common.{◌≡◌, ◌∷◌, ◌+◌, None, drop, drop-cons, map, refl, suc, sym, ap, ◌∙◌, arith}
 use Rattle.cec_prove_commands.specs.Views.{job_is}
-use Rattle.cec_prove_commands.specs.Words.{job_with, with_option, with_text}
+use Rattle.cec_prove_commands.specs.Words.{is_flag, job_with, with_option, with_text}
 use Rattle.cec_prove_commands.proofs.Options.{flag-word, key-word, value-word}
 use Rattle.cec_prove_commands.proofs.words.job_with.Goals as goal
 use Rattle.cec_prove_commands.proofs.words.job_with.Goals.{in-None+then-is_flag+in_ok-with-in-None, in-None+else-is_flag, in-Some+in_ok-with-in-Some}
@@ -22,13 +22,16 @@ loop-word-preserved c =
     let job = job_is c.loop-word.with in
     let next = option_and_then (λ n. job_with n None rest) in
     elim c.match-key.branch [
-      | in-None+then-is_flag+in_ok-with-in-None w ↦ rw (w.with-is, w.key-is)
+      | in-None+then-is_flag+in_ok-with-in-None w ↦ rw (w.with-is, w.key-is, w.in-None.is)
           (flag-word (job_with job) key left rest word (next (with_text job)) _ _ refl words (ap (option_map (λ k. k.now)) w.in-None.is)
-          (sym w.is_flag.ensures ∙ w.if-is_flag.true) (ap next (sym w.in_ok-with-in-None.ensures)) c.loop-word.invariant)
-      | in-None+else-is_flag w ↦ rw (w.with-is, w.key-is, w.as_bytes.ensures.value)
+          (ap is_flag (sym w.as_bytes.ensures.value) ∙ sym w.is_flag.ensures ∙ w.if-is_flag.true)
+          (ap next (sym w.in_ok-with-in-None.ensures)) c.loop-word.invariant)
+      | in-None+else-is_flag w ↦ rw (w.with-is, w.key-is, w.as_bytes-else-is_flag.ensures.value)
           (key-word (job_with job) key left rest word (next (with_text job)) _ refl words (ap (option_map (λ k. k.now)) w.in-None.is)
-          (sym w.is_flag.ensures ∙ w.if-is_flag.false) c.loop-word.invariant)
+          (ap is_flag (sym w.as_bytes.ensures.value) ∙ sym w.is_flag.ensures ∙ w.if-is_flag.false) c.loop-word.invariant)
       | in-Some+in_ok-with-in-Some w ↦ rw (w.with-is, w.key-is)
-          (value-word (job_with job) key _ left rest _ (next (with_option job _ _)) _ _ refl (words ∙ ap (λ b. b ∷ rest) (sym w.as_bytes-in-Some.ensures.value))
+          (value-word (job_with job) key w.in-Some.name.now left rest w.as_bytes-in-Some.result.now
+          (next (with_option job w.in-Some.name.now w.as_bytes-in-Some.result.now)) _ _ refl
+          (words ∙ ap (λ b. b ∷ rest) (sym w.as_bytes-in-Some.ensures.value))
           (ap (option_map (λ k. k.now)) w.in-Some.is) (ap next (sym w.in_ok-with-in-Some.ensures)) c.loop-word.invariant)
     ]

@@ -1,8 +1,8 @@
-use Rattle.std.specs.Prelude.{option_and_then, option_map}
+use Rattle.std.specs.Prelude.{option_map}
 use Rattle.std.specs.String.{string_bytes}
-use Rattle.std.proofs.Common.{◌≡◌, ◌∷◌, ◌+◌, None, drop, drop-cons, map, refl, suc, sym, ap, ◌∙◌, arith}
+use Rattle.std.proofs.Common.{◌≡◌, ℕ, List, Option, ◌∷◌, ◌+◌, None, drop, drop-cons, map, refl, suc, sym, ap, ◌∙◌, arith}
 use Rattle.cec_prove_commands.specs.Views.{job_is}
-use Rattle.cec_prove_commands.specs.Words.{misuse_of_options, misuse_of_rest, with_option, with_text}
+use Rattle.cec_prove_commands.specs.Words.{Job, is_flag, misuse_of_options, misuse_of_rest, with_option, with_text}
 use Rattle.cec_prove_commands.proofs.Options.{flag-word, key-word, value-word}
 use Rattle.cec_prove_commands.proofs.words.misuse_of_options.Goals as goal
 use Rattle.cec_prove_commands.proofs.words.misuse_of_options.Goals.{in-None+then-is_flag+in-Some-with_text, in-None+else-is_flag, in-Some+in-Some-with_option}
@@ -20,17 +20,18 @@ loop-word-preserved c =
     let left = map string_bytes (drop i options) in
     let word = string_bytes c.word-item.result in
     let job = job_is c.loop-word.with in
-    let next = λ k. misuse_of_rest k (λ n. misuse_of_options n None rest) in
+    let next : List ℕ → Option Job → List ℕ = λ k. misuse_of_rest k (λ n. misuse_of_options n None rest) in
     elim c.match-key.branch [
-      | in-None+then-is_flag+in-Some-with_text w ↦ rw (w.with-is, w.key-is)
+      | in-None+then-is_flag+in-Some-with_text w ↦ rw (w.with-is, w.key-is, w.in-None.is)
           (flag-word (misuse_of_options job) key left rest word (next word (with_text job)) _ _ refl words (ap (option_map (λ k. k.now)) w.in-None.is)
-          (sym w.is_flag.ensures ∙ w.if-is_flag.true)
+          (ap is_flag (sym w.as_bytes.ensures.value) ∙ sym w.is_flag.ensures ∙ w.if-is_flag.true)
           (ap (next word) (sym w.with_text.ensures ∙ ap (option_map job_is) w.in-Some-with_text.is)) c.loop-word.invariant)
-      | in-None+else-is_flag w ↦ rw (w.with-is, w.key-is, w.as_bytes.ensures.value)
+      | in-None+else-is_flag w ↦ rw (w.with-is, w.key-is, w.as_bytes-else-is_flag.ensures.value)
           (key-word (misuse_of_options job) key left rest word (next word (with_text job)) _ refl words (ap (option_map (λ k. k.now)) w.in-None.is)
-          (sym w.is_flag.ensures ∙ w.if-is_flag.false) c.loop-word.invariant)
+          (ap is_flag (sym w.as_bytes.ensures.value) ∙ sym w.is_flag.ensures ∙ w.if-is_flag.false) c.loop-word.invariant)
       | in-Some+in-Some-with_option w ↦ rw (w.with-is, w.key-is)
-          (value-word (misuse_of_options job) key _ left rest _ (next _ (with_option job _ _)) _ _ refl
+          (value-word (misuse_of_options job) key w.in-Some.name.now left rest w.as_bytes-in-Some.result.now
+          (next w.in-Some.name.now (with_option job w.in-Some.name.now w.as_bytes-in-Some.result.now)) _ _ refl
           (words ∙ ap (λ b. b ∷ rest) (sym w.as_bytes-in-Some.ensures.value)) (ap (option_map (λ k. k.now)) w.in-Some.is)
-          (ap (next _) (sym w.with_option.ensures ∙ ap (option_map job_is) w.in-Some-with_option.is)) c.loop-word.invariant)
+          (ap (next w.in-Some.name.now) (sym w.with_option.ensures ∙ ap (option_map job_is) w.in-Some-with_option.is)) c.loop-word.invariant)
     ]

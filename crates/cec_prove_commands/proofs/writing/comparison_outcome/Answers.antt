@@ -102,7 +102,7 @@ pub returns-in-Different-clause-says_of_texts : goal.returns-in-Different-clause
 returns-in-Different-clause-says_of_texts g c = λ first second h.
     let trace = c.in-Different.trace.items in
     let apart : IsTextDistinction first second trace =
-      text_comparison_says first second _ _ (λ d e. AreDifferentDevices d e trace) h c.in-Different.is (λ d e is. is) in
+    text_comparison_says first second _ _ (λ d e. AreDifferentDevices d e trace) h c.in-Different.is (λ d e is. is) in
     subst (λ (o : ProveOutcome). TextComparisonSays o first second) (sym c.written_outcome.ensures)
     (as_written Refuted (λ o. TextComparisonSays o first second) c.write_whole.result (trace, apart) (trace, apart) tt)
 

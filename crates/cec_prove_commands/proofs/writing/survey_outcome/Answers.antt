@@ -58,7 +58,7 @@ pub returns-in-Whole-clause-says_of_text : goal.returns-in-Whole-clause-says_of_
 returns-in-Whole-clause-says_of_text g c = λ assumed text h.
     let lines = c.in-Whole.lines.items in
     let is : IsTextSurveyOf assumed true text lines =
-      text_survey_says text assumed _ _ (λ d. IsDeviceSurveyText d assumed d.outputs lines true) h c.in-Whole.is (λ d is. is) in
+    text_survey_says text assumed _ _ (λ d. IsDeviceSurveyText d assumed d.outputs lines true) h c.in-Whole.is (λ d is. is) in
     subst (λ (o : ProveOutcome). TextSurveySays o assumed text) (sym c.written_outcome.ensures)
     (as_written Surveyed (λ o. TextSurveySays o assumed text) c.write_whole.result (lines, is) (true, (lines, is)) tt)
 
@@ -67,7 +67,7 @@ returns-in-Whole-clause-out_of_text g c = λ assumed text h.
     let lines = c.in-Whole.lines.items in
     let s = change g.O.Sink.told g.O.Sink.faults c.args.out.now c.write_whole.new.out in
     let is : IsTextSurveyOf assumed true text lines =
-      text_survey_says text assumed _ _ (λ d. IsDeviceSurveyText d assumed d.outputs lines true) h c.in-Whole.is (λ d is. is) in
+    text_survey_says text assumed _ _ (λ d. IsDeviceSurveyText d assumed d.outputs lines true) h c.in-Whole.is (λ d is. is) in
     subst (λ (o : ProveOutcome). LeavesText (IsTextSurveyBy o assumed text) s (written_of o)) (sym c.written_outcome.ensures)
     (lines_left Surveyed (λ o. IsTextSurveyBy o assumed text) _ lines s c.write_whole.result refl is (true, is)
     c.deref.ensures.value c.write_whole.ensures)
@@ -76,7 +76,7 @@ pub returns-in-Partly-clause-says_of_text : goal.returns-in-Partly-clause-says_o
 returns-in-Partly-clause-says_of_text g c = λ assumed text h.
     let lines = c.in-Partly.lines.items in
     let is : IsTextSurveyOf assumed false text lines =
-      text_survey_says text assumed _ _ (λ d. IsDeviceSurveyText d assumed d.outputs lines false) h c.in-Partly.is (λ d is. is) in
+    text_survey_says text assumed _ _ (λ d. IsDeviceSurveyText d assumed d.outputs lines false) h c.in-Partly.is (λ d is. is) in
     subst (λ (o : ProveOutcome). TextSurveySays o assumed text) (sym c.written_outcome-in-Partly.ensures)
     (as_written PartlySurveyed (λ o. TextSurveySays o assumed text) c.write_whole-in-Partly.result (lines, is) (false, (lines, is)) tt)
 
@@ -85,7 +85,7 @@ returns-in-Partly-clause-out_of_text g c = λ assumed text h.
     let lines = c.in-Partly.lines.items in
     let s = change g.O.Sink.told g.O.Sink.faults c.args.out.now c.write_whole-in-Partly.new.out in
     let is : IsTextSurveyOf assumed false text lines =
-      text_survey_says text assumed _ _ (λ d. IsDeviceSurveyText d assumed d.outputs lines false) h c.in-Partly.is (λ d is. is) in
+    text_survey_says text assumed _ _ (λ d. IsDeviceSurveyText d assumed d.outputs lines false) h c.in-Partly.is (λ d is. is) in
     subst (λ (o : ProveOutcome). LeavesText (IsTextSurveyBy o assumed text) s (written_of o)) (sym c.written_outcome-in-Partly.ensures)
     (lines_left PartlySurveyed (λ o. IsTextSurveyBy o assumed text) _ lines s c.write_whole-in-Partly.result refl is (false, is)
     c.deref-in-Partly.ensures.value c.write_whole-in-Partly.ensures)

@@ -70,7 +70,8 @@ pub returns-in-Open-clause-out_of_text : goal.returns-in-Open-clause-out_of_text
 returns-in-Open-clause-out_of_text g c = λ q text h. appends-nothing _ _
 
 pub returns-in-NoSignal-clause-says_of_text : goal.returns-in-NoSignal-clause-says_of_text
-returns-in-NoSignal-clause-says_of_text g c = λ q text h. text_verdict_says text q _ _ (λ d. is_among q.signal d.outputs ≡ false) h c.in-NoSignal.is (λ d is. is)
+returns-in-NoSignal-clause-says_of_text g c =
+    λ q text h. text_verdict_says text q _ _ (λ d. is_among q.signal d.outputs ≡ false) h c.in-NoSignal.is (λ d is. is)
 
 pub returns-in-NoSignal-clause-out_of_text : goal.returns-in-NoSignal-clause-out_of_text
 returns-in-NoSignal-clause-out_of_text g c = λ q text h. appends-nothing _ _
@@ -85,7 +86,7 @@ pub returns-in-Broken-clause-says_of_text : goal.returns-in-Broken-clause-says_o
 returns-in-Broken-clause-says_of_text g c = λ q text h.
     let trace = c.in-Broken.trace.items in
     let broken : IsTextRefutation q text trace =
-      text_verdict_says text q _ _ (λ d. AnswersDeviceBroken LinePerInstant d q trace) h c.in-Broken.is (λ d is. is) in
+    text_verdict_says text q _ _ (λ d. AnswersDeviceBroken LinePerInstant d q trace) h c.in-Broken.is (λ d is. is) in
     subst (λ (o : ProveOutcome). TextClaimSays q o text) (sym c.written_outcome.ensures)
     (as_written Refuted (λ o. TextClaimSays q o text) c.write_whole.result (trace, broken) (trace, broken) tt)
 
