@@ -50,9 +50,11 @@ rows-shown c net small items fits =
     let followed : net_run net items ≡ net_run made items =
     small.optimizes.replaces.followed.runs items (wide_events (length c.inputs) (length made.inputs) (ap length (sym small.is.inputs)) items fits) in
     let rows : map see (net_values_run made items) ≡ map row_of (map shown_by_call (net_run net items)) =
-    map-composed (λ (s : Shown). row_of (shown_by_call s)) (shown made) (net_values_run made items) ∙ ap (map (λ (s : Shown). row_of (shown_by_call s))) (sym followed)
+    map-composed (λ (s : Shown). row_of (shown_by_call s)) (shown made) (net_values_run made items)
+    ∙ ap (map (λ (s : Shown). row_of (shown_by_call s))) (sym followed)
     ∙ map-composed row_of shown_by_call (net_run net items) in
-    let net-shows = shows-computed (initial_latches made) (net_values made) (λ latches inputs values. next_latches made values) see (initial_latches made) items in
+    let next : List Bool → List Bool → List Bool → List Bool = λ latches inputs values. next_latches made values in
+    let net-shows = shows-computed (initial_latches made) (net_values made) next see (initial_latches made) items in
     subst (λ l. Shows (circuit_machine c) (λ v. map v c.outputs) (circuit_machine c).start items l) rows
     (shows-through (net_machine made) (circuit_machine c) (FitsCircuit c) (ShowsCircuit made c) (SameLatches c) see (λ v. map v c.outputs) small.is.follows
     (λ values v same. same) (initial_latches made) (circuit_machine c).start items _ small.is.follows.agrees.starts fits net-shows)

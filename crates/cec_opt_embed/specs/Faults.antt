@@ -29,9 +29,10 @@ abbrev pub HasCause : CycleRefusal → Type 0
 HasCause (causes.Source refusal) = IsCause refusal
 HasCause others = Unit {0}
 
--- The source has a netlist, and this is the first fault of the name, or the first signal that is a word of C or of C++,
--- of the given signals and then the outgoing ones.
-pub record IsProgramNameFault (text : List ℕ) (main : Option (List ℕ)) (name : List ℕ) (fault : EmbedFault) : Type 0 where
+-- The source has a netlist, and this is the first fault of the name, or the first signal that is a word of C or of
+-- C++. Given signals come before outgoing ones.
+pub record IsProgramNameFault (text : List ℕ) (main : Option (List ℕ)) (name : List ℕ) (fault : EmbedFault) :
+    Type 0 where
   pub net : Netlist
   pub stands : StandsForConstructiveNet text main net
   pub is : IsEmbedFault name (given_names stands.program ++ outgoing_names stands.program) fault

@@ -14,16 +14,16 @@ use Rattle.cec_compile.specs.Refusals.{KeepsGraphLimits}
 use Rattle.cec_cycles.specs.Constructive.{IsConstructiveNetOf, StandsForConstructiveNet}
 use Rattle.cec_opt_embed.specs.Instances.{AreApart}
 
--- What a call of NAME_react shows of an answer of the semantics: the outgoing signals, in declared order, and it returns
--- whether the program pauses, which is code 1.
+-- What a call of NAME_react shows of an answer of the semantics: the outgoing signals, in declared order, and whether
+-- the program pauses, which is code 1.
 abbrev pub call_of : Answer → SeenCall
 call_of a = record { outputs = a.outputs; answer = a.code == 1 }
 
--- A text describes a component with this name that keeps what the program means. Its inputs have a member for each given
--- signal and its outputs one for each outgoing signal, in declared order. Whatever the instances hold before, and
--- whatever calls are made on any of them, in any order: where the calls on one instance begin with a reset, and their
--- events meet the program's relations, the reactions to them are constructive, and at each call this instance shows
--- what the reaction is. Calls on one instance change no other one.
+-- A text describes a component with this name that keeps what the program means. Its inputs have a member for each
+-- given signal and its outputs one for each outgoing signal, in declared order. Take any calls on any instances, in any
+-- order, whatever the instances hold before. Choose an instance whose calls begin with a reset and whose events meet
+-- the program's relations. The reactions to its events are constructive, and at each call it shows what the reaction
+-- is. Calls on one instance change no other one.
 pub record EmbeddedTextKeeps (text name : List ℕ) (p : Program) : Type 0 where
   pub component : Component
   pub describes : Describes text component
@@ -35,8 +35,8 @@ pub record EmbeddedTextKeeps (text name : List ℕ) (p : Program) : Type 0 where
       × (own_seen k (run_calls component instances calls) ≡ map call_of answers)
   pub apart : AreApart component
 
--- The bytes stand for a program whose graph keeps the limits; its dependencies may have a cycle. The text keeps what the
--- program means.
+-- The bytes stand for a program whose graph keeps the limits; its dependencies may have a cycle. The text keeps what
+-- the program means.
 pub record StandsForEmbedded (text : List ℕ) (main : Option (List ℕ)) (name embedded : List ℕ) : Type 0 where
   pub program : Program
   pub source : StandsFor text main program

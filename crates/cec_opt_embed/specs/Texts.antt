@@ -19,11 +19,11 @@ use Rattle.cec_opt_embed.specs.Instances.{AreApart}
 abbrev pub row_of : SeenCall → List Bool
 row_of s = s.outputs ++ s.answer ∷ []
 
--- The embedded text describes a component with this name. Its inputs have a member for each input of the BLIF text and
--- its outputs one for each output but `_paused`, in their order. Whatever the instances hold before, and whatever calls
--- are made on any of them, in any order: where the calls on one instance begin with a reset, and each of its events has
--- one value for each input, the circuit of the BLIF text has a run over them, and each of its runs shows what this
--- instance shows. Calls on one instance change no other one.
+-- The embedded text describes a component with this name. Its inputs have a member for each input of the BLIF text, and
+-- its outputs one for each output except `_paused`, in their order. Take any calls on any instances, in any order,
+-- whatever the instances hold before. Choose an instance whose calls begin with a reset and whose events have one value
+-- for each input. The circuit of the BLIF text has a run over them, and each of its runs shows what this instance
+-- shows. Calls on one instance change no other one.
 pub record EmbedKeeps (text name embedded : List ℕ) : Type 0 where
   pub old : Circuit
   pub reads : reading text ≡ Ok old
