@@ -1,0 +1,108 @@
+-- What the embedded text of a BLIF text keeps, and why a BLIF text has none under a name.
+use Rattle.std.proofs.Common.{◌≡◌, ℕ, Bool, List, [], ◌∷◌, ◌++◌, length, map, Result, Ok, Err, sym, ap, ap₂, ◌∙◌, subst}
+use Rattle.std.specs.Prelude.{IfOk}
+use Rattle.base_facts.proofs.Lists.{map-composed}
+use Rattle.base_types.specs.Items.{Item, EachEvent}
+use Rattle.base_types.specs.Stops.{IfFault}
+use Rattle.base_types.specs.declared.stop.Stop.{Stop}
+use Rattle.base_types.specs.declared.stop.Stop.TheVariants.{Fault, NoMemory}
+use Rattle.base_types.proofs.Exports.{wide_events}
+use Rattle.base_machines.specs.Machines.{Shows}
+use Rattle.base_machines.proofs.Exports.{shows-computed, shows-through}
+use Rattle.net_ir.specs.declared.netlist.Net.{Net}
+use Rattle.net_ir.specs.declared.netlist.NetOut.{NetOut}
+use Rattle.net_ir.specs.Netlists.{Netlist, output_names}
+use Rattle.net_ir.specs.Runs.{Shown, initial_latches, net_machine, net_run, net_values, net_values_run, netlist_of, next_latches, shown}
+use Rattle.blif_text.specs.Circuits.{Circuit}
+use Rattle.blif_text.specs.OutputNames.{output_word, paused_word}
+use Rattle.blif_text.specs.Runs.{circuit_machine}
+use Rattle.blif_net.specs.Conversions.{FitsCircuit, SameLatches, ShowsCircuit}
+use Rattle.csub_text.specs.Written.{shown_by_call}
+use Rattle.csub_embed.specs.Faults.{IsEmbedFault, signals, under_name}
+use Rattle.csub_embed.specs.Machine.{own_items}
+use Rattle.csub_embed.specs.Written.{Means}
+use Rattle.cec_opt_texts.specs.Alike.{HasOutputs}
+use Rattle.cec_opt_texts.specs.Optimized.{IsSmallNetOf, IsSmallOf}
+use Rattle.cec_opt_embed.specs.ComponentFaults.{IsTextComponentFault}
+use Rattle.cec_opt_embed.specs.Faults.{IsTextEmbedFault}
+use Rattle.cec_opt_embed.specs.Texts.{EmbedKeeps, IsSmallComponent, row_of}
+use Rattle.cec_opt_embed.specs.declared.faults.TextEmbedFault.{TextEmbedFault}
+use Rattle.cec_opt_embed.specs.declared.faults.TextEmbedFault.TheVariants.{Text, Component}
+use Rattle.cec_opt_embed.proofs.Apart.{apart}
+
+-- ---- the optimized netlist of a circuit
+
+given-inputs : (c : Circuit) (net : Netlist) → IsSmallOf c net → net.inputs ≡ c.inputs
+given-inputs c net small = small.optimizes.replaces.interface.inputs ∙ small.is.inputs
+
+given-outputs : (c : Circuit) (net : Netlist) → IsSmallOf c net → HasOutputs c (output_names net)
+given-outputs c net small =
+    sym small.is.outputs ∙ ap (λ l. l ++ paused_word ∷ [])
+    (map-composed (output_word small.made.inputs) (λ (o : NetOut). o.name) small.made.outputs
+    ∙ ap₂ (λ ins outs. map (output_word ins) outs) small.is.inputs (sym small.optimizes.replaces.interface.outputs))
+
+-- the circuit shows, as rows, what a call shows that shows what the netlist shows
+rows-shown : (c : Circuit) (net : Netlist) → IsSmallOf c net → (items : List Item) → EachEvent (FitsCircuit c) items
+    → Shows (circuit_machine c) (λ v. map v c.outputs) (circuit_machine c).start items (map row_of (map shown_by_call (net_run net items)))
+rows-shown c net small items fits =
+    let made = small.made in
+    let see : List Bool → List Bool = λ values. row_of (shown_by_call (shown made values)) in
+    let followed : net_run net items ≡ net_run made items =
+    small.optimizes.replaces.followed.runs items (wide_events (length c.inputs) (length made.inputs) (ap length (sym small.is.inputs)) items fits) in
+    let rows : map see (net_values_run made items) ≡ map row_of (map shown_by_call (net_run net items)) =
+    map-composed (λ (s : Shown). row_of (shown_by_call s)) (shown made) (net_values_run made items)
+    ∙ ap (map (λ (s : Shown). row_of (shown_by_call s))) (sym followed)
+    ∙ map-composed row_of shown_by_call (net_run net items) in
+    let next : List Bool → List Bool → List Bool → List Bool = λ latches inputs values. next_latches made values in
+    let net-shows = shows-computed (initial_latches made) (net_values made) next see (initial_latches made) items in
+    subst (λ l. Shows (circuit_machine c) (λ v. map v c.outputs) (circuit_machine c).start items l) rows
+    (shows-through (net_machine made) (circuit_machine c) (FitsCircuit c) (ShowsCircuit made c) (SameLatches c) see (λ v. map v c.outputs) small.is.follows
+    (λ values v same. same) (initial_latches made) (circuit_machine c).start items _ small.is.follows.agrees.starts fits net-shows)
+
+-- ---- its text under a name
+
+keeps-given : (text name embedded : List ℕ) (net : Netlist) → IsSmallNetOf text net → Means embedded (under_name name net) → EmbedKeeps text name embedded
+keeps-given text name embedded net s means =
+    let c = s.circuit in
+    let same = given-inputs c net s.small in
+    record {
+      old = c;
+      reads = s.reads;
+      names = output_names net;
+      has_outputs = given-outputs c net s.small;
+      new = means.component;
+      describes = means.describes;
+      named = means.name;
+      inputs = means.inputs ∙ same;
+      outputs = means.outputs;
+      shows = λ instances calls k begins fits.
+          let items = own_items k calls in
+          let wide = wide_events (length c.inputs) (length net.inputs) (ap length (sym same)) items fits in
+          subst (λ l. Shows (circuit_machine c) (λ v. map v c.outputs) (circuit_machine c).start items (map row_of l))
+          (sym (means.shows instances calls k begins wide)) (rows-shown c net s.small items fits);
+      apart = apart means.component;
+    }
+
+pub text-keeps : (text name embedded : List ℕ) (net : Netlist) → IsSmallComponent text name net → Means embedded net → EmbedKeeps text name embedded
+text-keeps text name embedded net is means = keeps-given text name embedded is.given is.small (subst (Means embedded) is.named means)
+
+-- ---- a netlist under a name
+
+pub text-net : (text name : List ℕ) (given : Netlist) (result : Result Net (Stop TextEmbedFault)) → IsSmallNetOf text given
+    → IfOk result (λ n. netlist_of n ≡ under_name name given) → IfOk result (λ n. IsSmallComponent text name (netlist_of n))
+text-net text name given (Ok n) small named = record { given = given; small = small; named = named }
+text-net text name given (Err stop) small named = tt
+
+-- a fault of the name or of a signal, where the text has a netlist
+pub text-fault : (text name : List ℕ) (given : Netlist) (result : Result Net (Stop TextEmbedFault)) → IsSmallNetOf text given
+    → IfFault result (IsTextComponentFault (IsEmbedFault name (signals given))) → IfFault result (IsTextEmbedFault text name)
+text-fault text name given (Ok n) s is = tt
+text-fault text name given (Err (Fault (Text fault))) s is = absurd is
+text-fault text name given (Err (Fault (Component fault))) s is = record {
+  net = given;
+  small = s;
+  names = output_names given;
+  has_outputs = given-outputs s.circuit given s.small;
+  is = subst (λ inputs. IsEmbedFault name (inputs ++ output_names given) fault) (given-inputs s.circuit given s.small) is;
+}
+text-fault text name given (Err NoMemory) s is = tt

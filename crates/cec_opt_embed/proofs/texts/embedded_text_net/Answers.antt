@@ -1,0 +1,14 @@
+use Rattle.net_ir.specs.Runs.{netlist_of}
+use Rattle.cec_opt_embed.proofs.CircuitTexts.{text-fault, text-net}
+use Rattle.cec_opt_embed.proofs.texts.embedded_text_net.Goals as goal
+
+pub returns-in-Ok-clause-small : goal.returns-in-Ok-clause-small
+returns-in-Ok-clause-small c =
+    text-net c.args.text.now c.args.name.now (netlist_of c.in-Ok.net) c.named_net.result c.in-Ok.ensures.small c.named_net.ensures.named
+
+pub returns-in-Ok-clause-fault : goal.returns-in-Ok-clause-fault
+returns-in-Ok-clause-fault c =
+    text-fault c.args.text.now c.args.name.now (netlist_of c.in-Ok.net) c.named_net.result c.in-Ok.ensures.small c.named_net.ensures.fault
+
+pub returns-in-Err-clause-fault : goal.returns-in-Err-clause-fault
+returns-in-Err-clause-fault c = c.text_stop.ensures c.args.text.now c.args.name.now c.in-Err.ensures.fault

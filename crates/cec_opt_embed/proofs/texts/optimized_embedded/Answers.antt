@@ -1,0 +1,11 @@
+use Rattle.net_ir.specs.Runs.{netlist_of}
+use Rattle.cec_opt_embed.proofs.CircuitTexts.{text-keeps}
+use Rattle.cec_opt_embed.proofs.texts.optimized_embedded.Goals as goal
+
+pub returns-clause-keeps : goal.returns-clause-keeps
+returns-clause-keeps c =
+    text-keeps c.args.text.now c.args.name.now c.in_ok-written.written.items (netlist_of c.in_ok-net.net) c.in_ok-net.ensures.small
+    c.in_ok-written.ensures.means
+
+pub returns-clause-small : goal.returns-clause-small
+returns-clause-small c = record { net = netlist_of c.in_ok-net.net; is = c.in_ok-net.ensures.small; spelled = c.in_ok-written.ensures.text }

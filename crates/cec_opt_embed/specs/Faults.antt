@@ -1,0 +1,58 @@
+-- Contract: why a source or a BLIF text has no embedded text under a name. Where the fault is one of the name or of a
+-- signal, there is a netlist.
+use Rattle.std.specs.Prelude.{ℕ, List, ◌++◌, Option}
+use Rattle.est_kernel.specs.Plain.{given_names, outgoing_names}
+use Rattle.net_ir.specs.Netlists.{Netlist}
+use Rattle.csub_embed.specs.Faults.{IsEmbedFault}
+use Rattle.csub_embed.specs.declared.fault.EmbedFault.{EmbedFault}
+use Rattle.cec_compile.specs.declared.refusal.Refusal.{Refusal}
+use Rattle.cec_compile.specs.declared.refusal.Refusal.TheVariants as refusals
+use Rattle.cec_cycles.specs.Constructive.{IsRefusedConstructive, StandsForConstructiveNet}
+use Rattle.cec_cycles.specs.declared.findings.CycleRefusal.{CycleRefusal}
+use Rattle.cec_cycles.specs.declared.findings.CycleRefusal.TheVariants as causes
+use Rattle.cec_opt_texts.specs.Alike.{HasOutputs}
+use Rattle.cec_opt_texts.specs.Faults.{IsOptFault}
+use Rattle.cec_opt_texts.specs.Optimized.{IsSmallNetOf}
+use Rattle.cec_opt_embed.specs.declared.faults.SourceEmbedFault.{SourceEmbedFault}
+use Rattle.cec_opt_embed.specs.declared.faults.SourceEmbedFault.TheVariants as source_faults
+use Rattle.cec_opt_embed.specs.declared.faults.TextEmbedFault.{TextEmbedFault}
+use Rattle.cec_opt_embed.specs.declared.faults.TextEmbedFault.TheVariants as text_faults
+
+-- ---- sources
+
+-- running out of memory is no cause
+abbrev pub IsCause : Refusal → Type 0
+IsCause refusals.NoMemory = ⊥
+IsCause others = Unit {0}
+
+abbrev pub HasCause : CycleRefusal → Type 0
+HasCause (causes.Source refusal) = IsCause refusal
+HasCause others = Unit {0}
+
+-- The source has a netlist, and this is the first fault of the name, or the first signal that is a word of C or of
+-- C++. Given signals come before outgoing ones.
+pub record IsProgramNameFault (text : List ℕ) (main : Option (List ℕ)) (name : List ℕ) (fault : EmbedFault) :
+    Type 0 where
+  pub net : Netlist
+  pub stands : StandsForConstructiveNet text main net
+  pub is : IsEmbedFault name (given_names stands.program ++ outgoing_names stands.program) fault
+
+abbrev pub IsSourceEmbedFault : List ℕ → Option (List ℕ) → List ℕ → SourceEmbedFault → Type 0
+IsSourceEmbedFault text main name (source_faults.Source refusal) =
+    HasCause refusal × IsRefusedConstructive text main refusal
+IsSourceEmbedFault text main name (source_faults.Component fault) = IsProgramNameFault text main name fault
+
+-- ---- BLIF texts
+
+-- The text has a netlist, and this is the first fault of the name, or the first word of C or of C++, of the inputs and
+-- then the outputs.
+pub record IsTextNameFault (text name : List ℕ) (fault : EmbedFault) : Type 0 where
+  pub net : Netlist
+  pub small : IsSmallNetOf text net
+  pub names : List (List ℕ)
+  pub has_outputs : HasOutputs small.circuit names
+  pub is : IsEmbedFault name (small.circuit.inputs ++ names) fault
+
+abbrev pub IsTextEmbedFault : List ℕ → List ℕ → TextEmbedFault → Type 0
+IsTextEmbedFault text name (text_faults.Text fault) = IsOptFault text fault
+IsTextEmbedFault text name (text_faults.Component fault) = IsTextNameFault text name fault

@@ -1,0 +1,5 @@
+pub mod Instances
+pub mod Sources
+pub mod Texts
+pub mod Faults
+pub mod ComponentFaults

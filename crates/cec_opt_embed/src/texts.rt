@@ -1,0 +1,91 @@
+// The embedded text of a BLIF text.
+
+ghost use Rattle.std.specs.Prelude.{◌≡◌, ◌≤◌, ℕ, List, length, IfOk};
+ghost use Rattle.base_types.specs.Stops.{FaultIs, IfFault};
+ghost use Rattle.net_ir.specs.Runs.{netlist_of};
+ghost use Rattle.csub_embed.specs.Faults.{signals, under_name, IsEmbeddable, IsEmbedFault};
+ghost use Rattle.cec_opt_texts.specs.Faults.{IsOptFault};
+ghost use Rattle.cec_opt_embed.specs.ComponentFaults.{IsTextComponentFault};
+ghost use Rattle.cec_opt_embed.specs.Faults.{IsTextEmbedFault};
+ghost use Rattle.cec_opt_embed.specs.Texts.{EmbedKeeps, IsSmallComponent, IsSmallEmbedded};
+
+use crate::faults::TextEmbedFault;
+use base_types::{Limits, Stop};
+use cec_opt_texts::{OptFault, optimized_net};
+use csub_embed::{EmbedFault, embedded_net, write_embedded};
+use net_ir::Net;
+use std::alloc::Global;
+
+/// The embedded C text of the optimized netlist of a BLIF text, under the name of its component. It describes a
+/// component with this name, with a member for each input and each output of the BLIF text (`EmbedKeeps`). Take any
+/// calls on any number of instances, in any order. An instance whose first call is a reset shows at each call what the
+/// BLIF text shows. Calls on one instance change no other one.
+///
+/// The fault is the BLIF text's first one, and where it has none, the first one of the name and of the signals
+/// (`IsEmbedFault`). Running out of memory is the only other error.
+///
+/// Example: the text with an input `int` has none.
+pub fn optimized_embedded(
+    alloc: Global,
+    text: &[u8],
+    name: &[u8],
+) -> Result<Vec<u8>, Stop<TextEmbedFault>>
+    requires { length text.now ≤ Limits.TEXT_BYTES }
+    ensures keeps { IfOk result (λ written. EmbedKeeps text.now name.now written.items) }
+    ensures small { IfOk result (λ written. IsSmallEmbedded text.now name.now written.items) }
+    ensures fault { IfFault result (IsTextEmbedFault text.now name.now) }
+{
+    let net = embedded_text_net(alloc, text, name)?;
+    let written = write_embedded(alloc, &net)?;
+    Ok(written)
+}
+
+/// The optimized netlist of a BLIF text under the name of its component, for callers who write its embedded text piece
+/// by piece. It is refused as `optimized_embedded` refuses the text.
+pub fn embedded_text_net(
+    alloc: Global,
+    text: &[u8],
+    name: &[u8],
+) -> Result<Net, Stop<TextEmbedFault>>
+    requires { length text.now ≤ Limits.TEXT_BYTES }
+    ensures small { IfOk result (λ net. IsSmallComponent text.now name.now (netlist_of net)) }
+    ensures fits { IfOk result (λ net. IsEmbeddable (netlist_of net)) }
+    ensures fault { IfFault result (IsTextEmbedFault text.now name.now) }
+{
+    match optimized_net(alloc, text) {
+        Ok(net) => named_net(alloc, net, name),
+        Err(stop) => Err(text_stop(stop)),
+    }
+}
+
+// The netlist under the name of its component.
+fn named_net(alloc: Global, net: Net, name: &[u8]) -> Result<Net, Stop<TextEmbedFault>>
+    ensures named { IfOk result (λ n. netlist_of n ≡ under_name name.now (netlist_of net)) }
+    ensures fits { IfOk result (λ n. IsEmbeddable (netlist_of n)) }
+    ensures fault { IfFault result (IsTextComponentFault (IsEmbedFault name.now (signals (netlist_of net)))) }
+{
+    match embedded_net(alloc, net, name) {
+        Ok(named) => Ok(named),
+        Err(stop) => Err(component_stop(stop)),
+    }
+}
+
+fn component_stop(stop: Stop<EmbedFault>) -> Stop<TextEmbedFault>
+    ensures { (name : List ℕ) (names : List (List ℕ)) → FaultIs (IsEmbedFault name names) stop
+        → FaultIs (IsTextComponentFault (IsEmbedFault name names)) result }
+{
+    match stop {
+        Stop::Fault(fault) => Stop::Fault(TextEmbedFault::Component(fault)),
+        Stop::NoMemory => Stop::NoMemory,
+    }
+}
+
+// Why the text has no netlist.
+fn text_stop(stop: Stop<OptFault>) -> Stop<TextEmbedFault>
+    ensures { (text name : List ℕ) → FaultIs (IsOptFault text) stop → FaultIs (IsTextEmbedFault text name) result }
+{
+    match stop {
+        Stop::Fault(fault) => Stop::Fault(TextEmbedFault::Text(fault)),
+        Stop::NoMemory => Stop::NoMemory,
+    }
+}
