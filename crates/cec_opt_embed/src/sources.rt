@@ -5,7 +5,8 @@ ghost use Rattle.base_types.specs.Stops.{FaultIs, IfFault};
 ghost use Rattle.net_ir.specs.Runs.{netlist_of};
 ghost use Rattle.csub_embed.specs.Faults.{signals, under_name, IsEmbeddable, IsEmbedFault};
 ghost use Rattle.cec_cycles.specs.Constructive.{IsOtherRefusal, IsRefusedConstructive};
-ghost use Rattle.cec_opt_embed.specs.ComponentFaults.{IsSourceComponentFault};
+ghost use Rattle.cec_opt_embed.specs.ComponentFaults.{IsSourceComponentFault, IsSourceComponentStop};
+ghost use Rattle.cec_opt_embed.specs.ComponentFaults.{IsRefusalStop, IsSourceStop};
 ghost use Rattle.cec_opt_embed.specs.Faults.{IsCause, IsSourceEmbedFault};
 ghost use Rattle.cec_opt_embed.specs.Sources.{IsComponentNetOf, IsEmbeddedOf, StandsForEmbedded};
 
@@ -84,7 +85,8 @@ fn named_net(alloc: Global, net: Net, name: &[u8]) -> Result<Net, Stop<SourceEmb
 }
 
 fn component_stop(stop: Stop<EmbedFault>) -> Stop<SourceEmbedFault>
-    ensures { (name : List ℕ) (names : List (List ℕ)) → FaultIs (IsEmbedFault name names) stop
+    ensures same { IsSourceComponentStop stop result }
+    ensures fault { (name : List ℕ) (names : List (List ℕ)) → FaultIs (IsEmbedFault name names) stop
         → FaultIs (IsSourceComponentFault (IsEmbedFault name names)) result }
 {
     match stop {
@@ -95,7 +97,8 @@ fn component_stop(stop: Stop<EmbedFault>) -> Stop<SourceEmbedFault>
 
 // Why the source has no netlist. Running out of memory is none of its causes.
 fn source_stop(refusal: CycleRefusal) -> Stop<SourceEmbedFault>
-    ensures { (text : List ℕ) (main : Option (List ℕ)) (name : List ℕ) → IsRefusedConstructive text main refusal
+    ensures same { IsSourceStop refusal result }
+    ensures fault { (text : List ℕ) (main : Option (List ℕ)) (name : List ℕ) → IsRefusedConstructive text main refusal
         → FaultIs (IsSourceEmbedFault text main name) result }
 {
     match refusal {
@@ -113,7 +116,8 @@ fn source_stop(refusal: CycleRefusal) -> Stop<SourceEmbedFault>
 }
 
 fn refusal_stop(refusal: Refusal) -> Stop<SourceEmbedFault>
-    ensures { (text : List ℕ) (main : Option (List ℕ)) (name : List ℕ) → IsOtherRefusal text main refusal
+    ensures same { IsRefusalStop refusal result }
+    ensures fault { (text : List ℕ) (main : Option (List ℕ)) (name : List ℕ) → IsOtherRefusal text main refusal
         → FaultIs (IsSourceEmbedFault text main name) result }
 {
     match refusal {
@@ -126,7 +130,8 @@ fn refusal_stop(refusal: Refusal) -> Stop<SourceEmbedFault>
 
 fn caused(refusal: Refusal) -> Stop<SourceEmbedFault>
     requires { IsCause refusal }
-    ensures { (text : List ℕ) (main : Option (List ℕ)) (name : List ℕ) → IsOtherRefusal text main refusal
+    ensures same { IsRefusalStop refusal result }
+    ensures fault { (text : List ℕ) (main : Option (List ℕ)) (name : List ℕ) → IsOtherRefusal text main refusal
         → FaultIs (IsSourceEmbedFault text main name) result }
 {
     Stop::Fault(SourceEmbedFault::Source(CycleRefusal::Source(refusal)))

@@ -5,7 +5,7 @@ ghost use Rattle.base_types.specs.Stops.{FaultIs, IfFault};
 ghost use Rattle.net_ir.specs.Runs.{netlist_of};
 ghost use Rattle.csub_embed.specs.Faults.{signals, under_name, IsEmbeddable, IsEmbedFault};
 ghost use Rattle.cec_opt_texts.specs.Faults.{IsOptFault};
-ghost use Rattle.cec_opt_embed.specs.ComponentFaults.{IsTextComponentFault};
+ghost use Rattle.cec_opt_embed.specs.ComponentFaults.{IsTextComponentFault, IsTextComponentStop, IsTextStop};
 ghost use Rattle.cec_opt_embed.specs.Faults.{IsTextEmbedFault};
 ghost use Rattle.cec_opt_embed.specs.Texts.{EmbedKeeps, IsSmallComponent, IsSmallEmbedded};
 
@@ -71,7 +71,8 @@ fn named_net(alloc: Global, net: Net, name: &[u8]) -> Result<Net, Stop<TextEmbed
 }
 
 fn component_stop(stop: Stop<EmbedFault>) -> Stop<TextEmbedFault>
-    ensures { (name : List ℕ) (names : List (List ℕ)) → FaultIs (IsEmbedFault name names) stop
+    ensures same { IsTextComponentStop stop result }
+    ensures fault { (name : List ℕ) (names : List (List ℕ)) → FaultIs (IsEmbedFault name names) stop
         → FaultIs (IsTextComponentFault (IsEmbedFault name names)) result }
 {
     match stop {
@@ -82,7 +83,9 @@ fn component_stop(stop: Stop<EmbedFault>) -> Stop<TextEmbedFault>
 
 // Why the text has no netlist.
 fn text_stop(stop: Stop<OptFault>) -> Stop<TextEmbedFault>
-    ensures { (text name : List ℕ) → FaultIs (IsOptFault text) stop → FaultIs (IsTextEmbedFault text name) result }
+    ensures same { IsTextStop stop result }
+    ensures fault { (text name : List ℕ) → FaultIs (IsOptFault text) stop
+        → FaultIs (IsTextEmbedFault text name) result }
 {
     match stop {
         Stop::Fault(fault) => Stop::Fault(TextEmbedFault::Text(fault)),

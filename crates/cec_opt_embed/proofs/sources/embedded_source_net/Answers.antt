@@ -15,4 +15,4 @@ returns-in-Ok-clause-fault g c =
 
 pub returns-in-Err-clause-fault : goal.returns-in-Err-clause-fault
 returns-in-Err-clause-fault g c =
-    c.source_stop.ensures c.args.text.now (option_map (λ m. m.now) c.args.main) c.args.name.now c.in-Err.ensures.refuses
+    c.source_stop.ensures.fault c.args.text.now (option_map (λ m. m.now) c.args.main) c.args.name.now c.in-Err.ensures.refuses

@@ -11,4 +11,4 @@ returns-in-Ok-clause-fault c =
     text-fault c.args.text.now c.args.name.now (netlist_of c.in-Ok.net) c.named_net.result c.in-Ok.ensures.small c.named_net.ensures.fault
 
 pub returns-in-Err-clause-fault : goal.returns-in-Err-clause-fault
-returns-in-Err-clause-fault c = c.text_stop.ensures c.args.text.now c.args.name.now c.in-Err.ensures.fault
+returns-in-Err-clause-fault c = c.text_stop.ensures.fault c.args.text.now c.args.name.now c.in-Err.ensures.fault
