@@ -157,6 +157,7 @@ The kind is `case' or `statement', the column that of its first line."
 ;;;###autoload
 (define-derived-mode esterel-mode prog-mode "Esterel"
   "Sources of Pure Esterel."
+  (setq-local indent-tabs-mode nil)
   (setq-local comment-start "% ")
   (setq-local comment-end "")
   (setq-local comment-start-skip "%+[ \t]*")

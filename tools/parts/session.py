@@ -149,6 +149,11 @@ class Session:
         """The labels of the local signals, in the order of the source."""
         return list(self.labels.values())
 
+    def stop_lines(self):
+        """The lines of the source on which the program can wait or emit."""
+        places = [*(self.places or ()), *(place for place, _, _ in self.emitters.values() if place)]
+        return {line_and_column(self.text, start)[0] for start, _ in places}
+
     def lines(self, groups):
         """The lines of the program over these groups; the program's fault where a group is none of its."""
         name = os.path.join(self.folder.name, "given.trace")
