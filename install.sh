@@ -19,7 +19,7 @@ list=$root/share/cec/folders
 program=${PROGRAM:-$top/crates/cec/out/cec}
 optimizer=${OPTIMIZER:-$top/crates/cec_opt/out/cec_opt}
 prover=${PROVER:-$top/crates/cec_prove/out/cec_prove}
-tools="ask_abc blif_clock c_interface cover_traces explain language_server lines_to_vcd listing_to_dot playground simulate states trace_report"
+tools="ask_abc assertions blif_clock c_interface comment_states cover_traces explain language_server lines_to_vcd listing_to_dot playground simulate states trace_report"
 
 remove() {
     folders=

@@ -234,9 +234,24 @@ def gen_case(rng: random.Random) -> Drawn:
     return words, {}
 
 
-OPT_LIST = "blif c verilog check --help -x f f f nofile - -- --via blif= check f t --source --main M".split(" ") + [""]
+OPT_LIST = "blif c verilog check --help -x f f f nofile - -- --via blif= check f t --source --main M".split(" ")
+OPT_LIST += ["", "--embed", "lift"]
 SOURCE_LIST = "--source --main f f M N0 nofile -".split(" ")
 OPT_PATTERNS = ["blif f", "c f", "verilog f", "check f", "--help"]
+OWN_PATTERNS = ["c --embed", "c --embed lift", "c --embed -x f", "c --embed lift -x", "c --embed lift f f"]
+OWN_PATTERNS += ["c --embed lift --source", "c --embed lift --embed lift f", "c --source f --embed lift"]
+OWN_PATTERNS += ["blif --embed lift f", "c --packed f", "c --embed lift --packed", "c --embed --packed f"]
+OWN_PATTERNS += ["c --embed lift --packed --packed f", "c --embed lift --header --definitions f"]
+OWN_PATTERNS += ["c --embed lift --packed --header --declarations f", "c --embed lift --header"]
+OWN_PATTERNS += ["c --embed lift f --packed", "c --embed lift --packed f f"]
+# Words about Verilog with a reset that have no meaning.
+RESET_PATTERNS = ["", "-x f", "rst", "rst --async f --async", "rst --low f", "rst f f", "rst --module"]
+RESET_PATTERNS += ["rst --source f f", "rst f --source f", "rst --main M", "rst --module -x f", "rst --module M --module M f"]
+OWN_PATTERNS += ["verilog --reset %s" % it for it in RESET_PATTERNS] + ["verilog f --reset rst", "blif --reset rst f"]
+LAYOUTS = ["", "", "--packed", "--header", "--declarations", "--definitions"]
+LAYOUTS += ["--packed --declarations", "--definitions --packed"]
+# Names of components; a component may have the first five of them.
+COMPONENTS = [b"lift", b"M", b"self", b"state0", b"L_9", b"uint8", b"int32", b"9lift", b"li-ft", b"_lift"]
 
 
 def opt_source_words(rng: random.Random) -> list[bytes]:
@@ -248,30 +263,53 @@ def opt_source_words(rng: random.Random) -> list[bytes]:
     return [word.encode() for pair in words for word in pair]
 
 
+def component_words(rng: random.Random) -> list[bytes]:
+    """Words that ask for embedded C."""
+    layout = [word.encode() for word in rng.choice(LAYOUTS).split()]
+    return [b"c", b"--embed", rng.choice(COMPONENTS[:5] * 3 + COMPONENTS[5:]), *layout]
+
+
+def with_reserved(rng: random.Random, text: bytes) -> bytes:
+    """The text with a word of C in place of a name."""
+    old = rng.choice([b"A", b"B", b"O", b"O0", b"a", b"b"])
+    new = rng.choice([b"int", b"xor", b"unix", b"bool", b"Int", b"for_"])
+    return re.sub(rb"(?<![\w.])%s(?![\w])" % old, new, text)
+
+
 def opt_case(rng: random.Random) -> Drawn:
     """A circuit for the optimizer: in the profile, with a fault, or written from a source."""
-    command = rng.choice([b"blif", b"blif", b"c", b"verilog", b"check"])
+    plain = [[b"blif"], [b"blif"], [b"c"], [b"verilog"], [b"check"]]
+    command, *more = rng.choice([*plain, component_words(rng), component_words(rng)])
     kind = rng.random()
     if kind < 0.1:
-        words = [
-            word.encode() for word in rng.choice([rng.choice(OPT_PATTERNS).split(" ")] + [rng.choices(OPT_LIST, k=2)])
-        ]
+        pattern = rng.choice([rng.choice(OPT_PATTERNS), rng.choice(OWN_PATTERNS)]).split(" ")
+        words = [word.encode() for word in rng.choice([pattern, rng.choices(OPT_LIST, k=2)])]
         return words, {b"f": circuit_text(rng)}
     if kind < 0.25:
         text = source(rng, rng.choice([1, 2, 4, 6]), rng.choice([0, 0, 0, 0.05]))
-        return [command, *opt_source_words(rng)], {b"f": text}
+        if more and rng.random() < 0.2:
+            text = with_reserved(rng, text)
+        return [command, *more, *opt_source_words(rng)], {b"f": text}
     text = circuit_text(rng) if kind < 0.6 else MAKERS["blif"](rng)
     if kind > 0.85:
         text = written_text(rng, "blif", rng.choice([2, 6, 12])) or text
     if rng.random() < 0.2:
         text = mutate_bytes(text, rng)
-    return [command, b"f"], {b"f": text}
+    if more and rng.random() < 0.2:
+        text = with_reserved(rng, text)
+    return [command, *more, b"f"], {b"f": text}
 
 
 def cycle_case(rng: random.Random) -> Drawn:
     """A source with a cycle for the optimizer, which is constructive or not."""
-    command = rng.choice([b"blif", b"c", b"verilog", b"check"])
-    return [command, b"--source", b"f"], {b"f": cyclic_source(rng)}
+    words = rng.choice([[b"blif"], [b"c"], [b"verilog"], [b"check"], component_words(rng)])
+    return [*words, b"--source", b"f"], {b"f": cyclic_source(rng)}
+
+
+def cycle_run_case(rng: random.Random) -> Drawn:
+    """A source with a cycle and a trace, for three-valued reactions."""
+    words, text = [b"run", b"--via", b"tri", b"f", b"t"], cyclic_source(rng)
+    return words, {b"f": text, b"t": trace_for(rng, text, words)}
 
 
 OBSERVERS = (
@@ -315,6 +353,22 @@ def changed(rng: random.Random, text: bytes) -> bytes:
         return text
     at = rng.choice(places)
     return text[:at] + new.encode() + text[at + len(old) :]
+
+
+def prove_cycle_case(rng: random.Random) -> Drawn:
+    """The same of a source with a cycle, which is constructive or not, and of two sources one of which has a cycle at least."""
+    text, kind = cyclic_source(rng), rng.random()
+    outgoing = re.findall(r"\w+", re.findall(r"output ([^;]*);", text.decode())[0])
+    files, words = {b"f": text}, [rng.choice(["all", "cover"]), "f"]
+    if kind < 0.4:
+        words = [rng.choice(["never", "never", "always"]), rng.choice(outgoing), "f"]
+    elif kind > 0.7:
+        files[b"g"] = rng.choice([changed(rng, text), text.replace(b"module M:", b"module N:")])
+        words = ["same", *rng.choice(["fg", "fg", "gf"])]
+    if words[0] != "same" and rng.random() < 0.2:
+        words += ["--assume", rng.choice(outgoing)]
+    words += ["--effort", rng.choice(["1", "2", "3", "4"])]
+    return [word.encode() for word in words], files
 
 
 def prove_case(rng: random.Random) -> Drawn:
@@ -385,11 +439,19 @@ KINDS: dict[str, Callable[[random.Random], Drawn]] = {
     "gen": gen_case,
     "optimize": opt_case,
     "cycle": cycle_case,
+    "cycle_run": cycle_run_case,
     "prove": prove_case,
+    "prove_cycle": prove_cycle_case,
     "claim_text": claim_text_case,
 }
 # The program that a kind calls, where it is not `cec`.
-PROGRAMS = {"optimize": "cec-opt", "cycle": "cec-opt", "prove": "cec-prove", "claim_text": "cec-prove"}
+PROGRAMS = {
+    "optimize": "cec-opt",
+    "cycle": "cec-opt",
+    "prove": "cec-prove",
+    "prove_cycle": "cec-prove",
+    "claim_text": "cec-prove",
+}
 # A call of the optimizer or of `gen` takes far longer than one of the others, and so does the search that judges a
 # claim.
 WEIGHTS = {
@@ -401,7 +463,9 @@ WEIGHTS = {
     "gen": 0.2,
     "optimize": 0.2,
     "cycle": 0.4,
+    "cycle_run": 0.4,
     "prove": 0.4,
+    "prove_cycle": 0.3,
     "claim_text": 0.2,
 }
 

@@ -3,10 +3,13 @@
 from __future__ import annotations
 
 import re
-from typing import Optional, Sequence
+from typing import Optional, Sequence, Union
 
 from fuzzing.cases import Case
-from rules.blif import read_blif
+from fuzzing.constructive import stuck_line, stuck_state
+from fuzzing.written import Difference
+from rules.blif import NetRunner, read_blif
+from rules.command import SourceRunner
 from rules.compiling import Compiled, compile_source
 from rules.front import flat_program
 from rules.optimizer import BAD_TEXT, Refused
@@ -14,11 +17,13 @@ from rules.outcomes import Outcome, line_column
 from rules.points import covered, points_of
 from rules.prover import (
     FILE_FAULT,
+    LIMIT,
     NO_SIGNAL,
     OTHER,
     PROVED,
-    REFUSED,
     REFUTED,
+    STATIC,
+    STUCK,
     UNDECIDED,
     USAGE,
     Asked,
@@ -30,6 +35,7 @@ from rules.prover import (
     first_break,
     first_breaks,
     first_difference,
+    has_cycle,
     runner_of,
     trace_of,
 )
@@ -40,6 +46,7 @@ REACHED = re.compile(rb"(\d+:\d+: [a-z]+) (never|undecided|reached:(.*))\n", re.
 SEARCHED = re.compile(rb"cec-prove: undecided, instants searched: (\d+)\n")
 Answer = tuple[bytes, bytes, int]
 Found = tuple[str, int]
+Runner = Union[SourceRunner, NetRunner]
 
 
 def line(text: bytes) -> bytes:
@@ -56,13 +63,42 @@ def is_refused(got: Answer, status: int, err: Optional[bytes]) -> Optional[str]:
 
 
 def judge_source(outcome: Outcome, file: bytes, got: Answer) -> Optional[str]:
-    """A source that does not compile; any cycle may be shown, which the kind `source` compares."""
+    """A source that does not compile, for another cause than a cycle."""
     if outcome.kind == "Static":
-        return is_refused(got, REFUSED, b"cec: " + outcome.line + b"\n")
-    if outcome.kind == "Limit":
-        return is_refused(got, REFUSED, line(b"a limit is passed, see cec check " + file))
-    is_shown = got[1].startswith(b"cec-prove: cyclic: ")
-    return is_refused(got, REFUSED, None) or (None if is_shown else "stderr")
+        return is_refused(got, STATIC, b"cec: " + outcome.line + b"\n")
+    return is_refused(got, LIMIT, line(b"a limit is passed, see cec check " + file))
+
+
+def judge_cycle(done: Compiled, name: bytes, got: Answer) -> Optional[tuple[str, Optional[str]]]:
+    """An outcome about the cycle of a source, and what is amiss; None where the answer has another one. The second source
+    of a comparison has its name in the line. Any cycle may be shown.
+    """
+    out, err, status = got
+    if status == STUCK:
+        try:
+            return "stuck", None if err == line(name + stuck_line(done, out)) else "stderr"
+        except Difference as difference:
+            return "stuck", str(difference)
+    if status == UNDECIDED and err.startswith(b"cec-prove: " + name + b"undecided: "):
+        return "undecided cycle", "stdout" if out else None
+    if status == LIMIT and err.startswith(b"cec-prove: " + name + b"limit: nets: "):
+        return "too many nets", "stdout" if out else None
+    return None
+
+
+def judge_cycles(asked: Asked, done: Sequence[Subject], got: Answer) -> Optional[tuple[str, Optional[str]]]:
+    """The same of all sources. Every other outcome says that none of them is known to stop."""
+    names = [b"", asked.files[-1] + b": "]
+    spoken = 1 if len(done) == 2 and got[1].startswith(b"cec-prove: " + names[1]) else 0
+    for number, subject in enumerate(done):
+        if not isinstance(subject, Compiled) or not has_cycle(subject):
+            continue
+        about = judge_cycle(subject, names[number], got) if number == spoken else None
+        if about is not None:
+            return about
+        if stuck_state(subject):
+            return "constructive", "some events lead to an instant that is not constructive"
+    return None
 
 
 def judge_text(refused: Refused, text: bytes, name: bytes, got: Answer) -> Optional[str]:
@@ -95,6 +131,15 @@ def events_of(done: Subject, text: bytes, is_one_line: bool = False) -> tuple[li
     return events, None if events else "trace: no instant"
 
 
+def is_constructive(runner: Runner, event: Sequence[bool]) -> bool:
+    """Runs one instant; false where the program has no reaction."""
+    try:
+        runner.react(event)
+    except Outcome:
+        return False
+    return True
+
+
 def judge_trace(question: Question, text: bytes, is_one_line: bool = False) -> Optional[str]:
     """A trace breaks the claim in its last instant alone."""
     events, note = events_of(question.done, text, is_one_line)
@@ -102,7 +147,8 @@ def judge_trace(question: Question, text: bytes, is_one_line: bool = False) -> O
     for number, event in enumerate(events):
         if broken:
             return "trace: the claim is broken before the last instant"
-        runner.react(event)
+        if not is_constructive(runner, event):
+            return "trace: instant %d is not constructive" % (number + 1)
         if not question.is_kept(runner.outputs):
             return "trace: what is assumed is absent in instant %d" % (number + 1)
         broken = question.is_broken(runner.outputs)
@@ -116,8 +162,8 @@ def judge_difference(one: Subject, two: Subject, text: bytes) -> Optional[str]:
     for event in events:
         if differs:
             return "trace: the programs differ before the last instant"
-        for runner in runners:
-            runner.react(event)
+        if not all([is_constructive(runner, event) for runner in runners]):
+            return "trace: an instant is not constructive"
         differs = (runners[0].outputs, runners[0].word) != (runners[1].outputs, runners[1].word)
     return note or (None if differs else "trace: its last reactions are the same")
 
@@ -216,7 +262,7 @@ def judge_covering(asked: Asked, text: bytes, done: Compiled, got: Answer) -> tu
     if len(lines) != len(points):
         return "covering", "%d lines of %d points" % (len(lines), len(points))
     try:
-        shown = Compiled(text, asked.main, change=covered)
+        shown = Compiled(text, asked.main, cyclic_ok=True, change=covered)
         place = done.out_names.index(asked.assumed) if asked.assumed is not None else None
         questions = [Question(shown, False, len(done.out_names) + number, place) for number in range(len(points))]
     except Outcome:
@@ -260,6 +306,9 @@ def judge(case: Case, got: Answer) -> tuple[str, Optional[str]]:
     done, faults = subjects_of(asked, case, got)
     if faults:
         return "refused", None if None in faults else faults[0]
+    about = judge_cycles(asked, done, got)
+    if about is not None:
+        return about
     if asked.command == b"same":
         return judge_comparison(done[0], done[1], got)
     if isinstance(done[0], Compiled) and asked.command == b"cover":
@@ -277,7 +326,7 @@ def subjects_of(asked: Asked, case: Case, got: Answer) -> tuple[list[Subject], l
             continue
         text = case.files[file]
         try:
-            done.append(Circuit(text) if asked.is_text else compile_source(text, asked.main))
+            done.append(Circuit(text) if asked.is_text else compile_source(text, asked.main, cyclic_ok=True))
         except Refused as refused:
             faults.append(judge_text(refused, text, file + b": " if number else b"", got))
         except Outcome as outcome:

@@ -1,4 +1,5 @@
-"""What `cec-opt --source` answers about a source whose dependencies have a cycle, against the least solutions of its graph.
+"""What `cec-opt --source` answers about a source whose dependencies have a cycle, against the least solutions of its graph, and
+what `cec-prove` says of it where it is not constructive.
 
 A trace to an instant that is not constructive is run again, exactly. Of a text, random events compare it with the reactions of the
 source, and where the state space is small, a search over all states and events looks for an instant that is not constructive.
@@ -11,12 +12,15 @@ import random
 import re
 from typing import Optional
 
+from fuzzing.embedded import check_calls, net_of_embedded
 from fuzzing.sources import event_items
 from fuzzing.written import Difference, need, net_of_text
 from rules.circuit_runs import TriMachine
 from rules.command import SourceRunner
 from rules.compiling import Compiled
 from rules.cycles import cycle_counts
+from rules.embedded_c import Layout
+from rules.optimizer import BAD_COMPONENT, Asked, component_line
 from rules.outcomes import Outcome
 from rules.simplification import simplified_violations
 from rules.texts import open_text
@@ -61,10 +65,9 @@ def stuck_state(done: Compiled) -> Optional[bool]:
     return False
 
 
-def check_stuck(done: Compiled, got: Answer) -> None:
-    """The trace meets the relations, and the last of its events is the first one that is not constructive."""
-    out, err, _ = got
-    items, fault = read_trace(out, done.in_names, done.relations)
+def stuck_line(done: Compiled, trace: bytes) -> bytes:
+    """The line about a trace that meets the relations, and whose last event is the first one that is not constructive."""
+    items, fault = read_trace(trace, done.in_names, done.relations)
     need(fault is None and items and "reset" not in items, "not a trace of events")
     runner = SourceRunner(done, "tri")
     for number, item in enumerate(items, 1):
@@ -72,9 +75,15 @@ def check_stuck(done: Compiled, got: Answer) -> None:
             runner.react(item)
         except Outcome as outcome:
             need(number == len(items), "instant %d of %d is not constructive", number, len(items))
-            need(err == b"cec-opt: " + outcome.line + b"\n", "the line is %r, not %r", err, outcome.line)
-            return
+            return outcome.line
     raise Difference("each instant of the trace is constructive")
+
+
+def check_stuck(done: Compiled, got: Answer) -> None:
+    """The line is that of the trace."""
+    out, err, _ = got
+    due = stuck_line(done, out)
+    need(err == b"cec-opt: " + due + b"\n", "the line is %r, not %r", err, due)
 
 
 def check_net(kind: str, done: Compiled, written: bytes, seed: int = 1) -> None:
@@ -110,20 +119,39 @@ def check_counts(done: Compiled, out: bytes) -> None:
     need((lines[1], int(lines[4]), int(lines[5])) == given, "another interface than %r", given)
 
 
-def check_answer(command: bytes, done: Compiled, got: Answer) -> None:
+def check_component(done: Compiled, component: bytes, written: bytes, layout: Layout) -> None:
+    """An embedded text does what the source does."""
+    net = net_of_embedded(written, component, layout, done.in_names, done.out_names)
+    if net is None:
+        return
+    need(net.inputs == done.in_names, "inputs %r, not %r", net.inputs, done.in_names)
+    need([name for name, _ in net.outputs] == done.out_names, "outputs %r", net.outputs)
+    need(not simplified_violations(net), "not simplified")
+    check_calls(written, net, component, layout, [SourceRunner(done, "tri") for _ in range(2)], done.relations)
+
+
+def check_answer(asked: Asked, done: Compiled, got: Answer) -> None:
     """Raises Difference where the answer about a source with a cycle is none that may come."""
     out, err, status = got
+    command = asked.command
     stuck = stuck_state(done)
+    line = component_line(asked.component, done.in_names + done.out_names) if asked.component is not None else None
+    need(status not in (DONE, BAD_COMPONENT) or (status == DONE) == (line is None), "status %r", status)
     if status == STUCK:
         check_stuck(done, got)
         need(stuck is not False, "no events lead to an instant that is not constructive")
     elif status == DONE:
         need(not err, "stderr %r", err)
         need(not stuck, "some events lead to an instant that is not constructive")
-        if command == b"check":
+        if asked.component is not None:
+            check_component(done, asked.component, out, asked.layout)
+        elif command == b"check":
             check_counts(done, out)
         else:
             check_net(command.decode(), done, out)
+    elif status == BAD_COMPONENT:
+        need(not out and err == b"cec-opt: " + (line or b"") + b"\n", "stderr %r, not %r", err, line)
+        need(not stuck, "some events lead to an instant that is not constructive")
     elif status == UNDECIDED:
         need(not out and err.startswith(b"cec-opt: undecided: "), "stderr %r", err)
         need(stuck is None, "undecided, though the state space is small")

@@ -10,13 +10,16 @@ from typing import Optional
 
 from fuzzing.cases import Case
 from fuzzing.constructive import check_answer
+from fuzzing.embedded import check_calls, net_of_embedded
 from fuzzing.sources import event_items
 from fuzzing.written import Difference, need, net_of_text
 from rules.blif import Blif, read_blif
 from rules.compiling import compile_source, text_of
+from rules.embedded_c import Layout
 from rules.netlist import Net
 from rules.optimizer import (
     ABOUT,
+    BAD_COMPONENT,
     FILE_FAULT,
     LIMIT,
     STATIC,
@@ -24,7 +27,9 @@ from rules.optimizer import (
     Refused,
     asked_of,
     circuit_of,
+    component_line,
     gates_at_most,
+    plain_outputs,
 )
 from rules.outcomes import Outcome
 from rules.simplification import simplified_violations
@@ -74,19 +79,34 @@ def need_no_larger(blif: Blif, latches: int, gates: int, is_source: bool) -> Non
     need(gates <= gates_at_most(blif), "%d gates", gates)
 
 
+def need_small(blif: Blif, net: Net, is_source: bool) -> None:
+    """The interface of the text, no more than its size, and nothing left to simplify."""
+    need(net.inputs == blif.inputs, "inputs %r, not %r", net.inputs, blif.inputs)
+    need([name for name, _ in net.outputs] == plain_outputs(blif), "outputs %r", net.outputs)
+    need_no_larger(blif, len(net.latches), len(net.gates), is_source)
+    broken = simplified_violations(net)
+    need(not broken, "not simplified: %s", broken[:1])
+    need(not unseen(net), "nothing shows the nets %r", unseen(net)[:3])
+
+
+def check_embedded(
+    text: bytes, component: bytes, written: bytes, is_source: bool = False, layout: Layout = Layout()
+) -> None:
+    """Raises Difference where a written embedded text is none that may stand for the text."""
+    blif, _ = circuit_of(text)
+    net = net_of_embedded(written, component, layout, blif.inputs, plain_outputs(blif))
+    if net is not None:
+        need_small(blif, net, is_source)
+        check_calls(written, net, component, layout, [circuit_of(text)[1] for _ in range(2)])
+
+
 def check_text(kind: str, text: bytes, written: bytes, seed: int = 1, is_source: bool = False) -> None:
     """Raises Difference where a written text is none that may stand for the text."""
     blif, runner = circuit_of(text)
     net = net_of_text(kind, written, blif.name)
     need(net.name == blif.name, "the name is %r and not %r", net.name, blif.name)
-    need(net.inputs == blif.inputs, "inputs %r, not %r", net.inputs, blif.inputs)
-    names = [name[:-4] if name.endswith(b".out") else name for name in blif.outputs[:-1]]
-    need([name for name, _ in net.outputs] == names, "outputs %r", net.outputs)
-    need_no_larger(blif, len(net.latches), len(net.gates), is_source)
+    need_small(blif, net, is_source)
     need(all(wire is None for _, wire in net.gates), "a gate carries a wire")
-    broken = simplified_violations(net)
-    need(not broken, "not simplified: %s", broken[:1])
-    need(not unseen(net), "nothing shows the nets %r", unseen(net)[:3])
     other = open_text(kind, written)
     rng = random.Random(seed)
     instant = 0
@@ -137,6 +157,8 @@ def judge(case: Case, got: Answer) -> tuple[str, Optional[str]]:
             told = (ABOUT[asked.command], b"", 0)
             return "Done", None if got == told else "what it writes about itself"
         text = text_asked(case, asked)
+        if asked.component is not None:
+            need_component(asked.component, text)
     except Refused as refused:
         return "Refused", judge_refusal(case, refused, got)
     except Outcome as outcome:
@@ -146,7 +168,9 @@ def judge(case: Case, got: Answer) -> tuple[str, Optional[str]]:
     if status != 0 or err:
         return "Done", "status %r, err %r" % (status, err)
     try:
-        if asked.command == b"check":
+        if asked.component is not None:
+            check_embedded(text, asked.component, out, asked.is_source, asked.layout)
+        elif asked.command == b"check":
             check_counts(text, out, asked.is_source)
         else:
             check_text(asked.command.decode(), text, out, is_source=asked.is_source)
@@ -155,12 +179,20 @@ def judge(case: Case, got: Answer) -> tuple[str, Optional[str]]:
     return "Done", None
 
 
+def need_component(component: bytes, text: bytes) -> None:
+    """Raises Refused where the circuit of a text has no embedded text under a name."""
+    blif, _ = circuit_of(text)
+    line = component_line(component, blif.inputs + plain_outputs(blif))
+    if line is not None:
+        raise Refused(BAD_COMPONENT, line)
+
+
 def judge_cyclic(case: Case, asked: Asked, got: Answer) -> tuple[str, Optional[str]]:
     """A source whose dependencies have a cycle."""
     assert asked.file is not None
-    kind = {0: "Constructive", 12: "NotConstructive"}.get(got[2], "Undecided")
+    kind = {0: "Constructive", BAD_COMPONENT: "Constructive", 12: "NotConstructive"}.get(got[2], "Undecided")
     try:
-        check_answer(asked.command, compile_source(case.files[asked.file], asked.main, cyclic_ok=True), got)
+        check_answer(asked, compile_source(case.files[asked.file], asked.main, cyclic_ok=True), got)
     except Difference as difference:
         return kind, "cycle: %s" % difference
     return kind, None
@@ -189,5 +221,5 @@ def judge_refusal(case: Case, refused: Refused, got: Answer) -> Optional[str]:
     head = b"cec-opt: loop: "
     if refused.names and err.startswith(head) and err.endswith(b"\n"):
         names = err[len(head) : -1].split(b" -> ")
-        return None if is_loop(read_blif(case.files[case.words[1]]).uses(), names) else "not a loop"
+        return None if is_loop(read_blif(case.files[asked_of(case.words).file or b""]).uses(), names) else "not a loop"
     return "stderr"

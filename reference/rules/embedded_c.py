@@ -1,17 +1,17 @@
-"""Embedded C: the text of a netlist, the reader of such texts, the rules on names, and calls on instances.
+"""Embedded C: the texts of a netlist, the reader of such texts, the rules on names, and calls on instances.
 
 Stands for `Tokens`, `Grammar`, `Names`, `Machine`, `Written` and `Faults` (crates/csub_embed/specs/).
 """
 
 from __future__ import annotations
 
-from typing import Any, Optional, Sequence
-
 import re
+from dataclasses import dataclass
+from typing import Any, Optional, Sequence
 
 from rules.netlist import Net
 
-TOKEN = re.compile(rb"[ \t\n\f\r]+|/\*.*?\*/|([A-Za-z_][A-Za-z0-9_]*|->|&&|\|\||[(){};=*,!])", re.DOTALL)
+TOKEN = re.compile(rb"[ \t\n\f\r]+|/\*.*?\*/|([A-Za-z0-9_]+|->|&&|\|\||[(){};:=*,!])", re.DOTALL)
 
 RESERVED = set(
     b"""alignas alignof and and_eq asm auto bitand bitor bool break case catch char char16_t char32_t char8_t class co_await
@@ -31,17 +31,28 @@ uint_fast8 uint_least16 uint_least32 uint_least64 uint_least8 uintmax uintptr us
 )
 
 
+HEADER, DECLARATIONS, DEFINITIONS = "header", "declarations", "definitions"
+
+
 class NotEmbedded(Exception):
     """The text is no embedded one."""
 
 
-def name_fault(net: Net, name: bytes) -> Optional[tuple[str, bytes]]:
-    """Why a net has no embedded text under a name."""
+@dataclass(frozen=True)
+class Layout:
+    """How a text is laid out: whether each latch takes one bit of the state, and which file the text is."""
+
+    packed: bool = False
+    file: str = HEADER
+
+
+def name_fault(name: bytes, signals: Sequence[bytes]) -> Optional[tuple[str, bytes]]:
+    """Why a net with these signals, inputs before outputs, has no embedded text under a name."""
     if not re.fullmatch(rb"[A-Za-z][A-Za-z0-9_]*", name):
         return ("NoName", b"")
     if name in TYPES:
         return ("TypeTaken", b"")
-    for signal in net.inputs + [output for output, _ in net.outputs]:
+    for signal in signals:
         if signal in RESERVED:
             return ("Reserved", signal)
     return None
@@ -68,43 +79,72 @@ def value_text(net: Net, op: Any) -> bytes:
     return place_text(net, op[1]) + (b" && " if op[0] == "and" else b" || ") + place_text(net, op[2])
 
 
-def structure(kind: bytes, members: Sequence[bytes]) -> list[bytes]:
-    lines = [b"    bool %s;" % member for member in members] or [b"    uint8_t unused;"]
+def lines_before(name: bytes, file: str) -> list[bytes]:
+    """The lines for the preprocessor before the text."""
+    if file == DEFINITIONS:
+        return [b'#include "%s.h"' % name]
+    lines = [b"#ifndef %s_H" % name, b"#define %s_H" % name, b"", b"#include <stdbool.h>", b"#include <stdint.h>"]
+    return lines + [b"", b"#ifdef __cplusplus", b'extern "C" {', b"#endif"] * (file == DECLARATIONS)
+
+
+# Those after it.
+LINES_AFTER = {
+    HEADER: [b"", b"#endif"],
+    DECLARATIONS: [b"", b"#ifdef __cplusplus", b"}", b"#endif", b"", b"#endif"],
+    DEFINITIONS: [],
+}
+
+
+def structure(kind: bytes, members: Sequence[bytes], packed: bool = False) -> list[bytes]:
+    width = b" : 1" if packed else b""
+    lines = [b"    bool %s%s;" % (member, width) for member in members] or [b"    uint8_t unused;"]
     return [b"", b"typedef struct {", *lines, b"} %s;" % kind]
 
 
-def write_embedded(net: Net, name: bytes) -> bytes:
-    """The text of a netlist under a name."""
-    outputs = [output for output, _ in net.outputs]
-    states = [b"state%d" % j for j in range(len(net.latches))]
+def functions_of(net: Net, reset: bytes, react: bytes) -> list[bytes]:
+    """The functions, which begin so."""
     read = [n for op, _ in net.gates if op[0] != "const" for n in op[1:]]
     read += [n for _, n in net.latches] + [n for _, n in net.outputs] + [net.paused]
-    lines = [b"#ifndef %s_H" % name, b"#define %s_H" % name, b"", b"#include <stdbool.h>", b"#include <stdint.h>", b""]
-    lines.append(b"/* %s, by cec-opt 0.1.0: cec-opt c --embed. Any number of instances." % name)
-    lines.append(b" * Reset an instance before its first call of react; react returns whether it is still running. */")
-    lines += structure(name + b"_t", states) + structure(name + b"_inputs_t", net.inputs) + structure(name + b"_outputs_t", outputs)
-    lines += [b"", b"static inline void %s_reset(%s_t *self)" % (name, name), b"{"]
+    lines = [b"", reset, b"{"]
     lines += [b"    self->state%d = %s;" % (j, b"true" if init else b"false") for j, (init, _) in enumerate(net.latches)]
-    if not states:
+    if not net.latches:
         lines.append(b"    (void)self;")
-    head = b"static inline bool %s_react(%s_t *self, const %s_inputs_t *in, %s_outputs_t *out)" % (name, name, name, name)
-    lines += [b"}", b"", head, b"{"]
-    used = [(b"self", bool(states)), (b"in", any(n < len(net.inputs) for n in read)), (b"out", bool(outputs))]
+    lines += [b"}", b"", react, b"{"]
+    used = [(b"self", bool(net.latches)), (b"in", any(n < len(net.inputs) for n in read)), (b"out", bool(net.outputs))]
     lines += [b"    (void)%s;" % parameter for parameter, is_used in used if not is_used]
     lines += [b"    const bool g%d = %s;" % (k, value_text(net, op)) for k, (op, _) in enumerate(net.gates)]
     lines += [b"    const bool next%d = %s;" % (j, place_text(net, source)) for j, (_, source) in enumerate(net.latches)]
     lines.append(b"    const bool running = %s;" % place_text(net, net.paused))
     lines += [b"    out->%s = %s;" % (output, place_text(net, source)) for output, source in net.outputs]
     lines += [b"    self->state%d = next%d;" % (j, j) for j in range(len(net.latches))]
-    lines += [b"    return running;", b"}", b"", b"#endif"]
-    return b"".join(line + b"\n" for line in lines)
+    return lines + [b"    return running;", b"}"]
+
+
+def write_embedded(net: Net, name: bytes, layout: Layout = Layout()) -> bytes:
+    """The text of a netlist under a name."""
+    outputs = [output for output, _ in net.outputs]
+    states = [b"state%d" % j for j in range(len(net.latches))]
+    linkage = b"static inline " if layout.file == HEADER else b""
+    reset = linkage + b"void %s_reset(%s_t *self)" % (name, name)
+    react = linkage + b"bool %s_react(%s_t *self, const %s_inputs_t *in, %s_outputs_t *out)" % (name, name, name, name)
+    lines = lines_before(name, layout.file) + [b""]
+    lines.append(b"/* %s, by cec-opt 0.1.0: cec-opt c --embed. Any number of instances." % name)
+    lines.append(b" * Reset an instance before its first call of react; react returns whether it is still running. */")
+    if layout.file != DEFINITIONS:
+        lines += structure(name + b"_t", states, layout.packed)
+        lines += structure(name + b"_inputs_t", net.inputs) + structure(name + b"_outputs_t", outputs)
+    if layout.file == DECLARATIONS:
+        lines += [b"", reset + b";", react + b";"]
+    else:
+        lines += functions_of(net, reset, react)
+    return b"".join(line + b"\n" for line in lines + LINES_AFTER[layout.file])
 
 
 # ---- reading
 
 
 class Component:
-    """What a text describes: a place is ('self' | 'in', NAME) or ('', LOCAL), a value a bit, a place, or an operator on places."""
+    """What files describe: a place is ('self' | 'in', NAME) or ('', LOCAL), a value a bit, a place, or an operator on places."""
 
     def __init__(self, name: bytes) -> None:
         self.name = name
@@ -138,8 +178,16 @@ class Reader:
         return self.tokens[self.at] if self.at < len(self.tokens) else b""
 
     def any(self) -> bytes:
+        if not self.next():
+            raise NotEmbedded("the end")
         self.at += 1
         return self.tokens[self.at - 1]
+
+    def bit(self) -> bool:
+        word = self.any()
+        if word not in (b"true", b"false"):
+            raise NotEmbedded("%r where a bit must be" % word)
+        return word == b"true"
 
     def take(self, *tokens: bytes) -> None:
         for token in tokens:
@@ -147,7 +195,7 @@ class Reader:
                 raise NotEmbedded("%r where %r must be" % (self.next(), token))
             self.at += 1
 
-    def structure(self, kind: bytes) -> list[bytes]:
+    def structure(self, kind: bytes, packed: bool = False) -> list[bytes]:
         members = []
         self.take(b"typedef", b"struct", b"{")
         if self.next() == b"uint8_t":
@@ -156,6 +204,8 @@ class Reader:
             while self.next() == b"bool":
                 self.take(b"bool")
                 members.append(self.any())
+                if packed:
+                    self.take(b":", b"1")
                 self.take(b";")
         self.take(b"}", kind, b";")
         return members
@@ -169,7 +219,7 @@ class Reader:
 
     def value(self) -> Any:
         if self.next() in (b"true", b"false"):
-            return self.any() == b"true"
+            return self.bit()
         if self.next() == b"!":
             self.take(b"!")
             return ("!", self.place())
@@ -189,37 +239,62 @@ class Reader:
         return found
 
 
-def read_embedded(text: bytes) -> Component:
-    """The component that a text describes."""
-    first = re.match(rb"#ifndef (\w+)_H\n#define (\w+)_H\n\n#include <stdbool.h>\n#include <stdint.h>\n", text)
-    if first is None or first[1] != first[2] or not text.endswith(b"\n#endif\n"):
+    def heads(self, name: bytes, file: str) -> tuple[list[bytes], list[bytes]]:
+        """The tokens with which the functions begin."""
+        linkage = [b"static", b"inline"] if file == HEADER else []
+        reset = [*linkage, b"void", name + b"_reset", b"(", name + b"_t", b"*", b"self", b")"]
+        react = [*linkage, b"bool", name + b"_react", b"(", name + b"_t", b"*", b"self", b","]
+        react += [b"const", name + b"_inputs_t", b"*", b"in", b",", name + b"_outputs_t", b"*", b"out", b")"]
+        return reset, react
+
+    def functions(self, c: Component, file: str) -> None:
+        reset, react = self.heads(c.name, file)
+        self.take(*reset, b"{")
+        while self.next() == b"self":
+            self.take(b"self", b"->")
+            name = self.any()
+            self.take(b"=")
+            c.states.append((name, self.bit()))
+            self.take(b";")
+        if not c.states:
+            self.take(b"(", b"void", b")", b"self", b";")
+        self.take(b"}", *react, b"{")
+        while self.next() == b"(":
+            self.take(b"(", b"void", b")")
+            c.ignored.append(self.any())
+            self.take(b";")
+        while self.next() == b"const":
+            self.take(b"const", b"bool")
+            name = self.any()
+            self.take(b"=")
+            c.locals.append((name, self.value()))
+            self.take(b";")
+        c.shown, c.kept = self.stores(b"out"), self.stores(b"self")
+        self.take(b"return")
+        c.answer = self.place()
+        self.take(b";", b"}")
+
+
+def read_embedded(text: bytes, name: bytes, layout: Layout = Layout()) -> Component:
+    """The component with this name that a file describes. Declarations have no functions and no first values of states,
+    and definitions have neither inputs nor outputs."""
+    before = b"".join(line + b"\n" for line in lines_before(name, layout.file))
+    after = b"".join(line + b"\n" for line in LINES_AFTER[layout.file])
+    if len(text) < len(before) + len(after) or not text.startswith(before) or not text.endswith(after):
         raise NotEmbedded("the lines for the preprocessor")
-    c, r = Component(first[1]), Reader(tokens_of(text[first.end() : -len(b"\n#endif\n")]))
-    names = r.structure(c.name + b"_t")
-    c.inputs, c.outputs = r.structure(c.name + b"_inputs_t"), r.structure(c.name + b"_outputs_t")
-    r.take(b"static", b"inline", b"void", c.name + b"_reset", b"(", c.name + b"_t", b"*", b"self", b")", b"{")
-    for name in names:
-        r.take(b"self", b"->", name, b"=")
-        c.states.append((name, {b"true": True, b"false": False}[r.any()]))
-        r.take(b";")
-    if not names:
-        r.take(b"(", b"void", b")", b"self", b";")
-    r.take(b"}", b"static", b"inline", b"bool", c.name + b"_react", b"(", c.name + b"_t", b"*", b"self", b",")
-    r.take(b"const", c.name + b"_inputs_t", b"*", b"in", b",", c.name + b"_outputs_t", b"*", b"out", b")", b"{")
-    while r.next() == b"(":
-        r.take(b"(", b"void", b")")
-        c.ignored.append(r.any())
-        r.take(b";")
-    while r.next() == b"const":
-        r.take(b"const", b"bool")
-        name = r.any()
-        r.take(b"=")
-        c.locals.append((name, r.value()))
-        r.take(b";")
-    c.shown, c.kept = r.stores(b"out"), r.stores(b"self")
-    r.take(b"return")
-    c.answer = r.place()
-    r.take(b";", b"}")
+    c, r = Component(name), Reader(tokens_of(text[len(before) : len(text) - len(after)]))
+    states: list[bytes] = []
+    if layout.file != DEFINITIONS:
+        states = r.structure(name + b"_t", layout.packed)
+        c.inputs, c.outputs = r.structure(name + b"_inputs_t"), r.structure(name + b"_outputs_t")
+    if layout.file == DECLARATIONS:
+        for head in r.heads(name, layout.file):
+            r.take(*head, b";")
+        c.states = [(state, False) for state in states]
+    else:
+        r.functions(c, layout.file)
+        if layout.file == HEADER and [state for state, _ in c.states] != states:
+            raise NotEmbedded("the states are not those of the structure")
     if r.next():
         raise NotEmbedded("more tokens")
     return c

@@ -11,13 +11,27 @@ from dataclasses import dataclass
 from typing import Optional, Sequence
 
 from rules.blif import Blif, NetRunner, read_blif
+from rules.embedded_c import DECLARATIONS, DEFINITIONS, HEADER, Layout, name_fault
 from rules.outcomes import text_line
 from rules.text_faults import TextFault
 
 COMMANDS = (b"blif", b"c", b"verilog", b"check")
 HELP = b"""cec-opt blif TEXT      writes the optimized circuit of TEXT, a BLIF file, as BLIF
 cec-opt c TEXT         the same as C
+cec-opt c --embed NAME TEXT
+                       the same as embedded C: a header for any number of instances of NAME
+    --packed           after NAME: one bit for each latch of an instance
+    --declarations     after NAME: of two files the header NAME.h, with the types and the prototypes
+    --definitions      after NAME: of two files the other one, NAME.c, which includes NAME.h
+    --header           after NAME: one header with all of it, as without a word for a file
 cec-opt verilog TEXT   the same as structural Verilog
+cec-opt verilog --reset NAME TEXT
+                       the same as Verilog for synthesis, with the reset NAME at edges of the clock
+    --async            after NAME: the reset takes effect at once
+    --active-low       after NAME: the reset is active where its port is low
+    --initial          after NAME: the registers have their first values at power-up too
+    --module M         after NAME: the name of the module, in place of the circuit's
+    --prefix           after NAME: inputs are i_X and outputs o_X, where X is the signal
 cec-opt check TEXT     writes the sizes of the circuit and of the optimized one
     --source FILE      in place of TEXT: compiles the source FILE, with its state plain and in a code,
                        and takes the lighter circuit; a latch weighs as much as four gates
@@ -30,7 +44,19 @@ cec-opt --version      writes the program's name and version
 ABOUT = {b"--help": HELP, b"--version": b"cec-opt 0.1.0\n"}
 NAME = re.compile(rb"[A-Za-z][A-Za-z0-9_]*\Z")
 SOURCE, MAIN = OPTIONS = (b"--source", b"--main")
-USAGE, FILE_FAULT, STATIC, BAD_TEXT, LIMIT = 2, 3, 4, 7, 8
+EMBED, PACKED = b"--embed", b"--packed"
+RESET, MODULE = b"--reset", b"--module"
+# The words after `verilog --reset NAME` that have no value.
+FLAGS = (b"--async", b"--active-low", b"--initial", b"--prefix")
+# The words for the file of embedded C.
+FILES = {b"--header": HEADER, b"--declarations": DECLARATIONS, b"--definitions": DEFINITIONS}
+USAGE, FILE_FAULT, STATIC, BAD_TEXT, LIMIT, BAD_COMPONENT = 2, 3, 4, 7, 8, 14
+# The lines of the faults of a component, without the signal at fault.
+COMPONENT_LINES = {
+    "NoName": b"the name after --embed is not a letter followed by letters, digits and _",
+    "TypeTaken": b"the name after --embed, with _t, is a type of the library",
+    "Reserved": b"a signal is a word of C or C++: ",
+}
 
 
 class Refused(Exception):
@@ -51,6 +77,13 @@ class Asked:
     file: Optional[bytes] = None
     is_source: bool = False
     main: Optional[bytes] = None
+    # The name of the component of embedded C, and its layout.
+    component: Optional[bytes] = None
+    layout: Layout = Layout()
+    # The name of the reset of Verilog with one, and the words about it.
+    reset: Optional[bytes] = None
+    flags: tuple[bytes, ...] = ()
+    module: Optional[bytes] = None
 
 
 def misuse(line: bytes) -> Refused:
@@ -73,18 +106,77 @@ def asked_of(words: Sequence[bytes]) -> Asked:
         return Asked(first)
     if first not in COMMANDS:
         raise misuse(b"unknown word: " + first)
+    if first == b"verilog" and rest and rest[0] == RESET:
+        return reset_asked(rest[1:])
+    component, layout = None, Layout()
+    if first == b"c" and rest and rest[0] == EMBED:
+        if len(rest) == 1:
+            raise misuse(b"no value after " + EMBED)
+        component, rest = rest[1], rest[2:]
+        if not is_plain(component):
+            raise misuse(b"bad option: " + EMBED)
+        layout, rest = laid_out(rest)
     if not rest:
         raise misuse(b"no file after " + first)
     if is_plain(rest[0]):
         if len(rest) > 1:
             raise misuse(b"one word too many: " + rest[1])
-        return Asked(first, rest[0])
+        return Asked(first, rest[0], component=component, layout=layout)
     if len(rest) == 1:
         raise misuse((b"no value after " if rest[0] in OPTIONS else b"not a file: ") + rest[0])
     given = options_of(rest)
     if SOURCE not in given:
         raise misuse(b"no file after " + first)
-    return Asked(first, given[SOURCE], True, given.get(MAIN))
+    return Asked(first, given[SOURCE], True, given.get(MAIN), component, layout)
+
+
+def reset_asked(words: Sequence[bytes]) -> Asked:
+    """What the words after `verilog --reset` ask for: the name of the reset, and words in any order."""
+    if not words:
+        raise misuse(b"no value after " + RESET)
+    if not is_plain(words[0]):
+        raise misuse(b"bad option: " + RESET)
+    given: dict[bytes, bytes] = {}
+    file: Optional[bytes] = None
+    flags: tuple[bytes, ...] = ()
+    waiting: Optional[bytes] = None
+    for word in words[1:]:
+        if waiting is not None:
+            taken = waiting in given or (file is not None and waiting in OPTIONS)
+            if taken or not is_plain(word):
+                raise misuse(b"bad option: " + waiting)
+            given[waiting], waiting = word, None
+        elif word in (MODULE, *OPTIONS):
+            waiting = word
+        elif is_plain(word):
+            if file is not None or SOURCE in given or MAIN in given:
+                raise misuse(b"one word too many: " + word)
+            file = word
+        elif word not in FLAGS or word in flags:
+            raise misuse(b"bad option: " + word)
+        else:
+            flags += (word,)
+    if waiting is not None:
+        raise misuse(b"no value after " + waiting)
+    source, module = given.get(SOURCE), given.get(MODULE)
+    if source is None and (file is None or MAIN in given):
+        raise misuse(b"no file after verilog")
+    is_source = source is not None
+    return Asked(b"verilog", source or file, is_source, given.get(MAIN), reset=words[0], flags=flags, module=module)
+
+
+def laid_out(words: Sequence[bytes]) -> tuple[Layout, Sequence[bytes]]:
+    """The layout that one or two words at the front ask for, and the words after them."""
+    packed, file, rest = False, None, words
+    while rest and len(words) - len(rest) < 2 and (rest[0] == PACKED or rest[0] in FILES):
+        if packed if rest[0] == PACKED else file is not None:
+            raise misuse(b"bad option: " + rest[0])
+        if rest[0] == PACKED:
+            packed = True
+        else:
+            file = FILES[rest[0]]
+        rest = rest[1:]
+    return Layout(packed, file or HEADER), rest
 
 
 def options_of(words: Sequence[bytes]) -> dict[bytes, bytes]:
@@ -138,6 +230,17 @@ def circuit_of(text: bytes) -> tuple[Blif, NetRunner]:
         return blif, NetRunner(blif)
     except TextFault as fault:
         raise Refused(BAD_TEXT, text_line(fault), fault.data)
+
+
+def plain_outputs(blif: Blif) -> list[bytes]:
+    """The names of the outputs except `_paused`; one with the name of an input has no `.out`."""
+    return [name[:-4] if name.endswith(b".out") else name for name in blif.outputs[:-1]]
+
+
+def component_line(name: bytes, signals: Sequence[bytes]) -> Optional[bytes]:
+    """The line of the first fault of the name of a component and of its signals."""
+    fault = name_fault(name, signals)
+    return None if fault is None else COMPONENT_LINES[fault[0]] + fault[1]
 
 
 def gates_at_most(blif: Blif) -> int:

@@ -3,7 +3,8 @@
 Stands for `Words`, `Lines` and `Statuses` (crates/cec_prove_commands/specs/), for `Claims`, `Verdicts`, `Surveys`,
 `Sameness` and `TraceTexts` (crates/cec_prove_sources/specs/), for `Coverings` and `Lines`
 (crates/cec_prove_covers/specs/), and for `Devices`, `Claims`, `Verdicts`, `Surveys` and `Sameness`
-(crates/cec_prove_texts/specs/). Whether an answer comes at all is free: `undecided` may come for any program.
+(crates/cec_prove_texts/specs/), and for `Answers` (crates/cec_prove_cycles/specs/). Whether an answer comes at all is
+free: `undecided` may come for any program.
 """
 
 from __future__ import annotations
@@ -12,6 +13,7 @@ import itertools
 from typing import Optional, Sequence, Union
 
 from rules.blif import NetRunner
+from rules.circuit_runs import TriMachine
 from rules.command import SourceRunner
 from rules.compiling import Compiled
 from rules.netlist import NetMachine
@@ -22,7 +24,7 @@ CLAIMS = (b"never", b"always")
 COMMANDS = CLAIMS + (b"all", b"cover", b"same")
 OWN_WORDS = (b"--help", b"--version")
 LEVELS = tuple(b"%d" % number for number in range(1, 10))
-PROVED, USAGE, FILE_FAULT, REFUSED, REFUTED, UNDECIDED, NO_SIGNAL, OTHER = 0, 2, 3, 4, 20, 21, 22, 23
+PROVED, USAGE, FILE_FAULT, STATIC, LIMIT, STUCK, REFUTED, UNDECIDED, NO_SIGNAL, OTHER = 0, 2, 3, 4, 8, 12, 20, 21, 22, 23
 # The option that has no value: the files are texts.
 TEXT = b"--text"
 # A search over more inputs or more reactions than this is given up.
@@ -65,13 +67,15 @@ def options_of(words: Sequence[bytes], command: bytes) -> dict[bytes, bytes]:
     left = list(words)
     while left:
         key = left.pop(0)
+        takes = {b"--effort": True, b"--main": TEXT not in options, b"--assume": command != b"same"}
+        if is_plain(key):
+            raise Misuse(b"one word too many: " + key)
         if key == TEXT:
             is_known, is_fit, value = command != b"cover" and b"--main" not in options, True, b""
-        elif not left:
+        elif not left and key in takes:
             raise Misuse(b"no value after " + key)
         else:
-            value = left.pop(0)
-            takes = {b"--effort": True, b"--main": TEXT not in options, b"--assume": command != b"same"}
+            value = left.pop(0) if left else b""
             is_known = takes.get(key, False)
             is_fit = value in LEVELS if key == b"--effort" else is_plain(value)
         if key in options or not is_known or not is_fit:
@@ -117,6 +121,11 @@ class Circuit:
 Subject = Union[Compiled, Circuit]
 
 
+def has_cycle(done: Subject) -> bool:
+    """Whether the dependencies of a source have a cycle."""
+    return isinstance(done, Compiled) and done.shape.order() is None
+
+
 class CircuitMachine:
     """The machine of a circuit, whose state can be set."""
 
@@ -131,12 +140,17 @@ class CircuitMachine:
         return self.runner.outputs, self.runner.word
 
 
-def machine_of(done: Subject) -> Union[NetMachine, CircuitMachine]:
-    return CircuitMachine(done) if isinstance(done, Circuit) else NetMachine(done.shape.generate())
+def machine_of(done: Subject) -> Union[NetMachine, CircuitMachine, TriMachine]:
+    """Its reaction to an event is None where the program is not constructive."""
+    if isinstance(done, Circuit):
+        return CircuitMachine(done)
+    return TriMachine(done.shape) if has_cycle(done) else NetMachine(done.shape.generate())
 
 
 def runner_of(done: Subject) -> Union[SourceRunner, NetRunner]:
-    return NetRunner(done.blif) if isinstance(done, Circuit) else SourceRunner(done, "blif")
+    if isinstance(done, Circuit):
+        return NetRunner(done.blif)
+    return SourceRunner(done, "tri" if has_cycle(done) else "blif")
 
 
 class Question:
@@ -185,7 +199,10 @@ def first_breaks(questions: Sequence[Question]) -> list[tuple[str, int]]:
             if reactions > MOST_REACTIONS:
                 return [("unknown", depth - 1) if number in open_ones else it for number, it in enumerate(found)]
             machine.state = list(state)
-            outputs, _ = machine.react(event)
+            answer = machine.react(event)
+            if answer is None:
+                return [("unknown", depth - 1) if number in open_ones else it for number, it in enumerate(found)]
+            outputs, _ = answer
             if not questions[0].is_kept(outputs):
                 continue
             for number in [number for number in open_ones if questions[number].is_broken(outputs)]:
@@ -224,6 +241,8 @@ def first_difference(one: Subject, two: Subject) -> tuple[str, int]:
             for machine, state in zip(machines, states):
                 machine.state = list(state)
                 answers.append(machine.react(event))
+            if None in answers:
+                return "unknown", depth - 1
             if answers[0] != answers[1]:
                 return "in", depth
             after = tuple(tuple(machine.state) for machine in machines)

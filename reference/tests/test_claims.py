@@ -35,6 +35,13 @@ LATE = b""".model LATE
 """
 SOON = LATE.replace(b"11 1", b"1- 1")
 FILES = {b"b": BELL, b"f": ABRO, b"g": BY_HAND, b"h": AT_ONCE, b"o": ABRO.replace(b"O", b"P"), b"x": b"module M"}
+# A circle that is constructive by a relation, one that is not constructive, and none.
+CIRCLE = (
+    b"module M: input A, B; relation A # B; output X, Y; loop present [A and not Y] then emit X end; pause end"
+    b" || loop present [B and not X] then emit Y end; pause end end module"
+)
+STUCK = b"module E: output X; present X then emit X end end module"
+FILES.update({b"c": CIRCLE, b"e": STUCK, b"n": b"module E: output X; nothing end module"})
 FILES.update({b"l": LATE, b"s": SOON, b"q": LATE.replace(b"A seen O", b"A none O"), b"t": LATE.replace(b" P", b" Q")})
 PROVED, REFUTED = b"cec-prove: proved\n", b"cec-prove: refuted\n"
 ALL = b"cec-prove: all signals are decided\n"
@@ -44,6 +51,8 @@ LINES = b"O sometimes\nO present: A ; A ;\nO absent: ;\nP never\nA sometimes\nA 
 AWAITS = b"1:46: await reached: ;\n1:57: await reached: ;\n"
 RUNG = b"3:36: else reached: ; BUTTON ;\n3:36: emit reached: ; BUTTON ;\n3:51: halt reached: ; BUTTON ;\n"
 SEE = b", see cec-prove --help\n"
+STOP = b"instant 1: not constructive: out X, end . s . 0, go .0 s ., end .0 s . 0, go .1 s ., end .1 s . 0\n"
+HEAD = b"cec-prove: "
 # The words, standard output, standard error and the status of an answer that is right.
 RIGHT = [
     (b"never O f", b";\nA B ;\n", REFUTED, 20),
@@ -94,6 +103,17 @@ RIGHT = [
     (b"all l --main M --text", b"", b"cec-prove: bad option: --text" + SEE, 2),
     (b"all l --effort --text", b"", b"cec-prove: bad option: --effort" + SEE, 2),
     (b"same l l --text --assume P", b"", b"cec-prove: bad option: --assume" + SEE, 2),
+    (b"never X c", b"A ;\n", REFUTED, 20),
+    (b"never X c --assume Y", b"", PROVED, 0),
+    (b"all c", b"X sometimes\nX present: A ;\nX absent: ;\nY undecided\n", SOME, 21),
+    (b"same c c", b"", PROVED, 0),
+    (b"never X c --effort 1", b"", b"cec-prove: undecided: go .0 s . -> go .0 s .\n", 21),
+    (b"never X e", b";\n", HEAD + STOP, 12),
+    (b"cover e", b";\n", HEAD + STOP, 12),
+    (b"same n e", b";\n", HEAD + b"e: " + STOP, 12),
+    (b"same e n", b";\n", HEAD + STOP, 12),
+    (b"all f f", b"", b"cec-prove: one word too many: f" + SEE, 2),
+    (b"all f --main=M", b"", b"cec-prove: bad option: --main=M" + SEE, 2),
     (b"--help f", b"", b"cec-prove: one word too many: f" + SEE, 2),
     (b"prove O f", b"", b"cec-prove: unknown word: prove" + SEE, 2),
 ]
@@ -135,6 +155,15 @@ WRONG = [
     (b"same q l --text", b"", b"cec-prove: l: no driver: none\n", 7, "stderr"),
     (b"never O q --text", b"", b"cec-prove: no driver: none\n", 4, "status"),
     (b"cover l --text", b"", POINTS, 0, "status"),
+    (b"never X c", b"", PROVED, 0, "1 instants break the claim"),
+    (b"never X c", b"A ;\n", HEAD + STOP, 12, "each instant of the trace is constructive"),
+    (b"never X c", b"A B ;\n", REFUTED, 20, "trace"),
+    (b"never X e", b"", PROVED, 0, "not constructive"),
+    (b"never X e", b";\n;\n", HEAD + STOP, 12, "instant 1 of 2"),
+    (b"never X e", b";\n", HEAD + STOP, 20, "not constructive"),
+    (b"never X e", b";\n", HEAD + b"e: " + STOP, 12, "stderr"),
+    (b"same n e", b"", PROVED, 0, "not constructive"),
+    (b"same n e", b";\n", HEAD + STOP, 12, "not constructive"),
     (b"same f", b"", b"cec-prove: no file after same" + SEE, 2, "stderr"),
 ]
 

@@ -56,6 +56,10 @@ class Page:
         end = at if at is None else at + len(re.match(r"\w*", self.text[at:])[0] or self.text[at : at + 1])
         self.notes.append(Note(at, end, kind, words, kind != "note" if shows is None else shows))
 
+    def without_errors(self):
+        """Makes each error a note, where the program does what it was asked for in spite of it."""
+        self.notes = [it._replace(kind="note") if it.kind == "error" else it for it in self.notes]
+
     def lines(self):
         """The notes as lines of the form FILE:LINE:COLUMN: that compilers have, each with its line of the source where it is shown."""
         for note in self.notes:

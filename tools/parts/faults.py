@@ -4,7 +4,7 @@ import unicodedata
 
 from porting import COMPARED, ROWS, test_words
 from source import all_statements, modules_of
-from tokens import Unread
+from tokens import Unread, readable_tokens
 
 GREATEST_COUNT = 255
 MARKS = {
@@ -19,12 +19,14 @@ MARKS = {
     '"': "there are no strings, since signals carry no values here",
     "'": "there are no characters, since signals carry no values here",
     "_": "a name begins with a letter; `_` may follow",
-    "@": "`@` begins nothing here",
     "$": "`$` begins nothing here",
     "`": "a backquote begins nothing here",
     "\\": "a backslash begins nothing here; a statement goes on in the next line without a mark",
 }
 VALUE_MARKS = "<>+*"
+# A wait for an event, and a choice between two values, as Verilog and C have them.
+EDGE = re.compile(r"@\s*\(?\s*(?:posedge\s|negedge\s)?\s*([A-Za-z]\w*)\s*\)?")
+CHOICE = re.compile(r"\?[^;?:]*:")
 IN_TEST = re.compile(r"(?:[(\[]|\b(?:if|elsif|present|await|when|while|until|every|each|case|immediate|and|or|not))\s*\Z")
 
 
@@ -45,6 +47,10 @@ def why_bad_byte(text, at):
     compared = why_compared(text, at)
     if compared:
         return compared
+    if rest[0] == "@":
+        return why_at_sign(rest)
+    if CHOICE.match(rest) and readable_tokens(text[:at])[-2:-1] and readable_tokens(text[:at])[-2].kind in ("name", "number", ")", "]"):
+        return "a choice is a statement, since signals carry no values here: `present A then p else q end`"
     if rest[0] == "=":
         return why_bad_equals(text, at)
     if rest[:2] == "!=":
@@ -54,6 +60,13 @@ def why_bad_byte(text, at):
     if rest[0] in MARKS:
         return MARKS[rest[0]]
     return why_other_byte(rest)
+
+
+def why_at_sign(rest):
+    """What to write in place of an `@` and the event after it."""
+    found = EDGE.match(rest)
+    event = found[1] if found else "A"
+    return "`await %s` waits for %s, and `every %s do p end` runs p at each one; signals have no edges" % (event, event, event)
 
 
 def why_compared(text, at):
@@ -72,7 +85,7 @@ def why_bad_equals(text, at):
         return "there is no `:=`; " + ROWS["var"].words()
     if re.match(r"==", text[at:]):
         return "there is nothing to compare, since signals carry no values here"
-    if re.search(r"\bconstant\s+\w+\s*\Z", text[:at]):
+    if re.search(r"\b(?:constant|const|parameter|localparam)\s+\w+\s*\Z", text[:at]):
         return ROWS["constant"].words()
     return "a lone `=` begins nothing; a relation is written `A => B` or `A # B`"
 

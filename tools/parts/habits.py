@@ -1,5 +1,6 @@
 """What people write from other languages, or by a slip, and what to write here: notes about a fault of syntax."""
 import difflib
+import re
 
 from indentation import NAMED_ENDS
 from porting import COMPARED, test_words, word_before
@@ -22,6 +23,7 @@ TESTS = ("await", "when", "every", "each", "immediate")
 STATEMENTS_OF_OTHERS = {
     ("if",): "a test of a signal is written `present A then p else q end`",
     ("while", "until"): "a loop that ends at an event is written `abort loop p end when e`",
+    ("forever",): "`loop p end` runs p again and again; it ends by an `abort` around it, or by an `exit`",
     ("for", "foreach"): "`repeat 3 times p end` runs p three times, and `await 3 A` waits for the third A",
     ("switch", "select", "match", "case"): "tests in turn are written `present case A do p case B do q end`",
     ("begin", "par", "fork", "parallel", "do"): "statements are grouped by `[ .. ]`, and `[ p || q ]` runs two in parallel",
@@ -30,11 +32,19 @@ STATEMENTS_OF_OTHERS = {
     ("set", "assign", "output", "send", "signals"): "`emit S` makes S present at this instant, `sustain S` at every instant",
     ("delay", "sleep", "timer"): "`await 3 TICK` waits for the third TICK, an input that a timer gives",
     ("when", "on"): "`every A do p end` runs p at each A, and `await A; p` at the next one",
-    ("always", "initial", "process"): "a module's body starts once; `every A do p end` runs p at each A",
-    ("local", "wire", "reg", "bool", "boolean", "int"): "a local signal is declared by `signal S in p end`, and has no value",
+    ("always", "always_ff", "always_comb", "process"): "an instant is a turn of the clock: `loop p; pause end` runs p in each instant,"
+    " and `every A do p end` at each A",
+    ("initial",): "the body of a module starts once, in the first instant: write its statements without `initial`",
+    ("local", "wire", "reg", "logic", "bit", "bool", "boolean", "int"): "a local signal is declared by `signal S in p end`, and has no value",
+    ("parameter", "localparam", "const"): "there are no constants: write the number where it is used, as in `await 5 TICK`",
+    ("assert", "property"): "a property is an observer in parallel, such as `every immediate [A and B] do emit BAD end`, with an output BAD;"
+    " `cec-prove never BAD FILE` proves it (docs/proving.md)",
     ("call", "start", "instance"): "the body of another module is run by `run M [signal A/X]`",
 }
 NOTE_OF_WORD = {word: note for words, note in STATEMENTS_OF_OTHERS.items() for word in words}
+# An `end` and the word of its statement as one word.
+ENDS_OF_OTHERS = re.compile(r"end_?(%s|if|case|while|for|function|task|generate|property)" % "|".join(NAMED_ENDS))
+DELAY_OF_OTHERS = re.compile(r"#\s*(\d+)")
 # What to say where a single word could follow and another token does.
 IN_PLACE = {
     "do": "`do` is missing here",
@@ -53,6 +63,10 @@ def about_ports(before, now):
     kinds = [token.kind for token in before]
     if now.kind == "(" and kinds[-2:] == ["module", "name"]:
         return "a module has no list of ports: write `module %s:` here, and then the declarations, as `input A, B; output O;`" % before[-1].text
+    if now.kind == "#" and kinds[-2:] == ["module", "name"]:
+        return "a module has no parameters: write `module %s:` here, and each number where it is used" % before[-1].text
+    if now.text == "inout":
+        return "a signal that comes from outside and is emitted too is declared by `inputoutput A;`, before the body"
     start = max(len(kinds) - 1 - kinds[::-1].index(mark) if mark in kinds else -1 for mark in (";", ":", ")"))
     head = kinds[start + 1] if start + 1 < len(kinds) else ""
     if head not in ("input", "output", "inputoutput"):
@@ -64,8 +78,11 @@ def about_ports(before, now):
     return None
 
 
-def about_mark(text, at):
+def about_mark(text, at, expected):
     """A note about a mark of another language at a place."""
+    delay = DELAY_OF_OTHERS.match(text, at)
+    if delay and "await" in expected:
+        return "a delay is written `await %s TICK`, with an input TICK that a timer gives" % delay[1]
     for mark, note in MARKS_OF_OTHERS.items():
         if text[at:].startswith(mark) or (mark != "||" and text[at - 1 :].startswith(mark)):
             return note
@@ -95,6 +112,11 @@ def about_test(before, now, last):
         return "a signal is present at single instants and has no edges: give the edge as an input of its own"
     if now.kind == "name" and last == "repeat":
         return "the number of turns is written as a number; a loop that ends at an event is `abort loop p end when e`"
+    if now.kind == "(" and last in (*TESTS, "number"):
+        head = last if last in ("await", "when", "every", "each") else "await"
+        return "a single signal has no brackets, and a test of several has square ones: `%s A`, `%s [A or B]`" % (head, head)
+    if now.kind == "number" and last in ("present", "not", "and", "or"):
+        return "a number is no test: `tick` is true at every instant, and `not tick` at none"
     return None
 
 
@@ -214,6 +236,9 @@ def about_comparison(text, at, now):
 
 def about_word(now, last, expected):
     """A note about a word that begins no statement."""
+    end = ENDS_OF_OTHERS.fullmatch(now.text) if now.kind == "name" else None
+    if end:
+        return "`end %s` is two words" % end[1] if end[1] in NAMED_ENDS else "a statement ends with `end`, alone or with the word that began it"
     near = difflib.get_close_matches(now.text, [it for it in expected if it.isalpha()], 1, 0.7) if now.kind == "name" else []
     if near:
         return "did you mean `%s`?" % near[0]
@@ -237,7 +262,7 @@ def habit_note(text, at, expected):
     looks = (
         about_ports(before, now),
         about_surplus_end(text, at, before, now, expected),
-        about_mark(text, at),
+        about_mark(text, at, expected),
         about_renaming(before, now, expected),
         about_test(before, now, last),
         about_end(text, at, before, now),

@@ -3,8 +3,8 @@ import re
 from typing import NamedTuple
 
 from lint import delays_of
-from source import modules_of, parts_of
-from tokens import WORDS, Unread
+from source import Word, modules_of, parts_of
+from tokens import WORDS, Unread, tokens_of
 
 
 class Symbol(NamedTuple):
@@ -123,6 +123,34 @@ def names_of(text):
         return Names(text)
     except (Unread, RecursionError):
         return None
+
+
+class Outlined(NamedTuple):
+    """A module of an outline: its name, its signals by kind, its place and the place after it."""
+
+    name: Word
+    signals: dict
+    start: int
+    end: int
+
+
+def outline_of(text):
+    """The modules of a source with their interfaces, by its words `module`, `input`, `inputoutput` and `output` alone: so it is there
+    while a `;` is missing, and in any text with a fault."""
+    found, tokens, kind = [], tokens_of(text, skips=True), None
+    for token, after in zip(tokens, tokens[1:]):
+        if token.kind == "module" and after.kind == "name":
+            name = Word(after.text, after.start, after.end)
+            found.append(Outlined(name, {"input": [], "inputoutput": [], "output": []}, token.start, after.end))
+            kind = None
+        elif found:
+            # The name after `module` begins no list of names.
+            is_listed = token.kind in ("name", ",")
+            kind = token.kind if token.kind in found[-1].signals else kind if is_listed else None
+            if kind and token.kind == "name":
+                found[-1].signals[kind].append(Word(token.text, token.start, token.end))
+            found[-1] = found[-1]._replace(end=token.end)
+    return found
 
 
 class Refused(Exception):

@@ -27,13 +27,16 @@ class Token(NamedTuple):
     end: int
 
 
-def tokens_of(text):
-    """All tokens of a text, and an empty one at its end."""
+def tokens_of(text, skips=False):
+    """All tokens of a text, and an empty one at its end. A byte that begins none ends the reading, unless it is to be skipped."""
     found, at = [], 0
     while at < len(text):
         match = TOKEN.match(text, at)
         if not match:
-            raise Unread("no token at byte %d" % at, at)
+            if not skips:
+                raise Unread("no token at byte %d" % at, at)
+            at += 1
+            continue
         if match.lastgroup != "space":
             word = match.group()
             kind = match.lastgroup if match.lastgroup in ("name", "number") and word not in WORDS else word

@@ -17,6 +17,7 @@ from traces import RESET
 NOT_CONSTRUCTIVE = re.compile(r"cec: instant (\d+): not constructive: (.*)")
 FAULT = re.compile(r"cec: (?:instant (\d+)|byte (\d+)): (.*)")
 FIRST = "the inputs of the first instant%s change nothing: an `await` does not see the instant in which it starts"
+COMMENTS_OF_OTHERS = ("//", "/*", "--", "#")
 EMPTY = "begin %s with an empty instant, `;`"
 
 
@@ -61,7 +62,9 @@ def unknown_input(page, at, name, module):
     """What could be meant by a name that is no input."""
     given = [it.name for kind in ("input", "inputoutput") for it in module.signals[kind]] if module else []
     near = difflib.get_close_matches(name.lower(), {it.lower(): it for it in given}, 3, 0.6)
-    if "," in name:
+    if name.startswith(COMMENTS_OF_OTHERS):
+        page.add(at, "note", "a comment in a trace is written `%` and the rest of the line")
+    elif "," in name:
         page.add(at, "note", "names are separated by spaces, without commas")
     elif module and name in [it.name for it in module.signals["output"]]:
         page.add(at, "note", "%s is an output; a trace has the inputs of each instant" % name)

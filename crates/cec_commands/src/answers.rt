@@ -1,6 +1,6 @@
 // What is reported of a source's graph.
 
-ghost use Rattle.std.specs.Prelude.{◌≡◌, ◌≤◌, length, IfOk, IfErr, option_map};
+ghost use Rattle.std.specs.Prelude.{◌≡◌, ◌≤◌, length, Ok, IfOk, IfErr, option_map};
 ghost use Rattle.est_kernel.specs.Plain.{program_of};
 ghost use Rattle.cec_commands.specs.Answers.{StandsForListing, StandsForCounts, counts_line};
 ghost use Rattle.cec_compile.specs.Compiling.{IsGraphed};
@@ -20,9 +20,21 @@ pub(crate) fn listing(alloc: Global, source: &[u8], main: Option<&[u8]>) -> Resu
     ensures text { IfOk result (λ text. StandsForListing source.now (option_map (λ m. m.now) main.entry) text.items) }
     ensures refuses { IfErr result (IsRefused source.now (option_map (λ m. m.now) main.entry)) }
 {
-    let found = source_graph(alloc, source, main)?;
-    let text = list(alloc, &found.graph)?;
-    Ok(text)
+    match source_graph(alloc, source, main) {
+        Ok(found) => text_made(list(alloc, &found.graph)),
+        Err(refusal) => Err(refusal),
+    }
+}
+
+/// A text that is made of a source once the source is not refused: what is left to refuse is memory.
+pub(crate) fn text_made(text: Result<Vec<u8>, NoMemory>) -> Result<Vec<u8>, Refusal>
+    ensures text { IfOk result (λ made. text ≡ Ok made) }
+    ensures refuses { IfErr result (λ refusal. refusal ≡ Refusal.NoMemory) }
+{
+    match text {
+        Ok(text) => Ok(text),
+        Err(NoMemory) => Err(Refusal::NoMemory),
+    }
 }
 
 /// A line of counts of a source's graph.
@@ -31,9 +43,10 @@ pub(crate) fn counts(alloc: Global, source: &[u8], main: Option<&[u8]>) -> Resul
     ensures text { IfOk result (λ text. StandsForCounts source.now (option_map (λ m. m.now) main.entry) text.items) }
     ensures refuses { IfErr result (IsRefused source.now (option_map (λ m. m.now) main.entry)) }
 {
-    let found = source_graph(alloc, source, main)?;
-    let text = counts_line(alloc, &found)?;
-    Ok(text)
+    match source_graph(alloc, source, main) {
+        Ok(found) => text_made(counts_line(alloc, &found)),
+        Err(refusal) => Err(refusal),
+    }
 }
 
 // The line of counts of a graph.

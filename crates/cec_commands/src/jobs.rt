@@ -9,7 +9,7 @@ use cec_compile::TextForm;
 use cec_words::{Asked, Pick, Source, Value, Via, read_words};
 
 /// What is made of a source.
-#[derive(Clone, Copy, Debug, PartialEq, Eq)]
+#[derive(Clone, Copy)]
 pub(crate) enum Task {
     /// Its text of this form.
     Text(TextForm),

@@ -11,7 +11,7 @@ use est_front::Fault;
 use run_trace_io::TraceFault;
 
 /// How a command ended, with the cause of each refusal.
-#[derive(Debug, Drop)]
+#[derive(Drop)]
 pub enum Outcome {
     /// All was written.
     Done,
@@ -39,7 +39,7 @@ pub enum Outcome {
 }
 
 /// The place of a file among the command's files.
-#[derive(Clone, Copy, Debug, PartialEq, Eq)]
+#[derive(Clone, Copy)]
 pub enum Which {
     /// The first file of the command.
     First,

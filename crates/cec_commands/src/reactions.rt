@@ -17,7 +17,7 @@ use run_trace_io::{Item, TraceError, TraceReader, reaction_line};
 use std::alloc::Global;
 
 /// Why a run by three-valued reactions was not done.
-#[derive(Debug, Drop)]
+#[derive(Drop)]
 pub(crate) enum ReactionFault {
     /// As the run of any machine.
     Run(RunFault),

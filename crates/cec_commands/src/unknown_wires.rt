@@ -15,7 +15,7 @@ use grc_ternary_stops::unknown_names;
 use std::alloc::Global;
 
 /// The wires that stay unknown in an instant in which the program is not constructive, in order.
-#[derive(Debug, Drop)]
+#[derive(Drop)]
 pub struct UnknownWires {
     /// The number of the instant, from 1; resets are none.
     pub instant: u32,

@@ -3,16 +3,14 @@ use Rattle.std.proofs.Common.{◌≡◌, ℕ, ◌≤◌, ◌<◌, ◌⊎◌, Lis
 use Rattle.base_types.specs.Faults.{Rose}
 use Rattle.base_types.specs.SinkChanges.{SinkChange}
 use Rattle.cec_text_io.proofs.Exports.{never_rose}
-use Rattle.cec_opt_commands.specs.Laws.{IsAccepted, IsFaultless, IsNotRefused, AcceptedTextsAreDone}
+use Rattle.cec_opt_commands.specs.Laws.{FitsSource, FitsText, IsAccepted, IsFaultless, IsNotRefused, AcceptedTextsAreDone}
 use Rattle.cec_compile.specs.declared.refusal.Refusal.{Refusal}
 use Rattle.cec_compile.specs.declared.refusal.Refusal.TheVariants as refusing
 use Rattle.cec_opt_commands.specs.Outcomes.{IsOptOutcomeOf, CountsFiles, LeavesAnswer, IsTextOf, IsSourceTextOf, GainsOut, IsGraphRefusedFor}
-use Rattle.cec_opt_commands.specs.Words.{Request, Tell, Do, Make}
+use Rattle.cec_opt_commands.specs.Words.{Request, Task, Tell, Do, Make, Write, Embed, Reset, Check}
 use Rattle.cec_opt_commands.specs.declared.outcome.OptOutcome.{OptOutcome}
 use Rattle.cec_opt_commands.specs.declared.outcome.OptOutcome.TheVariants.{Done, Usage, FileFault, BadText, TooLong, Refused, WriteFault, NoMemory}
-use Rattle.cec_opt_commands.specs.declared.outcome.OptOutcome.TheVariants.{NotConstructive, Undecided, TooManyNets}
-use Rattle.cec_opt_commands.specs.declared.words.Task.{Task}
-use Rattle.cec_opt_commands.specs.declared.words.Task.TheVariants.{Write, Check}
+use Rattle.cec_opt_commands.specs.declared.outcome.OptOutcome.TheVariants.{BadComponent, BadModule, NotConstructive, Undecided, TooManyNets}
 
 not_long : (n limit : ℕ) → n ≤ limit → limit < n → ⊥
 not_long n limit short long = omega (arith, short, long)
@@ -20,6 +18,8 @@ not_long n limit short long = omega (arith, short, long)
 -- a write that failed raised the count
 answer_rose : (task : Task) (P : List ℕ → Type 0) (s : SinkChange) → LeavesAnswer task P s WriteFault → Rose s.faults_before s.faults_now
 answer_rose (Write form) P s l = l.2.faults
+answer_rose (Embed component layout) P s l = l.2.faults
+answer_rose (Reset options) P s l = l.2.faults
 answer_rose Check P s l = l.2.faults
 
 graph_refused : (main : Option (List ℕ)) (source : List ℕ) (refusal : Refusal) → IsNotRefused main source → IsGraphRefusedFor main refusal source → ⊥
@@ -33,6 +33,8 @@ accepted_done (Tell about) held Done before now failed_before failed_now s accep
 accepted_done (Tell about) held Usage before now failed_before failed_now s accepted agrees counts still out steady = absurd agrees
 accepted_done (Tell about) held FileFault before now failed_before failed_now s accepted agrees counts still out steady = absurd agrees
 accepted_done (Tell about) held (BadText fault) before now failed_before failed_now s accepted agrees counts still out steady = absurd agrees
+accepted_done (Tell about) held (BadComponent fault) before now failed_before failed_now s accepted agrees counts still out steady = absurd agrees
+accepted_done (Tell about) held (BadModule fault) before now failed_before failed_now s accepted agrees counts still out steady = absurd agrees
 accepted_done (Tell about) held TooLong before now failed_before failed_now s accepted agrees counts still out steady = absurd agrees
 accepted_done (Tell about) held (Refused refusal) before now failed_before failed_now s accepted agrees counts still out steady = absurd agrees
 accepted_done (Tell about) held (NotConstructive stuck) before now failed_before failed_now s accepted agrees counts still out steady = absurd agrees
@@ -45,9 +47,13 @@ accepted_done (Do task name) held Usage before now failed_before failed_now s ac
 accepted_done (Do task name) held FileFault before now failed_before failed_now s accepted agrees counts still out steady =
     absurd (still counts.faults)
 accepted_done (Do task name) held (BadText fault) before now failed_before failed_now s accepted agrees counts still out steady =
-    absurd ((subst IsFaultless (sym agrees.1) accepted).faultless fault agrees.2.1)
+    absurd ((subst IsFaultless (sym agrees.1) accepted.0).faultless fault agrees.2.1)
+accepted_done (Do task name) held (BadComponent fault) before now failed_before failed_now s accepted agrees counts still out steady =
+    absurd ((subst (FitsText task) (sym agrees.1) accepted.1).component fault agrees.2)
+accepted_done (Do task name) held (BadModule fault) before now failed_before failed_now s accepted agrees counts still out steady =
+    absurd ((subst (FitsText task) (sym agrees.1) accepted.1).names fault agrees.2)
 accepted_done (Do task name) held TooLong before now failed_before failed_now s accepted agrees counts still out steady =
-    absurd (not_long _ _ (subst IsFaultless (sym agrees.1) accepted).short agrees.2)
+    absurd (not_long _ _ (subst IsFaultless (sym agrees.1) accepted.0).short agrees.2)
 accepted_done (Do task name) held (Refused refusal) before now failed_before failed_now s accepted agrees counts still out steady = absurd agrees.2
 accepted_done (Do task name) held (NotConstructive stuck) before now failed_before failed_now s accepted agrees counts still out steady = absurd agrees.2
 accepted_done (Do task name) held (Undecided cycle) before now failed_before failed_now s accepted agrees counts still out steady = absurd agrees.2
@@ -60,15 +66,19 @@ accepted_done (Make task name main) held Usage before now failed_before failed_n
 accepted_done (Make task name main) held FileFault before now failed_before failed_now s accepted agrees counts still out steady =
     absurd (still counts.faults)
 accepted_done (Make task name main) held (BadText fault) before now failed_before failed_now s accepted agrees counts still out steady = absurd agrees.2
+accepted_done (Make task name main) held (BadComponent fault) before now failed_before failed_now s accepted agrees counts still out steady =
+    absurd ((subst (FitsSource task main) (sym agrees.1) accepted.1).component fault agrees.2)
+accepted_done (Make task name main) held (BadModule fault) before now failed_before failed_now s accepted agrees counts still out steady =
+    absurd ((subst (FitsSource task main) (sym agrees.1) accepted.1).names fault agrees.2)
 accepted_done (Make task name main) held TooLong before now failed_before failed_now s accepted agrees counts still out steady = absurd agrees.2
 accepted_done (Make task name main) held (Refused refusal) before now failed_before failed_now s accepted agrees counts still out steady =
-    absurd (graph_refused main agrees.0 refusal (subst (IsNotRefused main) (sym agrees.1) accepted) agrees.2)
+    absurd (graph_refused main agrees.0 refusal (subst (IsNotRefused main) (sym agrees.1) accepted.0) agrees.2)
 accepted_done (Make task name main) held (NotConstructive stuck) before now failed_before failed_now s accepted agrees counts still out steady =
-    absurd (subst (IsNotRefused main) (sym agrees.1) accepted (refusing.Cyclic agrees.2.cycle) agrees.2.has_cycle)
+    absurd (subst (IsNotRefused main) (sym agrees.1) accepted.0 (refusing.Cyclic agrees.2.cycle) agrees.2.has_cycle)
 accepted_done (Make task name main) held (Undecided cycle) before now failed_before failed_now s accepted agrees counts still out steady =
-    absurd (subst (IsNotRefused main) (sym agrees.1) accepted (refusing.Cyclic cycle) agrees.2)
+    absurd (subst (IsNotRefused main) (sym agrees.1) accepted.0 (refusing.Cyclic cycle) agrees.2)
 accepted_done (Make task name main) held (TooManyNets cycle) before now failed_before failed_now s accepted agrees counts still out steady =
-    absurd (subst (IsNotRefused main) (sym agrees.1) accepted (refusing.Cyclic cycle) agrees.2)
+    absurd (subst (IsNotRefused main) (sym agrees.1) accepted.0 (refusing.Cyclic cycle) agrees.2)
 accepted_done (Make task name main) held WriteFault before now failed_before failed_now s accepted agrees counts still out steady =
     absurd (steady (answer_rose task (IsSourceTextOf WriteFault task name main (Some held)) s out))
 accepted_done (Make task name main) held NoMemory before now failed_before failed_now s accepted agrees counts still out steady = inr refl

@@ -15,10 +15,10 @@ use Rattle.cec_opt_texts.proofs.Exports.{blif-keeps, c-keeps, verilog-keeps}
 use Rattle.cec_opt_texts.specs.Optimized.{IsSmallNetOf, IsTextNet}
 use Rattle.cec_opt_commands.specs.Answers.{IsAnswer, IsSourceAnswer, TellsAny}
 use Rattle.cec_opt_commands.specs.Outcomes.{IsConstructible}
+use Rattle.cec_opt_commands.specs.Words.{Write}
 use Rattle.cec_opt_commands.specs.NetTexts.{IsWritten}
 use Rattle.cec_opt_commands.specs.declared.words.Form.{Form}
 use Rattle.cec_opt_commands.specs.declared.words.Form.TheVariants.{Blif, C, Verilog}
-use Rattle.cec_opt_commands.specs.declared.words.Task.TheVariants.{Write}
 
 pub small_answers : (form : Form) (text written : List ℕ) (net : Netlist) → IsSmallNetOf text net → IsWritten form written net
     → IsAnswer (Write form) text written

@@ -2,4 +2,5 @@ pub mod DepthLaws
 pub mod Answers
 pub mod Outcomes
 pub mod Accepting
+mod WantedWords
 mod worked

@@ -15,8 +15,20 @@ use Rattle.cec_cycles.specs.Constructive.{IsOtherRefusal, IsRefusedConstructive,
 use Rattle.cec_cycles.specs.declared.findings.CycleRefusal.{CycleRefusal}
 use Rattle.cec_cycles.specs.declared.findings.CycleRefusal.TheVariants as causes
 use Rattle.cec_cycles.specs.declared.findings.Stuck.{Stuck}
+use Rattle.cec_opt_embed.specs.Faults.{IsSourceEmbedFault, IsTextEmbedFault}
+use Rattle.cec_opt_embed.specs.declared.faults.SourceEmbedFault.{SourceEmbedFault}
+use Rattle.cec_opt_embed.specs.declared.faults.SourceEmbedFault.TheVariants as source_faults
+use Rattle.cec_opt_embed.specs.declared.faults.TextEmbedFault.{TextEmbedFault}
+use Rattle.cec_opt_embed.specs.declared.faults.TextEmbedFault.TheVariants as text_faults
 use Rattle.cec_opt_texts.specs.Faults.{IsOptFault}
 use Rattle.cec_opt_texts.specs.declared.fault.OptFault.{OptFault}
+use Rattle.csub_embed.specs.declared.layout.EmbedLayout.{EmbedLayout}
+use Rattle.vlog_reset.specs.Options.{ModuleOptions}
+use Rattle.cec_opt_reset.specs.Faults.{IsSourceResetFault, IsTextResetFault}
+use Rattle.cec_opt_reset.specs.declared.faults.SourceResetFault.{SourceResetFault}
+use Rattle.cec_opt_reset.specs.declared.faults.SourceResetFault.TheVariants as source_names
+use Rattle.cec_opt_reset.specs.declared.faults.TextResetFault.{TextResetFault}
+use Rattle.cec_opt_reset.specs.declared.faults.TextResetFault.TheVariants as text_names
 use Rattle.cec_text_io.proofs.Pieces as texts
 use Rattle.cec_text_io.proofs.Exports.{long_unread, some_bytes}
 use Rattle.cec_text_io.specs.Contents.{Content, IsHeld}
@@ -28,15 +40,14 @@ use Rattle.cec_opt_commands.specs.Answers.{IsAnswer, IsSourceAnswer}
 use Rattle.cec_opt_commands.specs.Lines.{GainsSourceErr, SpeaksOf, line_of, source_subject}
 use Rattle.cec_opt_commands.specs.Outcomes.{HasNet, SaysOf, IsConstructible, SourceSays, AgreesOnFile, IsWriting, IsOptOutcomeOf}
 use Rattle.cec_opt_commands.specs.Outcomes.{CountsFiles, LeavesAnswer, LeavesSourceAnswer, IsTextOf, IsSourceTextBy, IsSourceTextOf, GainsOut}
-use Rattle.cec_opt_commands.specs.Stopping.{IsRefusedOutcome}
+use Rattle.cec_opt_commands.specs.Stopping.{IsEmbedStopOutcome, IsRefusedOutcome, IsResetStopOutcome}
 use Rattle.cec_opt_commands.specs.Statuses.{written_of, written_outcome, stop_outcome, unread_outcome, refusal_outcome, source_unread_outcome, stuck_outcome}
-use Rattle.cec_opt_commands.specs.Words.{Request, Tell, Do, Make}
+use Rattle.cec_opt_commands.specs.Statuses.{embed_outcome, reset_outcome}
+use Rattle.cec_opt_commands.specs.Words.{Request, Task, Tell, Do, Make, Write, Embed, Reset, Check}
 use Rattle.cec_opt_commands.specs.declared.outcome.OptOutcome.{OptOutcome}
 use Rattle.cec_opt_commands.specs.declared.outcome.OptOutcome.TheVariants.{Done, Usage, FileFault, BadText, TooLong, Refused, WriteFault, NoMemory}
-use Rattle.cec_opt_commands.specs.declared.outcome.OptOutcome.TheVariants.{NotConstructive, Undecided, TooManyNets}
+use Rattle.cec_opt_commands.specs.declared.outcome.OptOutcome.TheVariants.{BadComponent, BadModule, NotConstructive, Undecided, TooManyNets}
 use Rattle.cec_opt_commands.specs.declared.words.Form.{Form}
-use Rattle.cec_opt_commands.specs.declared.words.Task.{Task}
-use Rattle.cec_opt_commands.specs.declared.words.Task.TheVariants.{Write, Check}
 
 -- ---- how a writing ended
 
@@ -51,10 +62,10 @@ written_writes ends.WriteFault = tt
 written_writes ends.NoMemory = tt
 
 -- a text whose netlist was written
-pub written_says : (ended : Written) (text : List ℕ) → HasNet text → SaysOf (written_outcome ended) text
-written_says ends.Done text has = has
-written_says ends.WriteFault text has = has
-written_says ends.NoMemory text has = tt
+pub written_says : (task : Task) (ended : Written) (text : List ℕ) → HasNet text → SaysOf task (written_outcome ended) text
+written_says task ends.Done text has = has
+written_says task ends.WriteFault text has = has
+written_says task ends.NoMemory text has = tt
 
 pub written_pieces : (P Q : List ℕ → Type 0) (s : SinkChange) (ended : Written) → ((written : List ℕ) → P written → Q written)
     → LeavesPieces P s (Some ended) → LeavesPieces Q s (written_of (written_outcome ended))
@@ -65,11 +76,11 @@ pub written_text : (P Q : List ℕ → Type 0) (s : SinkChange) (ended : Written
 written_text P Q s ended f l = subst (LeavesText Q s) (written_as ended) (texts.text_as P Q s (Some ended) f l)
 
 -- a source whose netlist was written
-pub source_written : (ended : Written) (main : Option (List ℕ)) (source : List ℕ) → IsConstructible main source
-    → SourceSays main (written_outcome ended) source
-source_written ends.Done main source is = is
-source_written ends.WriteFault main source is = inl is
-source_written ends.NoMemory main source is = tt
+pub source_written : (task : Task) (ended : Written) (main : Option (List ℕ)) (source : List ℕ) → IsConstructible main source
+    → SourceSays task main (written_outcome ended) source
+source_written task ends.Done main source is = is
+source_written task ends.WriteFault main source is = inl is
+source_written task ends.NoMemory main source is = tt
 
 source_text : (ended : Written) (task : Task) (source : List ℕ) (main : Option (List ℕ)) (written : List ℕ) → IsSourceAnswer task source main written
     → IsSourceTextBy (written_outcome ended) task source main written
@@ -84,34 +95,66 @@ source_pieces P form source main s ended f l =
     written_pieces P (IsSourceTextBy (written_outcome ended) (Write form) source main) s ended
     (λ written is. source_text ended (Write form) source main written (f written is)) l
 
-pub source_whole : (P : List ℕ → Type 0) (source : List ℕ) (main : Option (List ℕ)) (s : SinkChange) (ended : Written)
-    → ((written : List ℕ) → P written → IsSourceAnswer Check source main written) → LeavesText P s (Some ended)
-    → LeavesSourceAnswer Check source main s (written_outcome ended)
-source_whole P source main s ended f l =
-    written_text P (IsSourceTextBy (written_outcome ended) Check source main) s ended
-    (λ written is. source_text ended Check source main written (f written is)) l
+-- of a task that writes its text as a whole
+pub source_whole : (P : List ℕ → Type 0) (task : Task) (source : List ℕ) (main : Option (List ℕ)) (s : SinkChange) (ended : Written)
+    → ((written : List ℕ) → P written → IsSourceAnswer task source main written) → LeavesText P s (Some ended)
+    → LeavesText (IsSourceTextBy (written_outcome ended) task source main) s (written_of (written_outcome ended))
+source_whole P task source main s ended f l =
+    written_text P (IsSourceTextBy (written_outcome ended) task source main) s ended
+    (λ written is. source_text ended task source main written (f written is)) l
 
 -- ---- a text without a netlist
 
-pub stop_says : (stop : Stop OptFault) (text : List ℕ) → length text ≤ TEXT_BYTES → FaultIs (IsOptFault text) stop → SaysOf (stop_outcome stop) text
-stop_says (stops.Fault fault) text short is = (short, is)
-stop_says stops.NoMemory text short is = tt
+pub stop_says : (task : Task) (stop : Stop OptFault) (text : List ℕ) → length text ≤ TEXT_BYTES → FaultIs (IsOptFault text) stop
+    → SaysOf task (stop_outcome stop) text
+stop_says task (stops.Fault fault) text short is = (short, is)
+stop_says task stops.NoMemory text short is = tt
 
 pub stop_leaves : (task : Task) (P : List ℕ → Type 0) (stop : Stop OptFault) (s : SinkChange) → Appends s.before s.after s.faults_before s.faults_now []
     → LeavesAnswer task P s (stop_outcome stop)
 stop_leaves (Write form) P (stops.Fault fault) s a = a
 stop_leaves (Write form) P stops.NoMemory s a = inl a
+stop_leaves (Embed component layout) P (stops.Fault fault) s a = a
+stop_leaves (Embed component layout) P stops.NoMemory s a = a
+stop_leaves (Reset options) P (stops.Fault fault) s a = a
+stop_leaves (Reset options) P stops.NoMemory s a = a
 stop_leaves Check P (stops.Fault fault) s a = a
 stop_leaves Check P stops.NoMemory s a = a
 
+-- or without embedded C
+pub embed_says : (component : List ℕ) (layout : EmbedLayout) (stop : Stop TextEmbedFault) (text : List ℕ) → length text ≤ TEXT_BYTES
+    → FaultIs (IsTextEmbedFault text component) stop → SaysOf (Embed component layout) (embed_outcome stop) text
+embed_says component layout (stops.Fault (text_faults.Text fault)) text short is = (short, is)
+embed_says component layout (stops.Fault (text_faults.Component fault)) text short is = (short, is)
+embed_says component layout stops.NoMemory text short is = tt
+
+pub embed_leaves : (component : List ℕ) (layout : EmbedLayout) (P : List ℕ → Type 0) (stop : Stop TextEmbedFault) (s : SinkChange)
+    → Appends s.before s.after s.faults_before s.faults_now [] → LeavesAnswer (Embed component layout) P s (embed_outcome stop)
+embed_leaves component layout P (stops.Fault (text_faults.Text fault)) s a = a
+embed_leaves component layout P (stops.Fault (text_faults.Component fault)) s a = a
+embed_leaves component layout P stops.NoMemory s a = a
+
+-- or without Verilog with a reset
+pub reset_says : (options : ModuleOptions) (stop : Stop TextResetFault) (text : List ℕ) → length text ≤ TEXT_BYTES
+    → FaultIs (IsTextResetFault text options) stop → SaysOf (Reset options) (reset_outcome stop) text
+reset_says options (stops.Fault (text_names.Text fault)) text short is = (short, is)
+reset_says options (stops.Fault (text_names.Module fault)) text short is = (short, is)
+reset_says options stops.NoMemory text short is = tt
+
+pub reset_leaves : (options : ModuleOptions) (P : List ℕ → Type 0) (stop : Stop TextResetFault) (s : SinkChange)
+    → Appends s.before s.after s.faults_before s.faults_now [] → LeavesAnswer (Reset options) P s (reset_outcome stop)
+reset_leaves options P (stops.Fault (text_names.Text fault)) s a = a
+reset_leaves options P (stops.Fault (text_names.Module fault)) s a = a
+reset_leaves options P stops.NoMemory s a = a
+
 -- ---- a source that does not compile
 
-refusal_says : (refusal : refusals.Refusal) (main : Option (List ℕ)) (source : List ℕ) → IsOtherRefusal source main refusal
-    → SourceSays main (refusal_outcome refusal) source
-refusal_says (refusing.Static fault) main source is = is
-refusal_says (refusing.Cyclic cycle) main source is = is
-refusal_says (refusing.Limit limit) main source is = is
-refusal_says refusing.NoMemory main source is = tt
+refusal_says : (task : Task) (refusal : refusals.Refusal) (main : Option (List ℕ)) (source : List ℕ) → IsOtherRefusal source main refusal
+    → SourceSays task main (refusal_outcome refusal) source
+refusal_says task (refusing.Static fault) main source is = is
+refusal_says task (refusing.Cyclic cycle) main source is = is
+refusal_says task (refusing.Limit limit) main source is = is
+refusal_says task refusing.NoMemory main source is = tt
 
 refusal_leaves : (task : Task) (P : List ℕ → Type 0) (refusal : refusals.Refusal) (s : SinkChange)
     → Appends s.before s.after s.faults_before s.faults_now [] → LeavesAnswer task P s (refusal_outcome refusal)
@@ -119,17 +162,25 @@ refusal_leaves (Write form) P (refusing.Static fault) s a = a
 refusal_leaves (Write form) P (refusing.Cyclic cycle) s a = a
 refusal_leaves (Write form) P (refusing.Limit limit) s a = a
 refusal_leaves (Write form) P refusing.NoMemory s a = inl a
+refusal_leaves (Embed component layout) P (refusing.Static fault) s a = a
+refusal_leaves (Embed component layout) P (refusing.Cyclic cycle) s a = a
+refusal_leaves (Embed component layout) P (refusing.Limit limit) s a = a
+refusal_leaves (Embed component layout) P refusing.NoMemory s a = a
+refusal_leaves (Reset options) P (refusing.Static fault) s a = a
+refusal_leaves (Reset options) P (refusing.Cyclic cycle) s a = a
+refusal_leaves (Reset options) P (refusing.Limit limit) s a = a
+refusal_leaves (Reset options) P refusing.NoMemory s a = a
 refusal_leaves Check P (refusing.Static fault) s a = a
 refusal_leaves Check P (refusing.Cyclic cycle) s a = a
 refusal_leaves Check P (refusing.Limit limit) s a = a
 refusal_leaves Check P refusing.NoMemory s a = a
 
 -- the trace of a program that is not constructive was to be written
-stuck_says : (stuck : Stuck) (ended : Written) (main : Option (List ℕ)) (source : List ℕ) → StandsForStuck source main stuck
-    → SourceSays main (stuck_outcome stuck ended) source
-stuck_says stuck ends.Done main source is = is
-stuck_says stuck ends.WriteFault main source is = inr (stuck, is)
-stuck_says stuck ends.NoMemory main source is = tt
+stuck_says : (task : Task) (stuck : Stuck) (ended : Written) (main : Option (List ℕ)) (source : List ℕ) → StandsForStuck source main stuck
+    → SourceSays task main (stuck_outcome stuck ended) source
+stuck_says task stuck ends.Done main source is = is
+stuck_says task stuck ends.WriteFault main source is = inr (stuck, is)
+stuck_says task stuck ends.NoMemory main source is = tt
 
 stuck_leaves : (task : Task) (stuck : Stuck) (ended : Written) (main : Option (List ℕ)) (source : List ℕ) (s : SinkChange)
     → StandsForStuck source main stuck → LeavesText (λ written. written ≡ stuck.trace.items) s (Some ended)
@@ -137,6 +188,12 @@ stuck_leaves : (task : Task) (stuck : Stuck) (ended : Written) (main : Option (L
 stuck_leaves (Write form) stuck ends.Done main source s is l = l
 stuck_leaves (Write form) stuck ends.WriteFault main source s is l = (l.0, inr (stuck, is, l.1), l.2)
 stuck_leaves (Write form) stuck ends.NoMemory main source s is l = inl l
+stuck_leaves (Embed component layout) stuck ends.Done main source s is l = l
+stuck_leaves (Embed component layout) stuck ends.WriteFault main source s is l = (l.0, inr (stuck, is, l.1), l.2)
+stuck_leaves (Embed component layout) stuck ends.NoMemory main source s is l = l
+stuck_leaves (Reset options) stuck ends.Done main source s is l = l
+stuck_leaves (Reset options) stuck ends.WriteFault main source s is l = (l.0, inr (stuck, is, l.1), l.2)
+stuck_leaves (Reset options) stuck ends.NoMemory main source s is l = l
 stuck_leaves Check stuck ends.Done main source s is l = l
 stuck_leaves Check stuck ends.WriteFault main source s is l = (l.0, inr (stuck, is, l.1), l.2)
 stuck_leaves Check stuck ends.NoMemory main source s is l = l
@@ -144,16 +201,18 @@ stuck_leaves Check stuck ends.NoMemory main source s is l = l
 silent_leaves : (task : Task) (P : List ℕ → Type 0) (outcome : OptOutcome) (s : SinkChange) → written_of outcome ≡ None
     → Appends s.before s.after s.faults_before s.faults_now [] → LeavesAnswer task P s outcome
 silent_leaves (Write form) P outcome s none a = subst (LeavesPieces P s) (sym none) a
+silent_leaves (Embed component layout) P outcome s none a = subst (LeavesText P s) (sym none) a
+silent_leaves (Reset options) P outcome s none a = subst (LeavesText P s) (sym none) a
 silent_leaves Check P outcome s none a = subst (LeavesText P s) (sym none) a
 
-pub refused_says : (refusal : CycleRefusal) (main : Option (List ℕ)) (source : List ℕ) (s : SinkChange) (outcome : OptOutcome)
-    → IsRefusedConstructive source main refusal → IsRefusedOutcome refusal s outcome → SourceSays main outcome source
-refused_says (causes.Source refusal) main source s outcome is o =
-    subst (λ x. SourceSays main x source) (sym o.is) (refusal_says refusal main source is)
-refused_says (causes.NotConstructive stuck) main source s outcome is o =
-    subst (λ x. SourceSays main x source) (sym o.is) (stuck_says stuck o.ended main source is)
-refused_says (causes.Undecided cycle) main source s outcome is o = subst (λ x. SourceSays main x source) (sym o.is) is
-refused_says (causes.TooManyNets cycle) main source s outcome is o = subst (λ x. SourceSays main x source) (sym o.is) is
+pub refused_says : (task : Task) (refusal : CycleRefusal) (main : Option (List ℕ)) (source : List ℕ) (s : SinkChange) (outcome : OptOutcome)
+    → IsRefusedConstructive source main refusal → IsRefusedOutcome refusal s outcome → SourceSays task main outcome source
+refused_says task (causes.Source refusal) main source s outcome is o =
+    subst (λ x. SourceSays task main x source) (sym o.is) (refusal_says task refusal main source is)
+refused_says task (causes.NotConstructive stuck) main source s outcome is o =
+    subst (λ x. SourceSays task main x source) (sym o.is) (stuck_says task stuck o.ended main source is)
+refused_says task (causes.Undecided cycle) main source s outcome is o = subst (λ x. SourceSays task main x source) (sym o.is) is
+refused_says task (causes.TooManyNets cycle) main source s outcome is o = subst (λ x. SourceSays task main x source) (sym o.is) is
 
 pub refused_leaves : (task : Task) (refusal : CycleRefusal) (main : Option (List ℕ)) (source : List ℕ) (s : SinkChange) (outcome : OptOutcome)
     → IsRefusedConstructive source main refusal → IsRefusedOutcome refusal s outcome → LeavesSourceAnswer task source main s outcome
@@ -169,6 +228,48 @@ refused_leaves task (causes.TooManyNets cycle) main source s outcome is o =
     subst (LeavesSourceAnswer task source main s) (sym o.is)
     (silent_leaves task (IsSourceTextBy (TooManyNets cycle) task source main) (TooManyNets cycle) s refl o.silent)
 
+-- a source without embedded C under a name
+pub unembedded_says : (component : List ℕ) (layout : EmbedLayout) (stop : Stop SourceEmbedFault) (main : Option (List ℕ)) (source : List ℕ) (s : SinkChange)
+    (outcome : OptOutcome) → FaultIs (IsSourceEmbedFault source main component) stop → IsEmbedStopOutcome stop s outcome
+    → SourceSays (Embed component layout) main outcome source
+unembedded_says component layout (stops.Fault (source_faults.Source refusal)) main source s outcome is o =
+    refused_says (Embed component layout) refusal main source s outcome is.1 o
+unembedded_says component layout (stops.Fault (source_faults.Component fault)) main source s outcome is o =
+    subst (λ x. SourceSays (Embed component layout) main x source) (sym o.is) is
+unembedded_says component layout stops.NoMemory main source s outcome is o =
+    subst (λ x. SourceSays (Embed component layout) main x source) (sym o.is) tt
+
+pub unembedded_leaves : (component : List ℕ) (layout : EmbedLayout) (stop : Stop SourceEmbedFault) (main : Option (List ℕ)) (source : List ℕ) (s : SinkChange)
+    (outcome : OptOutcome) → FaultIs (IsSourceEmbedFault source main component) stop → IsEmbedStopOutcome stop s outcome
+    → LeavesSourceAnswer (Embed component layout) source main s outcome
+unembedded_leaves component layout (stops.Fault (source_faults.Source refusal)) main source s outcome is o =
+    refused_leaves (Embed component layout) refusal main source s outcome is.1 o
+unembedded_leaves component layout (stops.Fault (source_faults.Component fault)) main source s outcome is o =
+    subst (LeavesSourceAnswer (Embed component layout) source main s) (sym o.is) o.silent
+unembedded_leaves component layout stops.NoMemory main source s outcome is o =
+    subst (LeavesSourceAnswer (Embed component layout) source main s) (sym o.is) o.silent
+
+-- a source without Verilog with a reset
+pub unreset_says : (options : ModuleOptions) (stop : Stop SourceResetFault) (main : Option (List ℕ)) (source : List ℕ) (s : SinkChange)
+    (outcome : OptOutcome) → FaultIs (IsSourceResetFault source main options) stop → IsResetStopOutcome stop s outcome
+    → SourceSays (Reset options) main outcome source
+unreset_says options (stops.Fault (source_names.Source refusal)) main source s outcome is o =
+    refused_says (Reset options) refusal main source s outcome is.1 o
+unreset_says options (stops.Fault (source_names.Module fault)) main source s outcome is o =
+    subst (λ x. SourceSays (Reset options) main x source) (sym o.is) is
+unreset_says options stops.NoMemory main source s outcome is o =
+    subst (λ x. SourceSays (Reset options) main x source) (sym o.is) tt
+
+pub unreset_leaves : (options : ModuleOptions) (stop : Stop SourceResetFault) (main : Option (List ℕ)) (source : List ℕ) (s : SinkChange)
+    (outcome : OptOutcome) → FaultIs (IsSourceResetFault source main options) stop → IsResetStopOutcome stop s outcome
+    → LeavesSourceAnswer (Reset options) source main s outcome
+unreset_leaves options (stops.Fault (source_names.Source refusal)) main source s outcome is o =
+    refused_leaves (Reset options) refusal main source s outcome is.1 o
+unreset_leaves options (stops.Fault (source_names.Module fault)) main source s outcome is o =
+    subst (LeavesSourceAnswer (Reset options) source main s) (sym o.is) o.silent
+unreset_leaves options stops.NoMemory main source s outcome is o =
+    subst (LeavesSourceAnswer (Reset options) source main s) (sym o.is) o.silent
+
 -- ---- a file that was read
 
 -- what is said of its bytes leaves no file fault
@@ -178,6 +279,8 @@ file_agrees content name Says Done bytes held says apart = (bytes, held, says)
 file_agrees content name Says Usage bytes held says apart = (bytes, held, says)
 file_agrees content name Says FileFault bytes held says apart = absurd (apart says)
 file_agrees content name Says (BadText fault) bytes held says apart = (bytes, held, says)
+file_agrees content name Says (BadComponent fault) bytes held says apart = (bytes, held, says)
+file_agrees content name Says (BadModule fault) bytes held says apart = (bytes, held, says)
 file_agrees content name Says TooLong bytes held says apart = (bytes, held, says)
 file_agrees content name Says (Refused refusal) bytes held says apart = (bytes, held, says)
 file_agrees content name Says (NotConstructive stuck) bytes held says apart = (bytes, held, says)
@@ -186,22 +289,24 @@ file_agrees content name Says (TooManyNets cycle) bytes held says apart = (bytes
 file_agrees content name Says WriteFault bytes held says apart = (bytes, held, says)
 file_agrees content name Says NoMemory bytes held says apart = (bytes, held, says)
 
-pub read_agrees : (content : Content) (task : Task) (name : List ℕ) (outcome : OptOutcome) (text : List ℕ) → IsHeld content name text → SaysOf outcome text
+pub read_agrees : (content : Content) (task : Task) (name : List ℕ) (outcome : OptOutcome) (text : List ℕ) → IsHeld content name text → SaysOf task outcome text
     → IsOptOutcomeOf (Some (Do task name)) content outcome
-read_agrees content task name outcome text held says = file_agrees content name SaysOf outcome text held says (λ none. none)
+read_agrees content task name outcome text held says = file_agrees content name (SaysOf task) outcome text held says (λ none. none)
 
 pub source_agrees : (content : Content) (task : Task) (name : List ℕ) (main : Option (List ℕ)) (outcome : OptOutcome) (source : List ℕ)
-    → IsHeld content name source → SourceSays main outcome source → IsOptOutcomeOf (Some (Make task name main)) content outcome
+    → IsHeld content name source → SourceSays task main outcome source → IsOptOutcomeOf (Some (Make task name main)) content outcome
 source_agrees content task name main outcome source held says =
-    file_agrees content name (SourceSays main) outcome source held says (λ none. none)
+    file_agrees content name (SourceSays task main) outcome source held says (λ none. none)
 
 pub read_counts : (task : Task) (name : List ℕ) (outcome : OptOutcome) (text : List ℕ) (before now : ℕ) (failed_before failed_now : List ℕ)
-    → SaysOf outcome text → KeepsFaults before now failed_before failed_now
+    → SaysOf task outcome text → KeepsFaults before now failed_before failed_now
     → CountsFiles (Some (Do task name)) outcome before now failed_before failed_now
 read_counts task name Done text before now failed_before failed_now says k = k
 read_counts task name Usage text before now failed_before failed_now says k = k
 read_counts task name FileFault text before now failed_before failed_now says k = absurd says
 read_counts task name (BadText fault) text before now failed_before failed_now says k = k
+read_counts task name (BadComponent fault) text before now failed_before failed_now says k = k
+read_counts task name (BadModule fault) text before now failed_before failed_now says k = k
 read_counts task name TooLong text before now failed_before failed_now says k = k
 read_counts task name (Refused refusal) text before now failed_before failed_now says k = k
 read_counts task name (NotConstructive stuck) text before now failed_before failed_now says k = k
@@ -211,12 +316,14 @@ read_counts task name WriteFault text before now failed_before failed_now says k
 read_counts task name NoMemory text before now failed_before failed_now says k = k
 
 pub source_read_counts : (task : Task) (name : List ℕ) (main : Option (List ℕ)) (outcome : OptOutcome) (source : List ℕ) (before now : ℕ)
-    (failed_before failed_now : List ℕ) → SourceSays main outcome source → KeepsFaults before now failed_before failed_now
+    (failed_before failed_now : List ℕ) → SourceSays task main outcome source → KeepsFaults before now failed_before failed_now
     → CountsFiles (Some (Make task name main)) outcome before now failed_before failed_now
 source_read_counts task name main Done source before now failed_before failed_now says k = k
 source_read_counts task name main Usage source before now failed_before failed_now says k = k
 source_read_counts task name main FileFault source before now failed_before failed_now says k = absurd says
 source_read_counts task name main (BadText fault) source before now failed_before failed_now says k = k
+source_read_counts task name main (BadComponent fault) source before now failed_before failed_now says k = k
+source_read_counts task name main (BadModule fault) source before now failed_before failed_now says k = k
 source_read_counts task name main TooLong source before now failed_before failed_now says k = k
 source_read_counts task name main (Refused refusal) source before now failed_before failed_now says k = k
 source_read_counts task name main (NotConstructive stuck) source before now failed_before failed_now says k = k
@@ -228,6 +335,8 @@ source_read_counts task name main NoMemory source before now failed_before faile
 answer_as : (task : Task) (P Q : List ℕ → Type 0) (s : SinkChange) (outcome : OptOutcome) → ((written : List ℕ) → P written → Q written)
     → LeavesAnswer task P s outcome → LeavesAnswer task Q s outcome
 answer_as (Write form) P Q s outcome f l = texts.pieces_as P Q s (written_of outcome) f l
+answer_as (Embed component layout) P Q s outcome f l = texts.text_as P Q s (written_of outcome) f l
+answer_as (Reset options) P Q s outcome f l = texts.text_as P Q s (written_of outcome) f l
 answer_as Check P Q s outcome f l = texts.text_as P Q s (written_of outcome) f l
 
 pub read_out : (content : Content) (task : Task) (name : List ℕ) (outcome : OptOutcome) (text : List ℕ) (s : SinkChange) → IsHeld content name text
@@ -248,6 +357,8 @@ source_speaks content name Done source held = tt
 source_speaks content name Usage source held = tt
 source_speaks content name FileFault source held = tt
 source_speaks content name (BadText fault) source held = tt
+source_speaks content name (BadComponent fault) source held = tt
+source_speaks content name (BadModule fault) source held = tt
 source_speaks content name TooLong source held = tt
 source_speaks content name (Refused (refusing.Static fault)) source held = held
 source_speaks content name (Refused (refusing.Cyclic cycle)) source held = tt
@@ -298,6 +409,12 @@ pub unread_out : (content : Content) (task : Task) (name : List ℕ) (fault : un
 unread_out content (Write form) name reading.Failed s a = a
 unread_out content (Write form) name reading.TooLong s a = a
 unread_out content (Write form) name reading.NoMemory s a = inl a
+unread_out content (Embed component layout) name reading.Failed s a = a
+unread_out content (Embed component layout) name reading.TooLong s a = a
+unread_out content (Embed component layout) name reading.NoMemory s a = a
+unread_out content (Reset options) name reading.Failed s a = a
+unread_out content (Reset options) name reading.TooLong s a = a
+unread_out content (Reset options) name reading.NoMemory s a = a
 unread_out content Check name reading.Failed s a = a
 unread_out content Check name reading.TooLong s a = a
 unread_out content Check name reading.NoMemory s a = a
@@ -307,6 +424,12 @@ pub source_unread_out : (content : Content) (task : Task) (name : List ℕ) (mai
 source_unread_out content (Write form) name main reading.Failed s a = a
 source_unread_out content (Write form) name main reading.TooLong s a = a
 source_unread_out content (Write form) name main reading.NoMemory s a = inl a
+source_unread_out content (Embed component layout) name main reading.Failed s a = a
+source_unread_out content (Embed component layout) name main reading.TooLong s a = a
+source_unread_out content (Embed component layout) name main reading.NoMemory s a = a
+source_unread_out content (Reset options) name main reading.Failed s a = a
+source_unread_out content (Reset options) name main reading.TooLong s a = a
+source_unread_out content (Reset options) name main reading.NoMemory s a = a
 source_unread_out content Check name main reading.Failed s a = a
 source_unread_out content Check name main reading.TooLong s a = a
 source_unread_out content Check name main reading.NoMemory s a = a

@@ -1,2 +1,3 @@
 -- Worked examples of the definitions: values by hand. No law depends on them.
 mod WorkedLines
+mod WorkedResets

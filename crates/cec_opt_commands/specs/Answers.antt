@@ -14,14 +14,17 @@ use Rattle.cec_compile.specs.declared.cycles.Cycle.{Cycle}
 use Rattle.cec_cycles.specs.Constructive.{HasCycle, StandsForConstructiveBlif, StandsForConstructiveC}
 use Rattle.cec_cycles.specs.Constructive.{StandsForConstructiveNet, StandsForConstructiveVerilog}
 use Rattle.cec_cycles.specs.Counted.{HasCountedCycles}
+use Rattle.cec_opt_embed.specs.Sources.{StandsForEmbedded}
+use Rattle.cec_opt_embed.specs.Texts.{EmbedKeeps}
+use Rattle.cec_opt_reset.specs.Sources.{StandsForReset}
+use Rattle.cec_opt_reset.specs.Texts.{ResetKeeps}
 use Rattle.cec_opt_sources.specs.LightNets.{IsLightNetOf, IsLightSource}
 use Rattle.cec_opt_sources.specs.SmallTexts.{StandsForSmallBlif, StandsForSmallC, StandsForSmallVerilog}
 use Rattle.cec_opt_texts.specs.Alike.{BlifKeeps, CKeeps, VerilogKeeps}
 use Rattle.cec_opt_texts.specs.Optimized.{IsSmallNetOf, IsTextNet}
 use Rattle.blif_net.specs.Depths.{depth_of}
 use Rattle.cec_opt_commands.specs.declared.words.Form.TheVariants as forms
-use Rattle.cec_opt_commands.specs.declared.words.Task.{Task}
-use Rattle.cec_opt_commands.specs.declared.words.Task.TheVariants.{Write, Check}
+use Rattle.cec_opt_commands.specs.Words.{Task, Write, Embed, Reset, Check}
 
 -- The text that is written keeps what the text means that was read (`Keeps`), and it is that of a netlist that is not
 -- larger than its circuit's, and in which nothing is left to simplify.
@@ -53,10 +56,15 @@ pub record TellsText (text lines : List ℕ) : Type 0 where
   pub of_text : IsTextNet text net
   pub tells : TellsNets net lines
 
+-- Embedded C keeps what the text means that was read, over calls on any number of instances of the component of this
+-- name. It is that of the text's optimized netlist (`EmbedKeeps`). Verilog with a reset keeps it from each reset on,
+-- with the names that are asked for (`ResetKeeps`).
 abbrev pub IsAnswer : Task → List ℕ → List ℕ → Type 0
 IsAnswer (Write forms.Blif) text written = IsOptimized BlifKeeps blif_texts.written text written
 IsAnswer (Write forms.C) text written = IsOptimized CKeeps c_texts.written text written
 IsAnswer (Write forms.Verilog) text written = IsOptimized VerilogKeeps verilog_texts.written text written
+IsAnswer (Embed component layout) text written = EmbedKeeps text component layout written
+IsAnswer (Reset options) text written = ResetKeeps text options written
 IsAnswer Check text written = TellsText text written
 
 -- ---- sources
@@ -111,6 +119,9 @@ pub record TellsCyclic (source : List ℕ) (main : Option (List ℕ)) (lines : L
 abbrev pub TellsAny : List ℕ → Option (List ℕ) → List ℕ → Type 0
 TellsAny source main lines = TellsSource source main lines ⊎ TellsCyclic source main lines
 
+-- Embedded C keeps what the program of the source means, over calls on any number of instances of the component of this
+-- name. It is that of the netlist of the source, whose dependencies may have a cycle (`StandsForEmbedded`). So is
+-- Verilog with a reset, which keeps it from each reset on (`StandsForReset`).
 abbrev pub IsSourceAnswer : Task → (source : List ℕ) → (main : Option (List ℕ)) → (written : List ℕ) → Type 0
 IsSourceAnswer (Write forms.Blif) source main written =
     IsLightText StandsForSmallBlif blif_texts.written source main written
@@ -121,4 +132,6 @@ IsSourceAnswer (Write forms.C) source main written =
 IsSourceAnswer (Write forms.Verilog) source main written =
     IsLightText StandsForSmallVerilog verilog_texts.written source main written
     ⊎ IsCyclicText StandsForConstructiveVerilog verilog_texts.written source main written
+IsSourceAnswer (Embed component layout) source main written = StandsForEmbedded source main component layout written
+IsSourceAnswer (Reset options) source main written = StandsForReset source main options written
 IsSourceAnswer Check source main written = TellsAny source main written

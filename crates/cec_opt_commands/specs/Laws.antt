@@ -6,8 +6,12 @@ use Rattle.base_types.specs.SinkChanges.{SinkChange}
 use Rattle.cec_compile.specs.declared.refusal.Refusal.{Refusal}
 use Rattle.cec_opt_texts.specs.Faults.{IsOptFault}
 use Rattle.cec_opt_texts.specs.declared.fault.OptFault.{OptFault}
+use Rattle.csub_embed.specs.declared.fault.EmbedFault.{EmbedFault}
+use Rattle.vlog_reset.specs.declared.fault.ResetFault.{ResetFault}
 use Rattle.cec_opt_commands.specs.Outcomes.{IsOptOutcomeOf, CountsFiles, GainsOut, IsRefusedFor}
-use Rattle.cec_opt_commands.specs.Words.{Request, Tell, Do, Make}
+use Rattle.cec_opt_commands.specs.Outcomes.{IsSourceComponentFault, IsSourceModuleFault, IsTextComponentFault}
+use Rattle.cec_opt_commands.specs.Outcomes.{IsTextModuleFault}
+use Rattle.cec_opt_commands.specs.Words.{Request, Task, Tell, Do, Make}
 use Rattle.cec_opt_commands.specs.declared.outcome.OptOutcome.{OptOutcome}
 use Rattle.cec_opt_commands.specs.declared.outcome.OptOutcome.TheVariants.{Done, NoMemory}
 
@@ -20,11 +24,20 @@ pub record IsFaultless (text : List ℕ) : Type 0 where
 abbrev pub IsNotRefused : (main : Option (List ℕ)) → (source : List ℕ) → Type 0
 IsNotRefused main source = (refusal : Refusal) → IsRefusedFor main refusal source → ⊥
 
+-- the names of the component and of the module and the signals have no fault
+pub record FitsText (task : Task) (text : List ℕ) : Type 0 where
+  pub component : (fault : EmbedFault) → IsTextComponentFault task fault text → ⊥
+  pub names : (fault : ResetFault) → IsTextModuleFault task fault text → ⊥
+
+pub record FitsSource (task : Task) (main : Option (List ℕ)) (source : List ℕ) : Type 0 where
+  pub component : (fault : EmbedFault) → IsSourceComponentFault task main fault source → ⊥
+  pub names : (fault : ResetFault) → IsSourceModuleFault task main fault source → ⊥
+
 -- a request, and files with these bytes, of which nothing is refused
 abbrev pub IsAccepted : Request → (List ℕ → List ℕ) → Type 0
 IsAccepted (Tell about) held = ⊤
-IsAccepted (Do task name) held = IsFaultless (held name)
-IsAccepted (Make task name main) held = IsNotRefused main (held name)
+IsAccepted (Do task name) held = IsFaultless (held name) × FitsText task (held name)
+IsAccepted (Make task name main) held = IsNotRefused main (held name) × FitsSource task main (held name)
 
 -- what the top call says of an outcome, where no count of faults rises, leaves these two
 abbrev pub AcceptedTextsAreDone : Type 0

@@ -1,3 +1,6 @@
+pub mod GivenNames
+pub mod Layouts
+pub mod Resets
 pub mod Words
 pub mod Answers
 pub mod Statuses

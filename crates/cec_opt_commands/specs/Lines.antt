@@ -8,11 +8,16 @@ use Rattle.cec_cycles.specs.declared.findings.Stuck.{Stuck}
 use Rattle.cec_opt_texts.specs.declared.fault.OptFault.{OptFault}
 use Rattle.cec_opt_texts.specs.declared.fault.OptFault.TheVariants.{Line, TwoDrivers, NoDriver, Circuit}
 use Rattle.cec_refusals.specs.RefusalLines.{RefusalSubject, refusal_line}
+use Rattle.csub_embed.specs.declared.fault.EmbedFault.{EmbedFault}
+use Rattle.csub_embed.specs.declared.fault.EmbedFault.TheVariants.{NoName, TypeTaken, Reserved}
+use Rattle.vlog_reset.specs.declared.fault.ResetFault.{ResetFault}
+use Rattle.vlog_reset.specs.declared.fault.ResetFault.TheVariants as naming
 use Rattle.cec_text_io.specs.Contents.{Content, IsHeld}
 use Rattle.cec_text_io.specs.ErrorLines.{GainsLine, joined_names}
 use Rattle.cec_opt_commands.specs.Words.{Request, Tell, Do, Make, misuse_of}
 use Rattle.cec_opt_commands.specs.declared.outcome.OptOutcome.{OptOutcome}
 use Rattle.cec_opt_commands.specs.declared.outcome.OptOutcome.TheVariants.{Done, Usage, FileFault, BadText, TooLong}
+use Rattle.cec_opt_commands.specs.declared.outcome.OptOutcome.TheVariants.{BadComponent, BadModule}
 use Rattle.cec_opt_commands.specs.declared.outcome.OptOutcome.TheVariants.{Refused, NotConstructive, Undecided}
 use Rattle.cec_opt_commands.specs.declared.outcome.OptOutcome.TheVariants.{TooManyNets, WriteFault}
 use Rattle.cec_opt_commands.specs.declared.outcome.OptOutcome.TheVariants.{NoMemory}
@@ -31,6 +36,19 @@ fault_text (Line number) = codes "line " ++ (decimal number ++ codes ": not in t
 fault_text (TwoDrivers name) = codes "two drivers: " ++ name
 fault_text (NoDriver name) = codes "no driver: " ++ name
 fault_text (Circuit fault) = circuit_line_text fault
+
+-- of a component
+abbrev pub component_fault_text : EmbedFault → List ℕ
+component_fault_text NoName = codes "the name after --embed is not a letter followed by letters, digits and _"
+component_fault_text TypeTaken = codes "the name after --embed, with _t, is a type of the library"
+component_fault_text (Reserved word) = codes "a signal is a word of C or C++: " ++ word
+
+-- of a module with a reset
+abbrev pub reset_fault_text : ResetFault → List ℕ
+reset_fault_text naming.NoModule = codes "the name of the module is not a letter followed by letters, digits and _"
+reset_fault_text naming.NoReset = codes "the name after --reset is not a letter followed by letters, digits and _"
+reset_fault_text (naming.Reserved word) = codes "a name is a word of Verilog: " ++ word
+reset_fault_text (naming.Twice name) = codes "two names are the same: " ++ name
 
 -- What a line speaks of: the name of the file that is read, or what is wrong with the words. The name that was asked
 -- for the main module, and the bytes, are those of a source.
@@ -64,6 +82,8 @@ line_of s Done = []
 line_of s Usage = own_line (s.name ++ codes ", see cec-opt --help")
 line_of s FileFault = own_line (codes "cannot read " ++ s.name)
 line_of s (BadText fault) = own_line (fault_text fault)
+line_of s (BadComponent fault) = own_line (component_fault_text fault)
+line_of s (BadModule fault) = own_line (reset_fault_text fault)
 line_of s TooLong = own_line (codes "limit: text")
 line_of s (Refused refusal) = refusal_line (refused_of s) refusal
 line_of s (NotConstructive stuck) = own_line (stuck_text stuck)

@@ -15,21 +15,24 @@ use Rattle.cec_compile.specs.declared.refusal.Refusal.{Refusal}
 use Rattle.cec_compile.specs.declared.refusal.Refusal.TheVariants as refusing
 use Rattle.cec_cycles.specs.Constructive.{HasCycle, StandsForStuck}
 use Rattle.cec_cycles.specs.declared.findings.Stuck.{Stuck}
+use Rattle.cec_opt_embed.specs.Faults.{IsProgramNameFault, IsTextNameFault}
+use Rattle.cec_opt_reset.specs.Faults.{IsProgramModuleFault, IsTextModuleNameFault}
 use Rattle.cec_opt_texts.specs.Faults.{IsOptFault}
 use Rattle.cec_opt_texts.specs.Optimized.{IsTextNet}
+use Rattle.csub_embed.specs.declared.fault.EmbedFault.{EmbedFault}
+use Rattle.vlog_reset.specs.declared.fault.ResetFault.{ResetFault}
 use Rattle.cec_text_io.specs.Contents.{Content, Holds}
 use Rattle.cec_text_io.specs.Writings.{LeavesText, LeavesPieces}
 use Rattle.cec_opt_commands.specs.Answers.{IsAnswer, IsSourceAnswer}
 use Rattle.cec_opt_commands.specs.HelpTexts.{own_text}
 use Rattle.cec_opt_commands.specs.Statuses.{written_of}
-use Rattle.cec_opt_commands.specs.Words.{Request, Tell, Do, Make}
+use Rattle.cec_opt_commands.specs.Words.{Request, Task, Tell, Do, Make, Write, Embed, Reset, Check}
 use Rattle.cec_opt_commands.specs.declared.outcome.OptOutcome.{OptOutcome}
 use Rattle.cec_opt_commands.specs.declared.outcome.OptOutcome.TheVariants.{Done, Usage, FileFault, BadText, TooLong}
+use Rattle.cec_opt_commands.specs.declared.outcome.OptOutcome.TheVariants.{BadComponent, BadModule}
 use Rattle.cec_opt_commands.specs.declared.outcome.OptOutcome.TheVariants.{Refused, NotConstructive, Undecided}
 use Rattle.cec_opt_commands.specs.declared.outcome.OptOutcome.TheVariants.{TooManyNets, WriteFault}
 use Rattle.cec_opt_commands.specs.declared.outcome.OptOutcome.TheVariants.{NoMemory}
-use Rattle.cec_opt_commands.specs.declared.words.Task.{Task}
-use Rattle.cec_opt_commands.specs.declared.words.Task.TheVariants.{Write, Check}
 
 -- ---- causes
 
@@ -39,14 +42,29 @@ pub record HasNet (text : List ℕ) : Type 0 where
   pub net : Netlist
   pub of_text : IsTextNet text net
 
+-- The text has a netlist, and the task writes it as embedded C. This is the first fault of the name of the component
+-- and of the signals. No other task has such a fault.
+abbrev pub IsTextComponentFault : Task → EmbedFault → List ℕ → Type 0
+IsTextComponentFault (Embed component layout) fault text =
+    (length text ≤ TEXT_BYTES) × IsTextNameFault text component fault
+IsTextComponentFault others fault text = ⊥
+
+-- The text has a netlist, and the task writes it as Verilog with a reset. This is the first fault of the names of the
+-- module. No other task has such a fault.
+abbrev pub IsTextModuleFault : Task → ResetFault → List ℕ → Type 0
+IsTextModuleFault (Reset options) fault text = (length text ≤ TEXT_BYTES) × IsTextModuleNameFault text options fault
+IsTextModuleFault others fault text = ⊥
+
 -- what the outcome of a task on a text that was read says of its bytes
-abbrev pub SaysOf : OptOutcome → List ℕ → Type 0
-SaysOf Done text = HasNet text
-SaysOf (BadText fault) text = (length text ≤ TEXT_BYTES) × IsOptFault text fault
-SaysOf TooLong text = TEXT_BYTES < length text
-SaysOf WriteFault text = HasNet text
-SaysOf NoMemory text = ⊤
-SaysOf others text = ⊥
+abbrev pub SaysOf : Task → OptOutcome → List ℕ → Type 0
+SaysOf task Done text = HasNet text
+SaysOf task (BadText fault) text = (length text ≤ TEXT_BYTES) × IsOptFault text fault
+SaysOf task (BadComponent fault) text = IsTextComponentFault task fault text
+SaysOf task (BadModule fault) text = IsTextModuleFault task fault text
+SaysOf task TooLong text = TEXT_BYTES < length text
+SaysOf task WriteFault text = HasNet text
+SaysOf task NoMemory text = ⊤
+SaysOf task others text = ⊥
 
 -- The source stands for a program, by its main module, whose graph keeps the limits. Over every list of items that meet
 -- its relations its reactions are constructive.
@@ -71,16 +89,27 @@ abbrev pub IsGraphRefusedFor : (main : Option (List ℕ)) → Refusal → (sourc
 IsGraphRefusedFor main (refusing.Cyclic cycle) source = ⊥
 IsGraphRefusedFor main others source = IsRefusedFor main others source
 
+-- the same of a source, which has a netlist
+abbrev pub IsSourceComponentFault : Task → (main : Option (List ℕ)) → EmbedFault → (source : List ℕ) → Type 0
+IsSourceComponentFault (Embed component layout) main fault source = IsProgramNameFault source main component fault
+IsSourceComponentFault others main fault source = ⊥
+
+abbrev pub IsSourceModuleFault : Task → (main : Option (List ℕ)) → ResetFault → (source : List ℕ) → Type 0
+IsSourceModuleFault (Reset options) main fault source = IsProgramModuleFault source main options fault
+IsSourceModuleFault others main fault source = ⊥
+
 -- what the outcome of a task on a source that was read says of its bytes
-abbrev pub SourceSays : (main : Option (List ℕ)) → OptOutcome → (source : List ℕ) → Type 0
-SourceSays main Done source = IsConstructible main source
-SourceSays main (Refused refusal) source = IsGraphRefusedFor main refusal source
-SourceSays main (NotConstructive stuck) source = StandsForStuck source main stuck
-SourceSays main (Undecided cycle) source = HasCycle source main cycle
-SourceSays main (TooManyNets cycle) source = HasCycle source main cycle
-SourceSays main WriteFault source = IsConstructible main source ⊎ IsStuckSource main source
-SourceSays main NoMemory source = ⊤
-SourceSays main others source = ⊥
+abbrev pub SourceSays : Task → (main : Option (List ℕ)) → OptOutcome → (source : List ℕ) → Type 0
+SourceSays task main Done source = IsConstructible main source
+SourceSays task main (BadComponent fault) source = IsSourceComponentFault task main fault source
+SourceSays task main (BadModule fault) source = IsSourceModuleFault task main fault source
+SourceSays task main (Refused refusal) source = IsGraphRefusedFor main refusal source
+SourceSays task main (NotConstructive stuck) source = StandsForStuck source main stuck
+SourceSays task main (Undecided cycle) source = HasCycle source main cycle
+SourceSays task main (TooManyNets cycle) source = HasCycle source main cycle
+SourceSays task main WriteFault source = IsConstructible main source ⊎ IsStuckSource main source
+SourceSays task main NoMemory source = ⊤
+SourceSays task main others source = ⊥
 
 -- what an outcome says of the file that is read; a file fault says nothing of bytes
 abbrev pub AgreesOnFile : Content → (name : List ℕ) → (OptOutcome → List ℕ → Type 0) → OptOutcome → Type 0
@@ -98,8 +127,8 @@ IsWriting others = ⊥
 abbrev pub IsOptOutcomeOf : Option Request → Content → OptOutcome → Type 0
 IsOptOutcomeOf None content outcome = outcome ≡ Usage
 IsOptOutcomeOf (Some (Tell about)) content outcome = IsWriting outcome
-IsOptOutcomeOf (Some (Do task name)) content outcome = AgreesOnFile content name SaysOf outcome
-IsOptOutcomeOf (Some (Make task name main)) content outcome = AgreesOnFile content name (SourceSays main) outcome
+IsOptOutcomeOf (Some (Do task name)) content outcome = AgreesOnFile content name (SaysOf task) outcome
+IsOptOutcomeOf (Some (Make task name main)) content outcome = AgreesOnFile content name (SourceSays task main) outcome
 
 -- ---- the files
 
@@ -113,9 +142,11 @@ CountsFiles asked others before now failed_before failed_now = KeepsFaults befor
 
 -- ---- what `out` gained
 
--- netlists are written piece by piece, counts as a whole
+-- netlists are written piece by piece; embedded C, Verilog with a reset and counts as a whole
 abbrev pub LeavesAnswer : Task → (List ℕ → Type 0) → SinkChange → OptOutcome → Type 0
 LeavesAnswer (Write form) IsText s outcome = LeavesPieces IsText s (written_of outcome)
+LeavesAnswer (Embed component layout) IsText s outcome = LeavesText IsText s (written_of outcome)
+LeavesAnswer (Reset options) IsText s outcome = LeavesText IsText s (written_of outcome)
 LeavesAnswer Check IsText s outcome = LeavesText IsText s (written_of outcome)
 
 -- what a task writes of the text in a file

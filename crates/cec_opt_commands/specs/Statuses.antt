@@ -8,11 +8,16 @@ use Rattle.cec_compile.specs.declared.refusal.Limit.TheVariants as limits
 use Rattle.cec_compile.specs.declared.refusal.Refusal as refusals
 use Rattle.cec_compile.specs.declared.refusal.Refusal.TheVariants as refusing
 use Rattle.cec_cycles.specs.declared.findings.Stuck.{Stuck}
+use Rattle.cec_opt_embed.specs.declared.faults.TextEmbedFault.{TextEmbedFault}
+use Rattle.cec_opt_embed.specs.declared.faults.TextEmbedFault.TheVariants as embedding
+use Rattle.cec_opt_reset.specs.declared.faults.TextResetFault.{TextResetFault}
+use Rattle.cec_opt_reset.specs.declared.faults.TextResetFault.TheVariants as resetting
 use Rattle.cec_opt_texts.specs.declared.fault.OptFault.{OptFault}
 use Rattle.cec_text_io.specs.declared.writing.Written.{Written}
 use Rattle.cec_text_io.specs.declared.writing.Written.TheVariants as ends
 use Rattle.cec_opt_commands.specs.declared.outcome.OptOutcome.{OptOutcome}
 use Rattle.cec_opt_commands.specs.declared.outcome.OptOutcome.TheVariants.{Done, Usage, FileFault, BadText, TooLong}
+use Rattle.cec_opt_commands.specs.declared.outcome.OptOutcome.TheVariants.{BadComponent, BadModule}
 use Rattle.cec_opt_commands.specs.declared.outcome.OptOutcome.TheVariants.{Refused, NotConstructive, Undecided}
 use Rattle.cec_opt_commands.specs.declared.outcome.OptOutcome.TheVariants.{TooManyNets, WriteFault}
 use Rattle.cec_opt_commands.specs.declared.outcome.OptOutcome.TheVariants.{NoMemory}
@@ -29,6 +34,8 @@ status_of Done = 0
 status_of Usage = 2
 status_of FileFault = 3
 status_of (BadText fault) = 7
+status_of (BadComponent fault) = 14
+status_of (BadModule fault) = 14
 status_of TooLong = 8
 status_of (Refused refusal) = refusal_status refusal
 status_of (NotConstructive stuck) = 12
@@ -59,6 +66,18 @@ stuck_outcome stuck ends.NoMemory = NoMemory
 abbrev pub stop_outcome : Stop OptFault → OptOutcome
 stop_outcome (stops.Fault fault) = BadText fault
 stop_outcome stops.NoMemory = NoMemory
+
+-- of a text that was to be written as embedded C
+abbrev pub embed_outcome : Stop TextEmbedFault → OptOutcome
+embed_outcome (stops.Fault (embedding.Text fault)) = BadText fault
+embed_outcome (stops.Fault (embedding.Component fault)) = BadComponent fault
+embed_outcome stops.NoMemory = NoMemory
+
+-- of a text that was to be written as Verilog with a reset
+abbrev pub reset_outcome : Stop TextResetFault → OptOutcome
+reset_outcome (stops.Fault (resetting.Text fault)) = BadText fault
+reset_outcome (stops.Fault (resetting.Module fault)) = BadModule fault
+reset_outcome stops.NoMemory = NoMemory
 
 abbrev pub unread_outcome : unread.FileFault → OptOutcome
 unread_outcome reading.Failed = FileFault

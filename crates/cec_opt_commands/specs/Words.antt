@@ -1,12 +1,28 @@
 -- To believe: what the words of a command line ask for.
-use Rattle.std.specs.Prelude.{ℕ, Bool, false, not, ◌==◌, ◌||◌, if◌then◌else◌, List, [], ◌∷◌, ◌++◌, codes, Option, Some}
+use Rattle.std.specs.Prelude.{ℕ, Bool, false, not, ◌||◌, if◌then◌else◌, List, [], ◌∷◌, ◌++◌, codes, Option, Some}
 use Rattle.std.specs.Prelude.{None, is_some, option_and_then, option_map}
 use Rattle.base_types.specs.Names.{is_same_name}
+use Rattle.csub_embed.specs.declared.layout.EmbedLayout.{EmbedLayout}
+use Rattle.vlog_reset.specs.Options.{ModuleOptions}
+pub use Rattle.cec_opt_commands.specs.GivenNames.{is_plain}
+use Rattle.cec_opt_commands.specs.Layouts.{is_layout, layout_of, no_layout, with_layout}
+use Rattle.cec_opt_commands.specs.Resets.{Wanted, needs_value, plain_reset, wanted_with, with_value, with_word}
+use Rattle.cec_opt_commands.specs.declared.layouts.Laid.{Laid}
 use Rattle.cec_opt_commands.specs.declared.words.About.{About}
 use Rattle.cec_opt_commands.specs.declared.words.About.TheVariants.{Commands, Version}
+use Rattle.cec_opt_commands.specs.declared.words.Form.{Form}
 use Rattle.cec_opt_commands.specs.declared.words.Form.TheVariants as forms
-use Rattle.cec_opt_commands.specs.declared.words.Task.{Task}
-use Rattle.cec_opt_commands.specs.declared.words.Task.TheVariants.{Write, Check}
+
+-- what is done with a text, or with a source
+pub data Task : Type 0 where
+  -- its optimized circuit is written, in this form
+  Write : (form : Form) → Task
+  -- its optimized circuit is written as embedded C, as a component of this name and in this layout
+  Embed : (component : List ℕ) (layout : EmbedLayout) → Task
+  -- its optimized circuit is written as Verilog with a reset, with these names
+  Reset : (options : ModuleOptions) → Task
+  -- the sizes of its circuit and of the optimized one are reported
+  Check : Task
 
 -- what is asked for
 pub data Request : Type 0 where
@@ -16,11 +32,6 @@ pub data Request : Type 0 where
   Do : (task : Task) (name : List ℕ) → Request
   -- a task on the source in the file of this name, by the main module of this name
   Make : (task : Task) (name : List ℕ) (main : Option (List ℕ)) → Request
-
--- a file or a name: not empty, and its first byte is not `-`
-abbrev pub is_plain : List ℕ → Bool
-is_plain [] = false
-is_plain (c ∷ cs) = not (c == 45)
 
 -- the task of a command
 abbrev pub task_of : List ℕ → Option Task
@@ -37,10 +48,6 @@ word_asked word =
     if is_same_name word (codes "--help") then Some (Tell Commands)
     else if is_same_name word (codes "--version") then Some (Tell Version)
     else None
-
--- a command and a file
-abbrev pub job_asked : List ℕ → List ℕ → Option Request
-job_asked command name = if is_plain name then option_map (λ task. Do task name) (task_of command) else None
 
 -- ---- options of a command on a source, each at most once
 
@@ -85,20 +92,80 @@ options_asked task words = option_and_then (source_asked task) (options_of words
 
 -- ---- all words
 
+-- a task and a file
+abbrev pub text_asked : Task → List ℕ → Option Request
+text_asked task name = if is_plain name then Some (Do task name) else None
+
+-- one word is a file, and more are options
+abbrev pub rest_asked : Task → List (List ℕ) → Option Request
+rest_asked task [] = None
+rest_asked task (name ∷ []) = text_asked task name
+rest_asked task (key ∷ value ∷ more) = options_asked task (key ∷ value ∷ more)
+
+-- right after `c`
+abbrev pub is_embed : Task → List ℕ → Bool
+is_embed (Write forms.C) word = is_same_name word (codes "--embed")
+is_embed others word = false
+
+-- no further word for the layout, or one; then the same words as after another command
+abbrev pub more_laid : (component : List ℕ) → Laid → List (List ℕ) → Option Request
+more_laid component laid [] = None
+more_laid component laid (word ∷ words) =
+    if is_layout word
+    then option_and_then (λ next. rest_asked (Embed component (layout_of next)) words) (with_layout laid word)
+    else rest_asked (Embed component (layout_of laid)) (word ∷ words)
+
+-- no word for the layout, one, or two
+abbrev pub laid_asked : (component : List ℕ) → List (List ℕ) → Option Request
+laid_asked component [] = None
+laid_asked component (word ∷ words) =
+    if is_layout word then option_and_then (λ laid. more_laid component laid words) (with_layout no_layout word)
+    else rest_asked (Embed component (layout_of no_layout)) (word ∷ words)
+
+-- the name of the component comes first
+abbrev pub embed_asked : List (List ℕ) → Option Request
+embed_asked [] = None
+embed_asked (component ∷ words) = if is_plain component then laid_asked component words else None
+
+-- right after `verilog`
+abbrev pub is_reset : Task → List ℕ → Bool
+is_reset (Write forms.Verilog) word = is_same_name word (codes "--reset")
+is_reset others word = false
+
+-- a text or a source must be named; a main module is one of a source
+abbrev pub text_wanted : Wanted → Option Request
+text_wanted w = if is_some w.main then None else option_map (λ name. Do (Reset w.options) name) w.text
+
+abbrev pub file_wanted : Wanted → Option (List ℕ) → Option Request
+file_wanted w None = text_wanted w
+file_wanted w (Some name) = Some (Make (Reset w.options) name w.main)
+
+-- the name of the reset comes first
+abbrev pub reset_asked : List (List ℕ) → Option Request
+reset_asked [] = None
+reset_asked (reset ∷ words) =
+    if is_plain reset then option_and_then (λ w. file_wanted w w.source) (wanted_with (plain_reset reset) None words)
+    else None
+
+abbrev pub task_asked : Task → List (List ℕ) → Option Request
+task_asked task [] = None
+task_asked task (word ∷ words) =
+    if is_embed task word then embed_asked words
+    else if is_reset task word then reset_asked words
+    else rest_asked task (word ∷ words)
+
 -- every other list of words has no meaning
 abbrev pub request_by : List (List ℕ) → Option Request
 request_by [] = None
 request_by (word ∷ []) = word_asked word
-request_by (command ∷ name ∷ []) = job_asked command name
-request_by (command ∷ key ∷ value ∷ more) =
-    option_and_then (λ task. options_asked task (key ∷ value ∷ more)) (task_of command)
+request_by (command ∷ word ∷ words) = option_and_then (λ task. task_asked task (word ∷ words)) (task_of command)
 
 -- ---- what is wrong with words that have no meaning
 
 abbrev pub is_option : List ℕ → Bool
 is_option word = is_same_name word (codes "--source") || is_same_name word (codes "--main")
 
-abbrev pub misuse_of_rest : (key : List ℕ) → (Options → List ℕ) → Option Options → List ℕ
+abbrev pub misuse_of_rest : {X : Type 0} → (key : List ℕ) → (X → List ℕ) → Option X → List ℕ
 misuse_of_rest key rest None = codes "bad option: " ++ key
 misuse_of_rest key rest (Some next) = rest next
 
@@ -136,13 +203,63 @@ misuse_of_task command [] = codes "no file after " ++ command
 misuse_of_task command (name ∷ []) = misuse_of_one name
 misuse_of_task command (name ∷ more ∷ others) = misuse_of_words command name more (name ∷ more ∷ others)
 
+-- the second word for the layout may not go with the first one
+abbrev pub misuse_of_more_laid : (command : List ℕ) → Laid → List (List ℕ) → List ℕ
+misuse_of_more_laid command laid [] = misuse_of_task command []
+misuse_of_more_laid command laid (word ∷ words) =
+    if is_layout word then misuse_of_rest word (λ next. misuse_of_task command words) (with_layout laid word)
+    else misuse_of_task command (word ∷ words)
+
+-- after words for the layout come the same words as after another command
+abbrev pub misuse_of_laid : (command : List ℕ) → List (List ℕ) → List ℕ
+misuse_of_laid command [] = misuse_of_task command []
+misuse_of_laid command (word ∷ words) =
+    if is_layout word
+    then misuse_of_rest word (λ laid. misuse_of_more_laid command laid words) (with_layout no_layout word)
+    else misuse_of_task command (word ∷ words)
+
+-- `--embed` needs the name of a component
+abbrev pub misuse_of_embed : (command : List ℕ) → List (List ℕ) → List ℕ
+misuse_of_embed command [] = codes "no value after --embed"
+misuse_of_embed command (component ∷ words) =
+    if is_plain component then misuse_of_laid command words else codes "bad option: --embed"
+
+-- a name that is no file is one word too many
+abbrev pub misuse_of_word : (word : List ℕ) → (Wanted → List ℕ) → Option Wanted → List ℕ
+misuse_of_word word rest None =
+    if is_plain word then codes "one word too many: " ++ word else codes "bad option: " ++ word
+misuse_of_word word rest (Some next) = rest next
+
+-- the same words as in `wanted_with`; where each of them has a meaning, no file is named
+abbrev pub misuse_of_wanted : (command : List ℕ) → Wanted → (waiting : Option (List ℕ)) → List (List ℕ) → List ℕ
+misuse_of_wanted command w None [] = codes "no file after " ++ command
+misuse_of_wanted command w None (word ∷ more) =
+    if needs_value word then misuse_of_wanted command w (Some word) more
+    else misuse_of_word word (λ next. misuse_of_wanted command next None more) (with_word w word)
+misuse_of_wanted command w (Some key) [] = codes "no value after " ++ key
+misuse_of_wanted command w (Some key) (value ∷ more) =
+    misuse_of_rest key (λ next. misuse_of_wanted command next None more) (with_value w key value)
+
+-- `--reset` needs the name of a port
+abbrev pub misuse_of_reset : (command : List ℕ) → List (List ℕ) → List ℕ
+misuse_of_reset command [] = codes "no value after --reset"
+misuse_of_reset command (reset ∷ words) =
+    if is_plain reset then misuse_of_wanted command (plain_reset reset) None words else codes "bad option: --reset"
+
+abbrev pub misuse_after_command : (command : List ℕ) → Task → List (List ℕ) → List ℕ
+misuse_after_command command task [] = misuse_of_task command []
+misuse_after_command command task (word ∷ words) =
+    if is_embed task word then misuse_of_embed command words
+    else if is_reset task word then misuse_of_reset command words
+    else misuse_of_task command (word ∷ words)
+
 -- after a word that asks about the program comes none; such a word alone has a meaning
 abbrev pub misuse_of_own : (word : List ℕ) → List (List ℕ) → List ℕ
 misuse_of_own word [] = codes "unknown word: " ++ word
 misuse_of_own word (more ∷ others) = codes "one word too many: " ++ more
 
 abbrev pub misuse_after : (word : List ℕ) → Option Task → Option Request → List (List ℕ) → List ℕ
-misuse_after word (Some task) own rest = misuse_of_task word rest
+misuse_after word (Some task) own rest = misuse_after_command word task rest
 misuse_after word None (Some request) rest = misuse_of_own word rest
 misuse_after word None None rest = codes "unknown word: " ++ word
 

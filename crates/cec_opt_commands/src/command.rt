@@ -8,7 +8,7 @@ ghost use Rattle.cec_opt_commands.specs.HelpTexts.{own_text};
 ghost use Rattle.cec_opt_commands.specs.Lines.{GainsErr, GainsSourceErr, line_of, named, source_subject};
 ghost use Rattle.cec_opt_commands.specs.Outcomes.{IsOptOutcomeOf, CountsFiles, GainsOut, LeavesSourceAnswer};
 ghost use Rattle.cec_opt_commands.specs.Outcomes.{SourceSays};
-ghost use Rattle.cec_opt_commands.specs.Views.{plain_request, subject_is};
+ghost use Rattle.cec_opt_commands.specs.Views.{plain_request, plain_task, subject_is};
 ghost use Rattle.cec_opt_commands.specs.Words.{request_by, Do, Make, Tell};
 
 use crate::lines::{Subject, named, report, report_misuse};
@@ -23,7 +23,20 @@ use std::alloc::Global;
 const HELP: &[u8] =
     b"cec-opt blif TEXT      writes the optimized circuit of TEXT, a BLIF file, as BLIF
 cec-opt c TEXT         the same as C
+cec-opt c --embed NAME TEXT
+                       the same as embedded C: a header for any number of instances of NAME
+    --packed           after NAME: one bit for each latch of an instance
+    --declarations     after NAME: of two files the header NAME.h, with the types and the prototypes
+    --definitions      after NAME: of two files the other one, NAME.c, which includes NAME.h
+    --header           after NAME: one header with all of it, as without a word for a file
 cec-opt verilog TEXT   the same as structural Verilog
+cec-opt verilog --reset NAME TEXT
+                       the same as Verilog for synthesis, with the reset NAME at edges of the clock
+    --async            after NAME: the reset takes effect at once
+    --active-low       after NAME: the reset is active where its port is low
+    --initial          after NAME: the registers have their first values at power-up too
+    --module M         after NAME: the name of the module, in place of the circuit's
+    --prefix           after NAME: inputs are i_X and outputs o_X, where X is the signal
 cec-opt check TEXT     writes the sizes of the circuit and of the optimized one
     --source FILE      in place of TEXT: compiles the source FILE, with its state plain and in a code,
                        and takes the lighter circuit; a latch weighs as much as four gates
@@ -44,6 +57,19 @@ const VERSION: &[u8] = b"cec-opt 0.1.0\n";
 /// version. Every other list of words is `Usage`. For every outcome except `Done` one line goes to `err`, which for
 /// `Usage` names the word at fault. A write to `err` that fails changes no outcome.
 ///
+/// `c --embed NAME TEXT` writes embedded C, as a component of this name. For `Done` take any calls on any number of
+/// instances, in any order. An instance that is reset first shows at each call what the text shows that was read
+/// (`EmbedKeeps`), or what the source's program means (`EmbeddedTextKeeps`). Calls on one instance change no other one.
+/// `BadComponent` has the first fault of the name and of the signals. After `NAME` may come `--packed`, for one bit for
+/// each latch, and before or after it a word for the file: `--header`, `--declarations` or `--definitions`. One of two
+/// files means that together with the other one of the same netlist.
+///
+/// `verilog --reset NAME TEXT` writes Verilog for synthesis, with a reset of this name. For `Done` take any edges of
+/// the clock and of the reset that begin with a reset. At each edge without one the module shows what the text shows
+/// that was read (`ResetKeeps`), or what the source's program means (`ResetTextKeeps`). `BadModule` has the first
+/// fault of the names. The words `--async`, `--active-low`, `--initial`, `--prefix` and `--module M` come after `NAME`
+/// in any order, also after the file.
+///
 /// With `--source FILE` in place of `TEXT` the file has a source, which is compiled first, by its module of the name
 /// after `--main`, or by its first one. Its plain and its encoded netlist are optimized, and the lighter one is written
 /// (`IsLightNetOf`). For `Done` the text keeps what the source's program means, as the texts of `cec` do
@@ -54,9 +80,9 @@ const VERSION: &[u8] = b"cec-opt 0.1.0\n";
 /// all runs of both show the same values of the outputs, `_paused` among them (`IsAnswer`). The new text has no more
 /// gates and no more latches than the circuit's netlist, and nothing is left to simplify.
 ///
-/// `BadText` and `TooLong` come only where the text has their cause. By the law `accepted_texts_are_done`, only such a
-/// cause, a failing file or sink, or running out of memory keeps a command from being done. Running out of memory can
-/// truncate the output at a piece boundary.
+/// `BadText`, `BadComponent`, `BadModule` and `TooLong` come only where the text has their cause. By the law
+/// `accepted_texts_are_done`, only such a cause, a failing file or sink, or running out of memory keeps a command from
+/// being done. Running out of memory can truncate the output at a piece boundary.
 pub fn cec_opt<F: Files, O: Sink, E: Sink>(
     alloc: Global,
     words: &[String],
@@ -112,17 +138,17 @@ fn own_text(about: About) -> &'static [u8]
 // Does a task on the text in a file.
 fn do_file<F: Files, O: Sink, E: Sink>(
     alloc: Global,
-    task: Task,
+    task: Task<'_>,
     name: &str,
     files: &mut F,
     out: &mut O,
     err: &mut E,
 ) -> OptOutcome
-    ensures agrees { IsOptOutcomeOf (Some (Do task name.now)) (F.content files.old) result }
-    ensures files_counted { CountsFiles (Some (Do task name.now)) result
+    ensures agrees { IsOptOutcomeOf (Some (Do (plain_task task.entry) name.now)) (F.content files.old) result }
+    ensures files_counted { CountsFiles (Some (Do (plain_task task.entry) name.now)) result
         (F.faults files.old) (F.faults files.new) (F.last_failed files.old) (F.last_failed files.new) }
     ensures files_stay { F.content files.new ≡ F.content files.old }
-    ensures out { GainsOut (Some (Do task name.now)) (F.content files.old) result
+    ensures out { GainsOut (Some (Do (plain_task task.entry) name.now)) (F.content files.old) result
         (change O.told O.faults out.old out.new) }
     ensures err { GainsLine (E.told err.old) (E.told err.new) (E.faults err.old) (E.faults err.new)
         (line_of (named name.now) result) }
@@ -144,19 +170,20 @@ fn do_file<F: Files, O: Sink, E: Sink>(
 // Does a task on the source in a file.
 fn do_source<F: Files, O: Sink, E: Sink>(
     alloc: Global,
-    task: Task,
+    task: Task<'_>,
     name: &str,
     main: Option<&[u8]>,
     files: &mut F,
     out: &mut O,
     err: &mut E,
 ) -> OptOutcome
-    ensures agrees { IsOptOutcomeOf (Some (Make task name.now (option_map (λ m. m.now) main.entry)))
+    ensures agrees { IsOptOutcomeOf (Some (Make (plain_task task.entry) name.now (option_map (λ m. m.now) main.entry)))
         (F.content files.old) result }
-    ensures files_counted { CountsFiles (Some (Make task name.now (option_map (λ m. m.now) main.entry))) result
-        (F.faults files.old) (F.faults files.new) (F.last_failed files.old) (F.last_failed files.new) }
+    ensures files_counted { CountsFiles
+        (Some (Make (plain_task task.entry) name.now (option_map (λ m. m.now) main.entry)))
+        result (F.faults files.old) (F.faults files.new) (F.last_failed files.old) (F.last_failed files.new) }
     ensures files_stay { F.content files.new ≡ F.content files.old }
-    ensures out { GainsOut (Some (Make task name.now (option_map (λ m. m.now) main.entry)))
+    ensures out { GainsOut (Some (Make (plain_task task.entry) name.now (option_map (λ m. m.now) main.entry)))
         (F.content files.old) result (change O.told O.faults out.old out.new) }
     ensures err { GainsSourceErr name.now (option_map (λ m. m.now) main.entry) (F.content files.old) result
         (E.told err.old) (E.told err.new) (E.faults err.old) (E.faults err.new) }
@@ -174,7 +201,7 @@ fn do_source<F: Files, O: Sink, E: Sink>(
 // Does a task on a source that was read, and writes the line of the outcome.
 fn told_source<O: Sink, E: Sink>(
     alloc: Global,
-    task: Task,
+    task: Task<'_>,
     name: &str,
     main: Option<&[u8]>,
     source: &[u8],
@@ -182,8 +209,8 @@ fn told_source<O: Sink, E: Sink>(
     err: &mut E,
 ) -> OptOutcome
     requires { length source.now ≤ Limits.SOURCE_BYTES }
-    ensures says { SourceSays (option_map (λ m. m.now) main.entry) result source.now }
-    ensures out { LeavesSourceAnswer task source.now (option_map (λ m. m.now) main.entry)
+    ensures says { SourceSays (plain_task task.entry) (option_map (λ m. m.now) main.entry) result source.now }
+    ensures out { LeavesSourceAnswer (plain_task task.entry) source.now (option_map (λ m. m.now) main.entry)
         (change O.told O.faults out.old out.new) result }
     ensures err { GainsLine (E.told err.old) (E.told err.new) (E.faults err.old) (E.faults err.new)
         (line_of (source_subject name.now (option_map (λ m. m.now) main.entry) source.now) result) }

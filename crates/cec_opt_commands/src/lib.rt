@@ -4,15 +4,21 @@
 //! BLIF (Berkeley), in the C subset, or as structural Verilog, with the interface of the text. Its contract says that
 //! over every list of items, resets included, the text that is written shows what the text shows that was read. With
 //! `--source` it reads a source in place of a text, and compiles it first (`cec_opt_sources`): then the text that is
-//! written does what the source means.
+//! written does what the source means. With `--embed` after `c` it writes embedded C (`cec_opt_embed`): a header in
+//! which any number of instances of the circuit run, or one of two files. With `--reset` after `verilog` it writes
+//! Verilog for synthesis, with a reset (`cec_opt_reset`).
 #![tactic(auto)]
 
 mod command;
 mod counts;
 mod depths;
+mod embedded;
 mod laws;
+mod layouts;
 mod lines;
 mod outcome;
+mod resets;
+mod resetting;
 mod sources;
 mod steady;
 mod texts;

@@ -5,8 +5,8 @@ ghost use Rattle.std.specs.String.{string_bytes};
 ghost use Rattle.base_types.specs.Writing.{Wrote};
 ghost use Rattle.cec_text_io.specs.ErrorLines.{GainsLine};
 ghost use Rattle.cec_refusals.specs.Views.{refused_is};
-ghost use Rattle.cec_opt_commands.specs.Lines.{circuit_line_text, fault_text, line_of, named, own_line, refused_of};
-ghost use Rattle.cec_opt_commands.specs.Lines.{stuck_text};
+ghost use Rattle.cec_opt_commands.specs.Lines.{circuit_line_text, component_fault_text, fault_text, line_of, named};
+ghost use Rattle.cec_opt_commands.specs.Lines.{reset_fault_text, own_line, refused_of, stuck_text};
 ghost use Rattle.cec_opt_commands.specs.Views.{subject_is};
 ghost use Rattle.cec_opt_commands.specs.Words.{misuse_of};
 
@@ -18,7 +18,9 @@ use cec_cycles::Stuck;
 use cec_opt_texts::OptFault;
 use cec_refusals::{RefusedSource, put_refusal};
 use cec_text_io::put_loop;
+use csub_embed::EmbedFault;
 use itoa::Buffer;
+use vlog_reset::ResetFault;
 
 /// What a line speaks of: the name of the file, and of a source also the main module and the bytes.
 #[derive(Clone, Copy)]
@@ -99,6 +101,8 @@ fn put_line<E: Sink>(
         OptOutcome::Usage => put_said(err, subject.name.as_bytes(), b", see cec-opt --help"),
         OptOutcome::FileFault => put_said(err, b"cannot read ", subject.name.as_bytes()),
         OptOutcome::BadText(fault) => put_fault(err, fault),
+        OptOutcome::BadComponent(fault) => put_component_fault(err, fault),
+        OptOutcome::BadModule(fault) => put_module_fault(err, fault),
         OptOutcome::TooLong => put_said(err, b"limit: text", b""),
         OptOutcome::Refused(refusal) => put_refusal(err, refused_of(subject), refusal),
         OptOutcome::NotConstructive(stuck) => put_stuck(err, stuck),
@@ -106,6 +110,51 @@ fn put_line<E: Sink>(
         OptOutcome::TooManyNets(cycle) => put_said(err, b"limit: nets: ", &cycle.text),
         OptOutcome::WriteFault => put_said(err, b"cannot write", b""),
         OptOutcome::NoMemory => put_said(err, b"out of memory", b""),
+    }
+}
+
+// The line of a fault of a component.
+fn put_component_fault<E: Sink>(err: &mut E, fault: &EmbedFault) -> Result<(), SinkFault>
+    ensures { Wrote (E.told err.old) (E.told err.new) (E.faults err.old) (E.faults err.new)
+        (own_line (component_fault_text fault.now)) result }
+{
+    match fault {
+        EmbedFault::NoName => put_said(
+            err,
+            b"the name after --embed is not a letter followed by letters, digits and _",
+            b"",
+        ),
+        EmbedFault::TypeTaken => put_said(
+            err,
+            b"the name after --embed, with _t, is a type of the library",
+            b"",
+        ),
+        EmbedFault::Reserved(word) => {
+            put_said(err, b"a signal is a word of C or C++: ", word.bytes())
+        }
+    }
+}
+
+// The line of a fault of the names of a module.
+fn put_module_fault<E: Sink>(err: &mut E, fault: &ResetFault) -> Result<(), SinkFault>
+    ensures { Wrote (E.told err.old) (E.told err.new) (E.faults err.old) (E.faults err.new)
+        (own_line (reset_fault_text fault.now)) result }
+{
+    match fault {
+        ResetFault::NoModule => put_said(
+            err,
+            b"the name of the module is not a letter followed by letters, digits and _",
+            b"",
+        ),
+        ResetFault::NoReset => put_said(
+            err,
+            b"the name after --reset is not a letter followed by letters, digits and _",
+            b"",
+        ),
+        ResetFault::Reserved(word) => {
+            put_said(err, b"a name is a word of Verilog: ", word.bytes())
+        }
+        ResetFault::Twice(name) => put_said(err, b"two names are the same: ", name.bytes()),
     }
 }
 

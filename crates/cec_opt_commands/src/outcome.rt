@@ -1,14 +1,19 @@
 // How a command ended.
 
 ghost use Rattle.std.specs.Prelude.{◌≡◌};
-ghost use Rattle.cec_opt_commands.specs.Statuses.{refusal_outcome, refusal_status, source_unread_outcome, status_of};
+ghost use Rattle.cec_opt_commands.specs.Statuses.{embed_outcome, refusal_outcome, refusal_status, reset_outcome};
+ghost use Rattle.cec_opt_commands.specs.Statuses.{source_unread_outcome, status_of};
 ghost use Rattle.cec_opt_commands.specs.Statuses.{stop_outcome, unread_outcome, written_outcome};
 
 use base_types::{FileFault, Stop};
 use cec_compile::{Cycle, Limit, Refusal};
 use cec_cycles::Stuck;
+use cec_opt_embed::TextEmbedFault;
+use cec_opt_reset::TextResetFault;
 use cec_opt_texts::OptFault;
 use cec_text_io::Written;
+use csub_embed::EmbedFault;
+use vlog_reset::ResetFault;
 
 /// How a command ended, with the cause of each refusal.
 #[derive(Debug, Drop)]
@@ -21,6 +26,12 @@ pub enum OptOutcome {
     FileFault,
     /// The first fault of the text.
     BadText(OptFault),
+    /// The text or the source has a netlist, which has no embedded C text under the name after `--embed`. This is the
+    /// first fault of the name and of the signals.
+    BadComponent(EmbedFault),
+    /// The text or the source has a netlist, which has no Verilog with a reset under the names that are asked for. This
+    /// is the first fault of the names.
+    BadModule(ResetFault),
     /// The text has more bytes than `Limits::TEXT_BYTES`.
     TooLong,
     /// The source does not compile, for another cause than a cycle.
@@ -61,6 +72,30 @@ impl From<Stop<OptFault>> for OptOutcome {
     }
 }
 
+impl From<Stop<TextEmbedFault>> for OptOutcome {
+    ghost from_gives = { λ stop outcome. outcome ≡ embed_outcome stop };
+
+    fn from(stop: Stop<TextEmbedFault>) -> OptOutcome {
+        match stop {
+            Stop::Fault(TextEmbedFault::Text(fault)) => OptOutcome::BadText(fault),
+            Stop::Fault(TextEmbedFault::Component(fault)) => OptOutcome::BadComponent(fault),
+            Stop::NoMemory => OptOutcome::NoMemory,
+        }
+    }
+}
+
+impl From<Stop<TextResetFault>> for OptOutcome {
+    ghost from_gives = { λ stop outcome. outcome ≡ reset_outcome stop };
+
+    fn from(stop: Stop<TextResetFault>) -> OptOutcome {
+        match stop {
+            Stop::Fault(TextResetFault::Text(fault)) => OptOutcome::BadText(fault),
+            Stop::Fault(TextResetFault::Module(fault)) => OptOutcome::BadModule(fault),
+            Stop::NoMemory => OptOutcome::NoMemory,
+        }
+    }
+}
+
 impl From<FileFault> for OptOutcome {
     ghost from_gives = { λ fault outcome. outcome ≡ unread_outcome fault };
 
@@ -83,6 +118,8 @@ impl OptOutcome {
             OptOutcome::Usage => 2,
             OptOutcome::FileFault => 3,
             OptOutcome::BadText(_) => 7,
+            OptOutcome::BadComponent(_) => 14,
+            OptOutcome::BadModule(_) => 14,
             OptOutcome::TooLong => 8,
             OptOutcome::Refused(refusal) => refusal_status(refusal),
             OptOutcome::NotConstructive(_) => 12,

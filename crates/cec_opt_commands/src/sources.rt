@@ -4,10 +4,13 @@ ghost use Rattle.std.specs.Prelude.{◌≤◌, length, option_map};
 ghost use Rattle.base_types.specs.SinkChanges.{change};
 ghost use Rattle.cec_opt_commands.specs.Outcomes.{LeavesSourceAnswer, SourceSays};
 ghost use Rattle.cec_opt_commands.specs.Stopping.{IsRefusedOutcome, IsStuckOutcome};
-ghost use Rattle.cec_opt_commands.specs.declared.words.Task.TheVariants.{Check, Write};
+ghost use Rattle.cec_opt_commands.specs.Views.{plain_task};
+ghost use Rattle.cec_opt_commands.specs.Words.{Check, Write};
 
 use crate::counts::all_counts;
+use crate::embedded::embed_source;
 use crate::outcome::{OptOutcome, refusal_outcome};
+use crate::resetting::reset_source;
 use crate::texts::write_net;
 use crate::words::{Form, Task};
 use base_types::{Limits, Sink};
@@ -17,23 +20,25 @@ use grc_order::First;
 use std::alloc::Global;
 
 // The effort of the search for a proof that a program with a cycle is constructive.
-const EFFORT: u64 = 20_000_000;
+pub(crate) const EFFORT: u64 = 20_000_000;
 
 /// Does a task on a source, writes what it makes to `out`, and says how it ended.
 pub(crate) fn do_source_task<O: Sink>(
     alloc: Global,
-    task: Task,
+    task: Task<'_>,
     source: &[u8],
     main: Option<&[u8]>,
     out: &mut O,
 ) -> OptOutcome
     requires { length source.now ≤ Limits.SOURCE_BYTES }
-    ensures says { SourceSays (option_map (λ m. m.now) main.entry) result source.now }
-    ensures out { LeavesSourceAnswer task source.now (option_map (λ m. m.now) main.entry)
+    ensures says { SourceSays (plain_task task.entry) (option_map (λ m. m.now) main.entry) result source.now }
+    ensures out { LeavesSourceAnswer (plain_task task.entry) source.now (option_map (λ m. m.now) main.entry)
         (change O.told O.faults out.old out.new) result }
 {
     match task {
         Task::Write(form) => write_source(alloc, form, source, main, out),
+        Task::Embed(component, layout) => embed_source(alloc, component, layout, source, main, out),
+        Task::Reset(options) => reset_source(alloc, options, source, main, out),
         Task::Check => write_source_counts(alloc, source, main, out),
     }
 }
@@ -47,7 +52,7 @@ fn write_source<O: Sink>(
     out: &mut O,
 ) -> OptOutcome
     requires { length source.now ≤ Limits.SOURCE_BYTES }
-    ensures says { SourceSays (option_map (λ m. m.now) main.entry) result source.now }
+    ensures says { SourceSays (Write form) (option_map (λ m. m.now) main.entry) result source.now }
     ensures out { LeavesSourceAnswer (Write form) source.now (option_map (λ m. m.now) main.entry)
         (change O.told O.faults out.old out.new) result }
 {
@@ -65,7 +70,7 @@ fn write_source_counts<O: Sink>(
     out: &mut O,
 ) -> OptOutcome
     requires { length source.now ≤ Limits.SOURCE_BYTES }
-    ensures says { SourceSays (option_map (λ m. m.now) main.entry) result source.now }
+    ensures says { SourceSays Check (option_map (λ m. m.now) main.entry) result source.now }
     ensures out { LeavesSourceAnswer Check source.now (option_map (λ m. m.now) main.entry)
         (change O.told O.faults out.old out.new) result }
 {
@@ -75,8 +80,8 @@ fn write_source_counts<O: Sink>(
     }
 }
 
-// The outcome of a source that has no constructive netlist. Of one that is not constructive the trace is written.
-fn refused<O: Sink>(refusal: CycleRefusal, out: &mut O) -> OptOutcome
+/// The outcome of a source that has no constructive netlist. Of one that is not constructive the trace is written.
+pub(crate) fn refused<O: Sink>(refusal: CycleRefusal, out: &mut O) -> OptOutcome
     ensures { IsRefusedOutcome refusal (change O.told O.faults out.old out.new) result }
 {
     match refusal {

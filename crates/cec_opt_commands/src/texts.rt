@@ -7,10 +7,13 @@ ghost use Rattle.cec_text_io.specs.Writings.{LeavesPieces};
 ghost use Rattle.cec_opt_commands.specs.Answers.{IsAnswer};
 ghost use Rattle.cec_opt_commands.specs.NetTexts.{IsWritten};
 ghost use Rattle.cec_opt_commands.specs.Outcomes.{LeavesAnswer, SaysOf};
-ghost use Rattle.cec_opt_commands.specs.declared.words.Task.TheVariants.{Write};
+ghost use Rattle.cec_opt_commands.specs.Views.{plain_task};
+ghost use Rattle.cec_opt_commands.specs.Words.{Check, Write};
 
 use crate::counts::text_counts;
+use crate::embedded::embed_text;
 use crate::outcome::OptOutcome;
+use crate::resetting::reset_text;
 use crate::words::{Form, Task};
 use base_types::{Limits, Sink};
 use blif_text::BlifWriter;
@@ -22,13 +25,21 @@ use std::alloc::Global;
 use vlog_text::VlogWriter;
 
 /// Does a task on a text, writes what it makes to `out`, and says how it ended.
-pub(crate) fn do_task<O: Sink>(alloc: Global, task: Task, text: &[u8], out: &mut O) -> OptOutcome
+pub(crate) fn do_task<O: Sink>(
+    alloc: Global,
+    task: Task<'_>,
+    text: &[u8],
+    out: &mut O,
+) -> OptOutcome
     requires { length text.now ≤ Limits.TEXT_BYTES }
-    ensures says { SaysOf result text.now }
-    ensures out { LeavesAnswer task (IsAnswer task text.now) (change O.told O.faults out.old out.new) result }
+    ensures says { SaysOf (plain_task task.entry) result text.now }
+    ensures out { LeavesAnswer (plain_task task.entry) (IsAnswer (plain_task task.entry) text.now)
+        (change O.told O.faults out.old out.new) result }
 {
     match task {
         Task::Write(form) => write_optimized(alloc, form, text, out),
+        Task::Embed(component, layout) => embed_text(alloc, component, layout, text, out),
+        Task::Reset(options) => reset_text(alloc, options, text, out),
         Task::Check => write_counts(alloc, text, out),
     }
 }
@@ -36,7 +47,7 @@ pub(crate) fn do_task<O: Sink>(alloc: Global, task: Task, text: &[u8], out: &mut
 // Writes the optimized circuit of a text, in a form.
 fn write_optimized<O: Sink>(alloc: Global, form: Form, text: &[u8], out: &mut O) -> OptOutcome
     requires { length text.now ≤ Limits.TEXT_BYTES }
-    ensures says { SaysOf result text.now }
+    ensures says { SaysOf (Write form) result text.now }
     ensures out { LeavesAnswer (Write form) (IsAnswer (Write form) text.now)
         (change O.told O.faults out.old out.new) result }
 {
@@ -49,9 +60,8 @@ fn write_optimized<O: Sink>(alloc: Global, form: Form, text: &[u8], out: &mut O)
 // Writes the counts of a text.
 fn write_counts<O: Sink>(alloc: Global, text: &[u8], out: &mut O) -> OptOutcome
     requires { length text.now ≤ Limits.TEXT_BYTES }
-    ensures says { SaysOf result text.now }
-    ensures out { LeavesAnswer Task.Check (IsAnswer Task.Check text.now) (change O.told O.faults out.old out.new)
-        result }
+    ensures says { SaysOf Check result text.now }
+    ensures out { LeavesAnswer Check (IsAnswer Check text.now) (change O.told O.faults out.old out.new) result }
 {
     match text_counts(alloc, text) {
         Ok(lines) => OptOutcome::from(write_whole(&lines, out)),

@@ -1,34 +1,57 @@
 // What the words of a command line ask for.
 
-ghost use Rattle.std.specs.Prelude.{◌≡◌, ◌∷◌, ◌++◌, codes, map, option_map};
+ghost use Rattle.std.specs.Prelude.{◌≡◌, ◌∷◌, ◌++◌, ℕ, List, None, codes, map, option_map};
 ghost use Rattle.std.specs.String.{string_bytes};
 ghost use Rattle.base_types.specs.Names.{is_same_name};
+ghost use Rattle.cec_opt_commands.specs.Resets.{plain_reset, Wanted as SpecWanted};
 ghost use Rattle.cec_opt_commands.specs.Words.{
+  embed_asked,
+  file_wanted,
+  is_embed,
   is_option,
   is_plain,
-  job_asked,
+  is_reset,
+  laid_asked,
   misuse_after,
+  misuse_after_command,
   misuse_of,
+  misuse_of_embed,
   misuse_of_end,
+  misuse_of_laid,
   misuse_of_more,
+  misuse_of_more_laid,
   misuse_of_one,
   misuse_of_options,
   misuse_of_own,
+  misuse_of_reset,
   misuse_of_task,
+  misuse_of_wanted,
+  misuse_of_word,
   misuse_of_words,
+  more_laid,
   more_options,
   no_options,
   options_asked,
   options_of,
   request_by,
+  reset_asked,
+  rest_asked,
   source_asked,
+  task_asked,
   task_of,
+  text_asked,
+  text_wanted,
   with_main,
   with_option,
   with_source,
   word_asked,
 };
-ghost use Rattle.cec_opt_commands.specs.Views.{options_are, plain_request};
+ghost use Rattle.cec_opt_commands.specs.Views.{options_are, plain_request, plain_task, wanted_is};
+
+use crate::layouts::{Laid, is_layout, layout_of, no_layout, with_layout};
+use crate::resets::{Wanted, needs_value, plain_reset, wanted_with, with_value, with_word};
+use csub_embed::EmbedLayout;
+use vlog_reset::ResetOptions;
 
 /// A form of the texts that are written.
 #[derive(Clone, Copy, Debug, PartialEq, Eq)]
@@ -42,10 +65,14 @@ pub(crate) enum Form {
 }
 
 /// What is done with a text, or with a source.
-#[derive(Clone, Copy, Debug, PartialEq, Eq)]
-pub(crate) enum Task {
+#[derive(Clone, Copy)]
+pub(crate) enum Task<'a> {
     /// Its optimized circuit is written, in this form.
     Write(Form),
+    /// Its optimized circuit is written as embedded C, as a component of this name and in this layout.
+    Embed(&'a [u8], EmbedLayout),
+    /// Its optimized circuit is written as Verilog with a reset, with these names.
+    Reset(ResetOptions<'a>),
     /// The sizes of its circuit and of the optimized one are reported.
     Check,
 }
@@ -65,9 +92,9 @@ pub(crate) enum Request<'a> {
     /// What the program writes about itself.
     Tell(About),
     /// A task on the text in the file of this name.
-    Do(Task, &'a str),
+    Do(Task<'a>, &'a str),
     /// A task on the source in the file of this name, by the main module of this name.
-    Make(Task, &'a str, Option<&'a [u8]>),
+    Make(Task<'a>, &'a str, Option<&'a [u8]>),
 }
 
 // The options of a command on a source.
@@ -82,16 +109,11 @@ pub(crate) fn request_by(words: &[String]) -> Option<Request<'_>>
     ensures { option_map plain_request result ≡ request_by (map string_bytes words.now) }
 {
     let (command, rest) = words.split_first()?;
-    match rest.split_first() {
-        None => word_asked(command.as_bytes()),
-        Some((text, more)) => {
-            if more.is_empty() {
-                return job_asked(command.as_bytes(), text);
-            }
-            let task = task_of(command.as_bytes())?;
-            options_asked(task, rest)
-        }
+    if rest.is_empty() {
+        return word_asked(command.as_bytes());
     }
+    let task = task_of(command.as_bytes())?;
+    task_asked(task, rest)
 }
 
 // What one word alone asks for.
@@ -107,28 +129,143 @@ fn word_asked<'a>(word: &[u8]) -> Option<Request<'a>>
     }
 }
 
-// What a command and a file ask for.
-fn job_asked<'a>(command: &[u8], text: &'a str) -> Option<Request<'a>>
-    ensures { option_map plain_request result ≡ job_asked command.now text.now }
+// What a task and the words after its command ask for.
+fn task_asked<'a>(task: Task<'a>, words: &'a [String]) -> Option<Request<'a>>
+    ensures { option_map plain_request result ≡ task_asked (plain_task task.entry) (map string_bytes words.now) }
 {
-    if !is_plain(text.as_bytes()) {
+    let (word, rest) = words.split_first()?;
+    if is_embed(task, word.as_bytes()) {
+        embed_asked(rest)
+    } else if is_reset(task, word.as_bytes()) {
+        reset_asked(rest)
+    } else {
+        rest_asked(task, words)
+    }
+}
+
+// Whether a word after the command of a task asks for embedded C.
+fn is_embed(task: Task<'_>, word: &[u8]) -> bool
+    ensures { result ≡ is_embed (plain_task task.entry) word.now }
+{
+    match task {
+        Task::Write(Form::C) => word == b"--embed".as_slice(),
+        Task::Write(Form::Blif) | Task::Write(Form::Verilog) => false,
+        Task::Embed(_, _) | Task::Reset(_) | Task::Check => false,
+    }
+}
+
+// Whether a word after the command of a task asks for Verilog with a reset.
+fn is_reset(task: Task<'_>, word: &[u8]) -> bool
+    ensures { result ≡ is_reset (plain_task task.entry) word.now }
+{
+    match task {
+        Task::Write(Form::Verilog) => word == b"--reset".as_slice(),
+        Task::Write(Form::Blif) | Task::Write(Form::C) => false,
+        Task::Embed(_, _) | Task::Reset(_) | Task::Check => false,
+    }
+}
+
+// What the name of a reset and the words after it ask for.
+fn reset_asked<'a>(words: &'a [String]) -> Option<Request<'a>>
+    ensures { option_map plain_request result ≡ reset_asked (map string_bytes words.now) }
+{
+    let (reset, rest) = words.split_first()?;
+    if !is_plain(reset.as_bytes()) {
         return None;
     }
-    let task = task_of(command)?;
-    Some(Request::Do(task, text))
+    let wanted = wanted_with(plain_reset(reset.as_bytes()), rest)?;
+    file_wanted(wanted)
+}
+
+// What is asked for, where a text or a source is named.
+fn file_wanted<'a>(wanted: Wanted<'a>) -> Option<Request<'a>>
+    ensures { option_map plain_request result ≡ file_wanted (wanted_is wanted.entry) (wanted_is wanted.entry).source }
+{
+    match wanted.source {
+        Some(name) => Some(Request::Make(Task::Reset(wanted.options), name, wanted.main)),
+        None => text_wanted(wanted),
+    }
+}
+
+fn text_wanted<'a>(wanted: Wanted<'a>) -> Option<Request<'a>>
+    ensures { option_map plain_request result ≡ text_wanted (wanted_is wanted.entry) }
+{
+    if wanted.main.is_some() {
+        return None;
+    }
+    let name = wanted.text?;
+    Some(Request::Do(Task::Reset(wanted.options), name))
+}
+
+// What the name of a component and the words after it ask for.
+fn embed_asked<'a>(words: &'a [String]) -> Option<Request<'a>>
+    ensures { option_map plain_request result ≡ embed_asked (map string_bytes words.now) }
+{
+    let (component, rest) = words.split_first()?;
+    if !is_plain(component.as_bytes()) {
+        return None;
+    }
+    laid_asked(component.as_bytes(), rest)
+}
+
+// What words for the layout of a component, none or some, and the words after them ask for.
+fn laid_asked<'a>(component: &'a [u8], words: &'a [String]) -> Option<Request<'a>>
+    ensures { option_map plain_request result ≡ laid_asked component.now (map string_bytes words.now) }
+{
+    let (word, rest) = words.split_first()?;
+    if !is_layout(word.as_bytes()) {
+        return rest_asked(Task::Embed(component, layout_of(no_layout())), words);
+    }
+    let laid = with_layout(no_layout(), word.as_bytes())?;
+    more_laid(component, laid, rest)
+}
+
+// The same after one word for the layout.
+fn more_laid<'a>(component: &'a [u8], laid: Laid, words: &'a [String]) -> Option<Request<'a>>
+    ensures { option_map plain_request result ≡ more_laid component.now laid (map string_bytes words.now) }
+{
+    let (word, rest) = words.split_first()?;
+    if !is_layout(word.as_bytes()) {
+        return rest_asked(Task::Embed(component, layout_of(laid)), words);
+    }
+    let next = with_layout(laid, word.as_bytes())?;
+    rest_asked(Task::Embed(component, layout_of(next)), rest)
+}
+
+// What a task and a file, or options, ask for.
+fn rest_asked<'a>(task: Task<'a>, words: &'a [String]) -> Option<Request<'a>>
+    ensures { option_map plain_request result ≡ rest_asked (plain_task task.entry) (map string_bytes words.now) }
+{
+    let (name, more) = words.split_first()?;
+    if more.is_empty() {
+        text_asked(task, name)
+    } else {
+        options_asked(task, words)
+    }
+}
+
+// What a task and a file ask for.
+fn text_asked<'a>(task: Task<'a>, name: &'a str) -> Option<Request<'a>>
+    ensures { option_map plain_request result ≡ text_asked (plain_task task.entry) name.now }
+{
+    if is_plain(name.as_bytes()) {
+        Some(Request::Do(task, name))
+    } else {
+        None
+    }
 }
 
 // What a task and options ask for.
-fn options_asked<'a>(task: Task, words: &'a [String]) -> Option<Request<'a>>
-    ensures { option_map plain_request result ≡ options_asked task (map string_bytes words.now) }
+fn options_asked<'a>(task: Task<'a>, words: &'a [String]) -> Option<Request<'a>>
+    ensures { option_map plain_request result ≡ options_asked (plain_task task.entry) (map string_bytes words.now) }
 {
     let options = options_of(words)?;
     source_asked(task, options)
 }
 
 // What a task asks for, with these options.
-fn source_asked<'a>(task: Task, options: Options<'a>) -> Option<Request<'a>>
-    ensures { option_map plain_request result ≡ source_asked task (options_are options.entry) }
+fn source_asked<'a>(task: Task<'a>, options: Options<'a>) -> Option<Request<'a>>
+    ensures { option_map plain_request result ≡ source_asked (plain_task task.entry) (options_are options.entry) }
 {
     let name = options.source?;
     Some(Request::Make(task, name, options.main))
@@ -211,8 +348,8 @@ fn is_option(word: &[u8]) -> bool
     word == b"--source".as_slice() || word == b"--main".as_slice()
 }
 
-// Whether a word is a file or a name: it is not empty and does not begin with `-`.
-fn is_plain(word: &[u8]) -> bool
+/// Whether a word is a file or a name: it is not empty and does not begin with `-`.
+pub(crate) fn is_plain(word: &[u8]) -> bool
     ensures { result ≡ is_plain word.now }
 {
     match word.first() {
@@ -222,8 +359,8 @@ fn is_plain(word: &[u8]) -> bool
 }
 
 // The task of a command.
-fn task_of(word: &[u8]) -> Option<Task>
-    ensures { result ≡ task_of word.now }
+fn task_of<'a>(word: &[u8]) -> Option<Task<'a>>
+    ensures { option_map plain_task result ≡ task_of word.now }
 {
     if is_verilog(word) {
         return Some(Task::Write(Form::Verilog));
@@ -279,7 +416,7 @@ fn misuse_after<'a>(word: &'a [u8], rest: &'a [String]) -> Misuse<'a>
         ≡ misuse_after word.now (task_of word.now) (word_asked word.now) (map string_bytes rest.now) }
 {
     match task_of(word) {
-        Some(_) => misuse_of_task(word, rest),
+        Some(task) => misuse_after_command(word, task, rest),
         None => match word_asked(word) {
             Some(_) => misuse_of_own(word, rest),
             None => faulty(b"unknown word: ", word),
@@ -287,7 +424,130 @@ fn misuse_after<'a>(word: &'a [u8], rest: &'a [String]) -> Misuse<'a>
     }
 }
 
-// The same after a command.
+// The same after a command of this task.
+fn misuse_after_command<'a>(command: &'a [u8], task: Task<'_>, rest: &'a [String]) -> Misuse<'a>
+    ensures { result.fault.now ++ result.word.now
+        ≡ misuse_after_command command.now (plain_task task.entry) (map string_bytes rest.now) }
+{
+    let Some((word, more)) = rest.split_first() else {
+        return misuse_of_task(command, rest);
+    };
+    if is_embed(task, word.as_bytes()) {
+        misuse_of_embed(command, more)
+    } else if is_reset(task, word.as_bytes()) {
+        misuse_of_reset(command, more)
+    } else {
+        misuse_of_task(command, rest)
+    }
+}
+
+// The same after `--reset`.
+fn misuse_of_reset<'a>(command: &'a [u8], rest: &'a [String]) -> Misuse<'a>
+    ensures { result.fault.now ++ result.word.now ≡ misuse_of_reset command.now (map string_bytes rest.now) }
+{
+    let Some((reset, more)) = rest.split_first() else {
+        return faulty(b"no value after ", b"--reset");
+    };
+    if is_plain(reset.as_bytes()) {
+        misuse_of_wanted(command, plain_reset(reset.as_bytes()), more)
+    } else {
+        faulty(b"bad option: ", b"--reset")
+    }
+}
+
+// The same after the name of a reset.
+fn misuse_of_wanted<'a>(command: &'a [u8], wanted: Wanted<'a>, words: &'a [String]) -> Misuse<'a>
+    ensures { result.fault.now ++ result.word.now
+        ≡ misuse_of_wanted command.now (wanted_is wanted.entry) None (map string_bytes words.now) }
+{
+    let mut with = wanted;
+    let mut key: Option<&'a [u8]> = None;
+    for word in words {
+        match key {
+            None => {
+                if needs_value(word.as_bytes()) {
+                    key = Some(word.as_bytes());
+                } else {
+                    match with_word(with, word) {
+                        None => return misused_word(word.as_bytes()),
+                        Some(next) => with = next,
+                    }
+                }
+            }
+            Some(name) => match with_value(with, name, word) {
+                None => return faulty(b"bad option: ", name),
+                Some(next) => {
+                    with = next;
+                    key = None;
+                }
+            },
+        }
+    }
+    match key {
+        None => faulty(b"no file after ", command),
+        Some(name) => faulty(b"no value after ", name),
+    }
+}
+
+// The same of a word that does not go with those before: a name that is no file is one word too many.
+fn misused_word(word: &[u8]) -> Misuse<'_>
+    ensures { (rest : SpecWanted → List ℕ) → result.fault.now ++ result.word.now ≡ misuse_of_word word.now rest None }
+{
+    if is_plain(word) {
+        faulty(b"one word too many: ", word)
+    } else {
+        faulty(b"bad option: ", word)
+    }
+}
+
+// The same after `--embed`.
+fn misuse_of_embed<'a>(command: &'a [u8], rest: &'a [String]) -> Misuse<'a>
+    ensures { result.fault.now ++ result.word.now ≡ misuse_of_embed command.now (map string_bytes rest.now) }
+{
+    let Some((component, more)) = rest.split_first() else {
+        return faulty(b"no value after ", b"--embed");
+    };
+    if is_plain(component.as_bytes()) {
+        misuse_of_laid(command, more)
+    } else {
+        faulty(b"bad option: ", b"--embed")
+    }
+}
+
+// The same after the name of a component.
+fn misuse_of_laid<'a>(command: &'a [u8], rest: &'a [String]) -> Misuse<'a>
+    ensures { result.fault.now ++ result.word.now ≡ misuse_of_laid command.now (map string_bytes rest.now) }
+{
+    let Some((word, more)) = rest.split_first() else {
+        return misuse_of_task(command, rest);
+    };
+    if !is_layout(word.as_bytes()) {
+        return misuse_of_task(command, rest);
+    }
+    match with_layout(no_layout(), word.as_bytes()) {
+        None => faulty(b"bad option: ", word.as_bytes()),
+        Some(laid) => misuse_of_more_laid(command, laid, more),
+    }
+}
+
+// The same after one word for the layout.
+fn misuse_of_more_laid<'a>(command: &'a [u8], laid: Laid, rest: &'a [String]) -> Misuse<'a>
+    ensures { result.fault.now ++ result.word.now
+        ≡ misuse_of_more_laid command.now laid (map string_bytes rest.now) }
+{
+    let Some((word, more)) = rest.split_first() else {
+        return misuse_of_task(command, rest);
+    };
+    if !is_layout(word.as_bytes()) {
+        return misuse_of_task(command, rest);
+    }
+    match with_layout(laid, word.as_bytes()) {
+        None => faulty(b"bad option: ", word.as_bytes()),
+        Some(_) => misuse_of_task(command, more),
+    }
+}
+
+// The same after a command and what belongs to it.
 fn misuse_of_task<'a>(command: &'a [u8], rest: &'a [String]) -> Misuse<'a>
     ensures { result.fault.now ++ result.word.now ≡ misuse_of_task command.now (map string_bytes rest.now) }
 {

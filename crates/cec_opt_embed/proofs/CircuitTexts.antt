@@ -20,12 +20,13 @@ use Rattle.blif_net.specs.Conversions.{FitsCircuit, SameLatches, ShowsCircuit}
 use Rattle.csub_text.specs.Written.{shown_by_call}
 use Rattle.csub_embed.specs.Faults.{IsEmbedFault, signals, under_name}
 use Rattle.csub_embed.specs.Machine.{own_items}
-use Rattle.csub_embed.specs.Written.{Means}
+use Rattle.csub_embed.specs.Written.{files_with, written, Means}
+use Rattle.csub_embed.specs.declared.layout.EmbedLayout.{EmbedLayout}
 use Rattle.cec_opt_texts.specs.Alike.{HasOutputs}
 use Rattle.cec_opt_texts.specs.Optimized.{IsSmallNetOf, IsSmallOf}
 use Rattle.cec_opt_embed.specs.ComponentFaults.{IsTextComponentFault}
 use Rattle.cec_opt_embed.specs.Faults.{IsTextEmbedFault}
-use Rattle.cec_opt_embed.specs.Texts.{EmbedKeeps, IsSmallComponent, row_of}
+use Rattle.cec_opt_embed.specs.Texts.{EmbedKeeps, IsSmallComponent, IsSmallEmbedded, row_of}
 use Rattle.cec_opt_embed.specs.declared.faults.TextEmbedFault.{TextEmbedFault}
 use Rattle.cec_opt_embed.specs.declared.faults.TextEmbedFault.TheVariants.{Text, Component}
 use Rattle.cec_opt_embed.proofs.Apart.{apart}
@@ -61,11 +62,14 @@ rows-shown c net small items fits =
 
 -- ---- its text under a name
 
-keeps-given : (text name embedded : List ℕ) (net : Netlist) → IsSmallNetOf text net → Means embedded (under_name name net) → EmbedKeeps text name embedded
-keeps-given text name embedded net s means =
+keeps-given : (text name : List ℕ) (layout : EmbedLayout) (embedded : List ℕ) (net : Netlist) → IsSmallNetOf text net
+    → (made : IsSmallEmbedded text name layout embedded) → Means layout.packed (files_with layout embedded made.net) (under_name name net)
+    → EmbedKeeps text name layout embedded
+keeps-given text name layout embedded net s made means =
     let c = s.circuit in
     let same = given-inputs c net s.small in
     record {
+      small = made;
       old = c;
       reads = s.reads;
       names = output_names net;
@@ -83,8 +87,11 @@ keeps-given text name embedded net s means =
       apart = apart means.component;
     }
 
-pub text-keeps : (text name embedded : List ℕ) (net : Netlist) → IsSmallComponent text name net → Means embedded net → EmbedKeeps text name embedded
-text-keeps text name embedded net is means = keeps-given text name embedded is.given is.small (subst (Means embedded) is.named means)
+pub text-keeps : (text name : List ℕ) (layout : EmbedLayout) (embedded : List ℕ) (net : Netlist) → IsSmallComponent text name net
+    → embedded ≡ written layout net → Means layout.packed (files_with layout embedded net) net → EmbedKeeps text name layout embedded
+text-keeps text name layout embedded net is spelled means =
+    keeps-given text name layout embedded is.given is.small (record { net = net; is = is; spelled = spelled })
+    (subst (Means layout.packed (files_with layout embedded net)) is.named means)
 
 -- ---- a netlist under a name
 

@@ -1,5 +1,5 @@
 -- What the embedded text of a source keeps, and why a source has none under a name.
-use Rattle.std.proofs.Common.{◌≡◌, ◌≤◌, ℕ, List, ◌++◌, length, map, Option, Result, Ok, Err, sym, ap, ap₂, ◌∙◌, subst, arith}
+use Rattle.std.proofs.Common.{◌≡◌, ◌≤◌, ℕ, Bool, List, ◌++◌, length, map, Option, Result, Ok, Err, sym, ap, ap₂, ◌∙◌, subst, arith}
 use Rattle.std.specs.Prelude.{IfOk}
 use Rattle.std.proofs.lemmas.List.{length-take}
 use Rattle.base_facts.proofs.Lists.{map-composed}
@@ -13,7 +13,9 @@ use Rattle.net_ir.specs.Runs.{netlist_of}
 use Rattle.csub_text.specs.Written.{shown_by_call}
 use Rattle.csub_embed.specs.Faults.{IsEmbedFault, signals, under_name}
 use Rattle.csub_embed.specs.Machine.{own_items}
-use Rattle.csub_embed.specs.Written.{Means}
+use Rattle.csub_embed.specs.Texts.{EmbedFiles}
+use Rattle.csub_embed.specs.Written.{files_with, written, Means}
+use Rattle.csub_embed.specs.declared.layout.EmbedLayout.{EmbedLayout}
 use Rattle.cec_compile.specs.NetMeaning.{NetKeeps, net_seen}
 use Rattle.cec_compile.proofs.Exports.{widths}
 use Rattle.cec_cycles.specs.Constructive.{IsConstructiveNetOf, StandsForConstructiveNet}
@@ -24,10 +26,10 @@ use Rattle.cec_opt_embed.specs.declared.faults.SourceEmbedFault.{SourceEmbedFaul
 use Rattle.cec_opt_embed.specs.declared.faults.SourceEmbedFault.TheVariants.{Source, Component}
 use Rattle.cec_opt_embed.proofs.Apart.{apart}
 
--- a text that means a net under a name keeps what the net keeps
-net-keeps : (text name : List ℕ) (net : Netlist) (p : Program) → given_count p ≤ length p.signals → NetKeeps net p → Means text (under_name name net)
-    → EmbeddedTextKeeps text name p
-net-keeps text name net p few keeps means = record {
+-- files that mean a net under a name keep what the net keeps
+net-keeps : (packed : Bool) (files : EmbedFiles) (name : List ℕ) (net : Netlist) (p : Program) → given_count p ≤ length p.signals → NetKeeps net p
+    → Means packed files (under_name name net) → EmbeddedTextKeeps packed files name p
+net-keeps packed files name net p few keeps means = record {
   component = means.component;
   describes = means.describes;
   named = means.name;
@@ -45,15 +47,18 @@ net-keeps text name net p few keeps means = record {
   apart = apart means.component;
 }
 
-pub source-stands : (text : List ℕ) (main : Option (List ℕ)) (name : List ℕ) (net : Netlist) (written : List ℕ) → IsComponentNetOf text main name net
-    → Means written net → StandsForEmbedded text main name written
-source-stands text main name net written is means =
+pub source-stands : (text : List ℕ) (main : Option (List ℕ)) (name : List ℕ) (layout : EmbedLayout) (net : Netlist) (embedded : List ℕ)
+    → IsComponentNetOf text main name net → embedded ≡ written layout net → Means layout.packed (files_with layout embedded net) net
+    → StandsForEmbedded text main name layout embedded
+source-stands text main name layout net embedded is spelled means =
     let s = is.stands in
+    let files = files_with layout embedded net in
     record {
       program = s.program;
       source = s.source;
       limits = s.limits;
-      keeps = net-keeps written name is.given s.program s.few s.keeps (subst (Means written) is.named means);
+      made = record { net = net; is = is; spelled = spelled };
+      keeps = net-keeps layout.packed files name is.given s.program s.few s.keeps (subst (Means layout.packed files) is.named means);
     }
 
 -- ---- a netlist under a name

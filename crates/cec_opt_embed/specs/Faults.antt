@@ -1,4 +1,4 @@
--- Contract: why a source or a BLIF text has no embedded text under a name. Where the fault is one of the name or of a
+-- To believe: why a source or a BLIF text has no embedded text under a name. Where the fault is one of the name or of a
 -- signal, there is a netlist.
 use Rattle.std.specs.Prelude.{ℕ, List, ◌++◌, Option}
 use Rattle.est_kernel.specs.Plain.{given_names, outgoing_names}

@@ -1,4 +1,4 @@
--- Contract: the calls on one instance among those on others.
+-- To believe: the calls on one instance among those on others.
 use Rattle.std.specs.Prelude.{◌≡◌, ℕ, List, filter, nat_eq}
 use Rattle.csub_embed.specs.Machine.{Call, InstanceStates, own_seen, run_calls}
 use Rattle.csub_embed.specs.Trees.{Component}

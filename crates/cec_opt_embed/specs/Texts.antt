@@ -1,4 +1,4 @@
--- Contract: what an embedded C text keeps of a BLIF text.
+-- To believe: what an embedded C text keeps of a BLIF text.
 use Rattle.std.specs.Prelude.{◌≡◌, ℕ, Bool, List, [], ◌∷◌, ◌++◌, map, Ok}
 use Rattle.base_types.specs.Items.{EachEvent}
 use Rattle.base_machines.specs.Machines.{Shows}
@@ -10,7 +10,8 @@ use Rattle.csub_embed.specs.Faults.{under_name}
 use Rattle.csub_embed.specs.Machine.{Call, InstanceStates, SeenCall, BeginsReset, own_items, own_seen, run_calls}
 use Rattle.csub_embed.specs.Texts.{Describes}
 use Rattle.csub_embed.specs.Trees.{Component}
-use Rattle.csub_embed.specs.Written.{written}
+use Rattle.csub_embed.specs.Written.{files_with, written}
+use Rattle.csub_embed.specs.declared.layout.EmbedLayout.{EmbedLayout}
 use Rattle.cec_opt_texts.specs.Alike.{HasOutputs}
 use Rattle.cec_opt_texts.specs.Optimized.{IsSmallNetOf}
 use Rattle.cec_opt_embed.specs.Instances.{AreApart}
@@ -19,18 +20,32 @@ use Rattle.cec_opt_embed.specs.Instances.{AreApart}
 abbrev pub row_of : SeenCall → List Bool
 row_of s = s.outputs ++ s.answer ∷ []
 
--- The embedded text describes a component with this name. Its inputs have a member for each input of the BLIF text, and
--- its outputs one for each output except `_paused`, in their order. Take any calls on any instances, in any order,
--- whatever the instances hold before. Choose an instance whose calls begin with a reset and whose events have one value
--- for each input. The circuit of the BLIF text has a run over them, and each of its runs shows what this instance
--- shows. Calls on one instance change no other one.
-pub record EmbedKeeps (text name embedded : List ℕ) : Type 0 where
+-- The netlist is the optimized one of the text, under the name of its component.
+pub record IsSmallComponent (text name : List ℕ) (net : Netlist) : Type 0 where
+  pub given : Netlist
+  pub small : IsSmallNetOf text given
+  pub named : net ≡ under_name name given
+
+-- and the embedded text is that of such a netlist, in this layout
+pub record IsSmallEmbedded (text name : List ℕ) (layout : EmbedLayout) (embedded : List ℕ) : Type 0 where
+  pub net : Netlist
+  pub is : IsSmallComponent text name net
+  pub spelled : embedded ≡ written layout net
+
+-- The embedded text is that of an optimized netlist of the BLIF text. It describes a component with this name, and one
+-- of two files does so with the other one of the same netlist. The component's inputs have a member for each input of
+-- the BLIF text, and its outputs one for each output except `_paused`, in their order. Take any calls on any instances,
+-- in any order, whatever the instances hold before. Choose an instance whose calls begin with a reset and whose events
+-- have one value for each input. The circuit of the BLIF text has a run over them, and each of its runs shows what this
+-- instance shows. Calls on one instance change no other one.
+pub record EmbedKeeps (text name : List ℕ) (layout : EmbedLayout) (embedded : List ℕ) : Type 0 where
+  pub small : IsSmallEmbedded text name layout embedded
   pub old : Circuit
   pub reads : reading text ≡ Ok old
   pub names : List (List ℕ)
   pub has_outputs : HasOutputs old names
   pub new : Component
-  pub describes : Describes embedded new
+  pub describes : Describes layout.packed (files_with layout embedded small.net) new
   pub named : new.name ≡ name
   pub inputs : new.inputs ≡ old.inputs
   pub outputs : new.outputs ≡ names
@@ -39,15 +54,3 @@ pub record EmbedKeeps (text name embedded : List ℕ) : Type 0 where
       → Shows (circuit_machine old) (λ v. map v old.outputs) (circuit_machine old).start (own_items k calls)
       (map row_of (own_seen k (run_calls new instances calls)))
   pub apart : AreApart new
-
--- The netlist is the optimized one of the text, under the name of its component.
-pub record IsSmallComponent (text name : List ℕ) (net : Netlist) : Type 0 where
-  pub given : Netlist
-  pub small : IsSmallNetOf text given
-  pub named : net ≡ under_name name given
-
--- and the embedded text is that of such a netlist
-pub record IsSmallEmbedded (text name embedded : List ℕ) : Type 0 where
-  pub net : Netlist
-  pub is : IsSmallComponent text name net
-  pub spelled : embedded ≡ written net

@@ -8,22 +8,23 @@ ghost use Rattle.cec_cycles.specs.Constructive.{IsOtherRefusal, IsRefusedConstru
 ghost use Rattle.cec_opt_embed.specs.ComponentFaults.{IsSourceComponentFault, IsSourceComponentStop};
 ghost use Rattle.cec_opt_embed.specs.ComponentFaults.{IsRefusalStop, IsSourceStop};
 ghost use Rattle.cec_opt_embed.specs.Faults.{IsCause, IsSourceEmbedFault};
-ghost use Rattle.cec_opt_embed.specs.Sources.{IsComponentNetOf, IsEmbeddedOf, StandsForEmbedded};
+ghost use Rattle.cec_opt_embed.specs.Sources.{IsComponentNetOf, StandsForEmbedded};
 
 use crate::faults::SourceEmbedFault;
 use base_types::{Limits, Stop};
 use cec_compile::Refusal;
 use cec_cycles::{CycleRefusal, constructive_net};
-use csub_embed::{EmbedFault, embedded_net, write_embedded};
+use csub_embed::{EmbedFault, EmbedLayout, embedded_net, write_embedded};
 use grc_order::Picker;
 use net_ir::Net;
 use std::alloc::Global;
 
-/// The embedded C text of a source, whose dependencies may have a cycle, under the name of its component. The
-/// compiler-correctness theorem holds of the text (`EmbeddedTextKeeps`). It describes a component with this name, with
-/// a member for each given and each outgoing signal. Take any calls on any number of instances, in any order. An
-/// instance whose first call is a reset, and whose events meet the source's relations, shows at each call what the
-/// reaction is, and each of these reactions is constructive. Calls on one instance change no other one.
+/// The embedded C text of a source, whose dependencies may have a cycle, under the name of its component and in this
+/// layout. The compiler-correctness theorem holds of the text, or of one of two files with the other one of the same
+/// netlist (`EmbeddedTextKeeps`). It describes a component with this name, with a member for each given and each
+/// outgoing signal. Take any calls on any number of instances, in any order. An instance whose first call is a reset,
+/// and whose events meet the source's relations, shows at each call what the reaction is, and each of these reactions
+/// is constructive. Calls on one instance change no other one.
 ///
 /// The effort is one of `net_search`, for dependencies with a cycle. The fault is that of the source, as
 /// `cec_cycles::constructive_net` says it, and where it has none, the first one of the name and of the signals
@@ -37,16 +38,15 @@ pub fn embedded_c_of<P: Picker>(
     picker: &mut P,
     effort: u64,
     name: &[u8],
+    layout: EmbedLayout,
 ) -> Result<Vec<u8>, Stop<SourceEmbedFault>>
     requires { length text.now ≤ Limits.SOURCE_BYTES }
     ensures compiles { IfOk result (λ written. StandsForEmbedded text.now
-        (option_map (λ m. m.now) main.entry) name.now written.items) }
-    ensures made { IfOk result (λ written. IsEmbeddedOf text.now
-        (option_map (λ m. m.now) main.entry) name.now written.items) }
+        (option_map (λ m. m.now) main.entry) name.now layout written.items) }
     ensures fault { IfFault result (IsSourceEmbedFault text.now (option_map (λ m. m.now) main.entry) name.now) }
 {
     let net = embedded_source_net(alloc, text, main, picker, effort, name)?;
-    let written = write_embedded(alloc, &net)?;
+    let written = write_embedded(alloc, &net, layout)?;
     Ok(written)
 }
 

@@ -7,19 +7,20 @@ ghost use Rattle.csub_embed.specs.Faults.{signals, under_name, IsEmbeddable, IsE
 ghost use Rattle.cec_opt_texts.specs.Faults.{IsOptFault};
 ghost use Rattle.cec_opt_embed.specs.ComponentFaults.{IsTextComponentFault, IsTextComponentStop, IsTextStop};
 ghost use Rattle.cec_opt_embed.specs.Faults.{IsTextEmbedFault};
-ghost use Rattle.cec_opt_embed.specs.Texts.{EmbedKeeps, IsSmallComponent, IsSmallEmbedded};
+ghost use Rattle.cec_opt_embed.specs.Texts.{EmbedKeeps, IsSmallComponent};
 
 use crate::faults::TextEmbedFault;
 use base_types::{Limits, Stop};
 use cec_opt_texts::{OptFault, optimized_net};
-use csub_embed::{EmbedFault, embedded_net, write_embedded};
+use csub_embed::{EmbedFault, EmbedLayout, embedded_net, write_embedded};
 use net_ir::Net;
 use std::alloc::Global;
 
-/// The embedded C text of the optimized netlist of a BLIF text, under the name of its component. It describes a
-/// component with this name, with a member for each input and each output of the BLIF text (`EmbedKeeps`). Take any
-/// calls on any number of instances, in any order. An instance whose first call is a reset shows at each call what the
-/// BLIF text shows. Calls on one instance change no other one.
+/// The embedded C text of the optimized netlist of a BLIF text, under the name of its component and in this layout. It
+/// describes a component with this name, with a member for each input and each output of the BLIF text; one of two
+/// files does so with the other one of the same netlist (`EmbedKeeps`). Take any calls on any number of instances, in
+/// any order. An instance whose first call is a reset shows at each call what the BLIF text shows. Calls on one
+/// instance change no other one.
 ///
 /// The fault is the BLIF text's first one, and where it has none, the first one of the name and of the signals
 /// (`IsEmbedFault`). Running out of memory is the only other error.
@@ -29,14 +30,14 @@ pub fn optimized_embedded(
     alloc: Global,
     text: &[u8],
     name: &[u8],
+    layout: EmbedLayout,
 ) -> Result<Vec<u8>, Stop<TextEmbedFault>>
     requires { length text.now ≤ Limits.TEXT_BYTES }
-    ensures keeps { IfOk result (λ written. EmbedKeeps text.now name.now written.items) }
-    ensures small { IfOk result (λ written. IsSmallEmbedded text.now name.now written.items) }
+    ensures keeps { IfOk result (λ written. EmbedKeeps text.now name.now layout written.items) }
     ensures fault { IfFault result (IsTextEmbedFault text.now name.now) }
 {
     let net = embedded_text_net(alloc, text, name)?;
-    let written = write_embedded(alloc, &net)?;
+    let written = write_embedded(alloc, &net, layout)?;
     Ok(written)
 }
 

@@ -1,20 +1,17 @@
 -- What an outcome says of an answer, and what is left of its text in a sink.
-use Rattle.std.proofs.Common.{◌≡◌, ℕ, true, false, List, [], Option, Some, sym, subst, ◌∙◌}
+use Rattle.std.proofs.Common.{◌≡◌, ℕ, true, false, List, Option, Some, inl, sym, subst, ◌∙◌}
 use Rattle.base_types.specs.SinkChanges.{SinkChange}
-use Rattle.base_types.specs.Writing.{Appends}
 use Rattle.est_kernel.specs.Plain.{Program}
-use Rattle.cec_compile.specs.Refusals.{IsRefused}
-use Rattle.cec_compile.specs.declared.refusal.Refusal.{Refusal}
-use Rattle.cec_compile.specs.declared.refusal.Refusal.TheVariants as refusing
 use Rattle.cec_text_io.proofs.Pieces as texts
 use Rattle.cec_text_io.specs.Writings.{LeavesText}
 use Rattle.cec_text_io.specs.declared.writing.Written.{Written}
 use Rattle.cec_text_io.specs.declared.writing.Written.TheVariants as ends
 use Rattle.cec_prove_covers.specs.Coverings.{HasCovering, SaysCovering}
 use Rattle.cec_prove_covers.specs.declared.coverings.Covering.{Covering}
-use Rattle.cec_prove_sources.specs.Sameness.{HasComparison, IsComparison}
-use Rattle.cec_prove_sources.specs.Surveys.{HasSurvey, IsSurvey}
-use Rattle.cec_prove_sources.specs.Verdicts.{HasVerdict, IsVerdict, PlainQuestion}
+use Rattle.cec_prove_cycles.specs.Answers.{HasConstructiveComparison, HasConstructiveSurvey, HasConstructiveVerdict}
+use Rattle.cec_prove_sources.specs.Sameness.{IsComparison}
+use Rattle.cec_prove_sources.specs.Surveys.{IsSurvey}
+use Rattle.cec_prove_sources.specs.Verdicts.{IsVerdict, PlainQuestion}
 use Rattle.cec_prove_sources.specs.declared.questions.Comparison.{Comparison}
 use Rattle.cec_prove_sources.specs.declared.questions.Survey.{Survey}
 use Rattle.cec_prove_sources.specs.declared.questions.Verdict.{Verdict}
@@ -24,9 +21,9 @@ use Rattle.cec_prove_texts.specs.Surveys.{HasTextSurvey, IsDeviceSurvey}
 use Rattle.cec_prove_texts.specs.Verdicts.{HasTextVerdict, IsDeviceVerdict}
 use Rattle.cec_opt_texts.specs.declared.fault.OptFault.{OptFault}
 use Rattle.cec_prove_commands.specs.Answers.{IsAnswer, IsWrittenBy, SaysOfTexts}
-use Rattle.cec_prove_commands.specs.Outcomes.{Answered, ClaimSays, Compared, ComparisonSays, CoveringSays, IsCoveringBy, IsCoveringOf, IsDistinction}
-use Rattle.cec_prove_commands.specs.Outcomes.{IsRefutation, IsSurveyBy, IsSurveyOf, SurveySays, question_of}
-use Rattle.cec_prove_commands.specs.Statuses.{refusal_outcome, second_refusal_outcome, written_of, written_outcome}
+use Rattle.cec_prove_commands.specs.Outcomes.{Answered, ClaimSays, Compared, ComparisonSays, CoveringSays, IsClaimTraceBy, IsCoveringBy, IsCoveringOf}
+use Rattle.cec_prove_commands.specs.Outcomes.{IsDistinction, IsDistinctionBy, IsRefutation, IsSurveyBy, IsSurveyOf, SurveySays, question_of}
+use Rattle.cec_prove_commands.specs.Statuses.{written_of, written_outcome}
 use Rattle.cec_prove_commands.specs.TextOutcomes.{IsTextDistinction, IsTextRefutation, IsTextSurveyBy, TextAnswered, TextClaimSays, TextComparisonSays}
 use Rattle.cec_prove_commands.specs.TextOutcomes.{TextSurveySays, TextsCompared}
 use Rattle.cec_prove_commands.specs.Words.{Job, Task, Ask, Survey as Surveys, Cover, Compare, AskText, SurveyText, CompareTexts}
@@ -37,21 +34,21 @@ use Rattle.cec_prove_commands.specs.declared.outcome.ProveOutcome.TheVariants.{B
 
 -- ---- what an answer says of the program
 
-pub verdict_says : (text : List ℕ) (job : Job) (q : PlainQuestion) (verdict v : Verdict) (Says : Program → Type 0) → HasVerdict text job.main q verdict
-    → verdict ≡ v → ((p : Program) → IsVerdict p q v → Says p) → Answered text job Says
+pub verdict_says : (text : List ℕ) (job : Job) (q : PlainQuestion) (verdict v : Verdict) (Says : Program → Type 0)
+    → HasConstructiveVerdict text job.main q verdict → verdict ≡ v → ((p : Program) → IsVerdict p q v → Says p) → Answered text job Says
 verdict_says text job q verdict v Says h is says = record {
   program = h.program;
   source = h.source;
-  compiles = h.compiles;
+  limits = h.limits;
   says = says h.program (subst (IsVerdict h.program q) is h.says);
 }
 
-pub survey_says : (text : List ℕ) (job : Job) (survey v : Survey) (Says : Program → Type 0) → HasSurvey text job.main job.assumed survey
+pub survey_says : (text : List ℕ) (job : Job) (survey v : Survey) (Says : Program → Type 0) → HasConstructiveSurvey text job.main job.assumed survey
     → survey ≡ v → ((p : Program) → IsSurvey p job.assumed v → Says p) → Answered text job Says
 survey_says text job survey v Says h is says = record {
   program = h.program;
   source = h.source;
-  compiles = h.compiles;
+  limits = h.limits;
   says = says h.program (subst (IsSurvey h.program job.assumed) is h.says);
 }
 
@@ -60,20 +57,20 @@ pub covering_says : (text : List ℕ) (job : Job) (covering v : Covering) (Says 
 covering_says text job covering v Says h is says = record {
   program = h.program;
   source = h.stands;
-  compiles = h.compiles;
+  limits = h.limits;
   says = says h.program (subst (SaysCovering text job.main job.assumed h.program) is h.says);
 }
 
 pub comparison_says : (first second : List ℕ) (job : Job) (comparison v : Comparison) (Says : Program → Program → Type 0)
-    → HasComparison first second job.main comparison → comparison ≡ v → ((p q : Program) → IsComparison p q v → Says p q)
+    → HasConstructiveComparison first second job.main comparison → comparison ≡ v → ((p q : Program) → IsComparison p q v → Says p q)
     → Compared first second job Says
 comparison_says first second job comparison v Says h is says = record {
   left = h.left;
   left_source = h.left_source;
-  left_compiles = h.left_compiles;
+  left_limits = h.left_limits;
   right = h.right;
   right_source = h.right_source;
-  right_compiles = h.right_compiles;
+  right_limits = h.right_limits;
   says = says h.left h.right (subst (IsComparison h.left h.right) is h.says);
 }
 
@@ -124,37 +121,37 @@ as_written done Says ends.NoMemory all part none = none
 pub claim_writes : (ended : Written) (q : PlainQuestion) (job : Job) (text trace : List ℕ) → IsRefutation q job text trace
     → ClaimSays q (written_outcome Refuted ended) job text
 claim_writes ends.Done q job text trace is = (trace, is)
-claim_writes ends.WriteFault q job text trace is = (trace, is)
+claim_writes ends.WriteFault q job text trace is = inl (trace, is)
 claim_writes ends.NoMemory q job text trace is = tt
 
 pub survey_writes : (ended : Written) (job : Job) (text lines : List ℕ) → IsSurveyOf job true text lines
     → SurveySays (written_outcome Surveyed ended) job text
 survey_writes ends.Done job text lines is = (lines, is)
-survey_writes ends.WriteFault job text lines is = (true, (lines, is))
+survey_writes ends.WriteFault job text lines is = inl (true, (lines, is))
 survey_writes ends.NoMemory job text lines is = tt
 
 pub part_writes : (ended : Written) (job : Job) (text lines : List ℕ) → IsSurveyOf job false text lines
     → SurveySays (written_outcome PartlySurveyed ended) job text
 part_writes ends.Done job text lines is = (lines, is)
-part_writes ends.WriteFault job text lines is = (false, (lines, is))
+part_writes ends.WriteFault job text lines is = inl (false, (lines, is))
 part_writes ends.NoMemory job text lines is = tt
 
 pub covering_writes : (ended : Written) (job : Job) (text lines : List ℕ) → IsCoveringOf job true text lines
     → CoveringSays (written_outcome Covered ended) job text
 covering_writes ends.Done job text lines is = (lines, is)
-covering_writes ends.WriteFault job text lines is = (true, (lines, is))
+covering_writes ends.WriteFault job text lines is = inl (true, (lines, is))
 covering_writes ends.NoMemory job text lines is = tt
 
 pub covering_part_writes : (ended : Written) (job : Job) (text lines : List ℕ) → IsCoveringOf job false text lines
     → CoveringSays (written_outcome PartlyCovered ended) job text
 covering_part_writes ends.Done job text lines is = (lines, is)
-covering_part_writes ends.WriteFault job text lines is = (false, (lines, is))
+covering_part_writes ends.WriteFault job text lines is = inl (false, (lines, is))
 covering_part_writes ends.NoMemory job text lines is = tt
 
 pub comparison_writes : (ended : Written) (job : Job) (first second trace : List ℕ) → IsDistinction job first second trace
     → ComparisonSays (written_outcome Refuted ended) job first second
 comparison_writes ends.Done job first second trace is = (trace, is)
-comparison_writes ends.WriteFault job first second trace is = (trace, is)
+comparison_writes ends.WriteFault job first second trace is = inl (trace, is)
 comparison_writes ends.NoMemory job first second trace is = tt
 
 -- ---- what is left of a text
@@ -184,7 +181,7 @@ pub survey_left : (bytes text : List ℕ) (job : Job) (source : List ℕ) (s : S
     → LeavesText (IsSurveyBy (written_outcome Surveyed ended) job source) s (written_of (written_outcome Surveyed ended))
 survey_left bytes text job source s ends.Done p same l = left_as (IsSurveyOf job true source) bytes text s ends.Done p same l
 survey_left bytes text job source s ends.WriteFault p same l =
-    left_as (IsSurveyBy (written_outcome Surveyed ends.WriteFault) job source) bytes text s ends.WriteFault (true, p) same l
+    left_as (IsSurveyBy (written_outcome Surveyed ends.WriteFault) job source) bytes text s ends.WriteFault (inl (true, p)) same l
 survey_left bytes text job source s ends.NoMemory p same l = l
 
 pub part_left : (bytes text : List ℕ) (job : Job) (source : List ℕ) (s : SinkChange) (ended : Written) → IsSurveyOf job false source text → bytes ≡ text
@@ -192,7 +189,7 @@ pub part_left : (bytes text : List ℕ) (job : Job) (source : List ℕ) (s : Sin
     → LeavesText (IsSurveyBy (written_outcome PartlySurveyed ended) job source) s (written_of (written_outcome PartlySurveyed ended))
 part_left bytes text job source s ends.Done p same l = left_as (IsSurveyOf job false source) bytes text s ends.Done p same l
 part_left bytes text job source s ends.WriteFault p same l =
-    left_as (IsSurveyBy (written_outcome PartlySurveyed ends.WriteFault) job source) bytes text s ends.WriteFault (false, p) same l
+    left_as (IsSurveyBy (written_outcome PartlySurveyed ends.WriteFault) job source) bytes text s ends.WriteFault (inl (false, p)) same l
 part_left bytes text job source s ends.NoMemory p same l = l
 
 pub covering_left : (bytes text : List ℕ) (job : Job) (source : List ℕ) (s : SinkChange) (ended : Written) → IsCoveringOf job true source text
@@ -201,7 +198,7 @@ pub covering_left : (bytes text : List ℕ) (job : Job) (source : List ℕ) (s :
     → LeavesText (IsCoveringBy (written_outcome Covered ended) job source) s (written_of (written_outcome Covered ended))
 covering_left bytes text job source s ends.Done p same l = left_as (IsCoveringOf job true source) bytes text s ends.Done p same l
 covering_left bytes text job source s ends.WriteFault p same l =
-    left_as (IsCoveringBy (written_outcome Covered ends.WriteFault) job source) bytes text s ends.WriteFault (true, p) same l
+    left_as (IsCoveringBy (written_outcome Covered ends.WriteFault) job source) bytes text s ends.WriteFault (inl (true, p)) same l
 covering_left bytes text job source s ends.NoMemory p same l = l
 
 pub covering_part_left : (bytes text : List ℕ) (job : Job) (source : List ℕ) (s : SinkChange) (ended : Written) → IsCoveringOf job false source text
@@ -210,62 +207,13 @@ pub covering_part_left : (bytes text : List ℕ) (job : Job) (source : List ℕ)
     → LeavesText (IsCoveringBy (written_outcome PartlyCovered ended) job source) s (written_of (written_outcome PartlyCovered ended))
 covering_part_left bytes text job source s ends.Done p same l = left_as (IsCoveringOf job false source) bytes text s ends.Done p same l
 covering_part_left bytes text job source s ends.WriteFault p same l =
-    left_as (IsCoveringBy (written_outcome PartlyCovered ends.WriteFault) job source) bytes text s ends.WriteFault (false, p) same l
+    left_as (IsCoveringBy (written_outcome PartlyCovered ends.WriteFault) job source) bytes text s ends.WriteFault (inl (false, p)) same l
 covering_part_left bytes text job source s ends.NoMemory p same l = l
-
--- ---- refusals
-
-pub claim_refused : (refusal : Refusal) (q : PlainQuestion) (job : Job) (text : List ℕ) → IsRefused text job.main refusal
-    → ClaimSays q (refusal_outcome refusal) job text
-claim_refused (refusing.Static fault) q job text is = is
-claim_refused (refusing.Cyclic cycle) q job text is = is
-claim_refused (refusing.Limit limit) q job text is = is
-claim_refused refusing.NoMemory q job text is = tt
-
-survey_refused : (refusal : Refusal) (job : Job) (text : List ℕ) → IsRefused text job.main refusal → SurveySays (refusal_outcome refusal) job text
-survey_refused (refusing.Static fault) job text is = is
-survey_refused (refusing.Cyclic cycle) job text is = is
-survey_refused (refusing.Limit limit) job text is = is
-survey_refused refusing.NoMemory job text is = tt
-
-covering_refused : (refusal : Refusal) (job : Job) (text : List ℕ) → IsRefused text job.main refusal → CoveringSays (refusal_outcome refusal) job text
-covering_refused (refusing.Static fault) job text is = is
-covering_refused (refusing.Cyclic cycle) job text is = is
-covering_refused (refusing.Limit limit) job text is = is
-covering_refused refusing.NoMemory job text is = tt
-
-first_refused : (refusal : Refusal) (job : Job) (first second : List ℕ) → IsRefused first job.main refusal
-    → ComparisonSays (refusal_outcome refusal) job first second
-first_refused (refusing.Static fault) job first second is = is
-first_refused (refusing.Cyclic cycle) job first second is = is
-first_refused (refusing.Limit limit) job first second is = is
-first_refused refusing.NoMemory job first second is = tt
-
-second_refused : (refusal : Refusal) (job : Job) (first second : List ℕ) → IsRefused second job.main refusal
-    → ComparisonSays (second_refusal_outcome refusal) job first second
-second_refused (refusing.Static fault) job first second is = is
-second_refused (refusing.Cyclic cycle) job first second is = is
-second_refused (refusing.Limit limit) job first second is = is
-second_refused refusing.NoMemory job first second is = tt
-
-pub refusal_leaves : (refusal : Refusal) (P : List ℕ → Type 0) (s : SinkChange) → Appends s.before s.after s.faults_before s.faults_now []
-    → LeavesText P s (written_of (refusal_outcome refusal))
-refusal_leaves (refusing.Static fault) P s a = a
-refusal_leaves (refusing.Cyclic cycle) P s a = a
-refusal_leaves (refusing.Limit limit) P s a = a
-refusal_leaves refusing.NoMemory P s a = a
-
-pub second_leaves : (refusal : Refusal) (P : List ℕ → Type 0) (s : SinkChange) → Appends s.before s.after s.faults_before s.faults_now []
-    → LeavesText P s (written_of (second_refusal_outcome refusal))
-second_leaves (refusing.Static fault) P s a = a
-second_leaves (refusing.Cyclic cycle) P s a = a
-second_leaves (refusing.Limit limit) P s a = a
-second_leaves refusing.NoMemory P s a = a
 
 -- ---- answers to a task
 
 pub asked_says : (v : Verdict) (o : ProveOutcome) (task : Task) (job : Job) (first second : List ℕ)
-    → ((q : PlainQuestion) (job : Job) (text : List ℕ) → HasVerdict text job.main q v → ClaimSays q o job text)
+    → ((q : PlainQuestion) (job : Job) (text : List ℕ) → HasConstructiveVerdict text job.main q v → ClaimSays q o job text)
     → ((q : PlainQuestion) (text : List ℕ) → HasTextVerdict text q v → TextClaimSays q o text)
     → IsAnswer (answers.Asked v) task job first second → SaysOfTexts task o job first second
 asked_says v o (Ask claim signal) job first second f t h = f (question_of claim signal job) job first h
@@ -277,7 +225,7 @@ asked_says v o SurveyText job first second f t h = absurd h
 asked_says v o (CompareTexts other) job first second f t h = absurd h
 
 pub asked_out : (v : Verdict) (o : ProveOutcome) (s : SinkChange) (task : Task) (job : Job) (first second : List ℕ)
-    → ((q : PlainQuestion) (job : Job) (text : List ℕ) → HasVerdict text job.main q v → LeavesText (IsRefutation q job text) s (written_of o))
+    → ((q : PlainQuestion) (job : Job) (text : List ℕ) → HasConstructiveVerdict text job.main q v → LeavesText (IsClaimTraceBy q o job text) s (written_of o))
     → ((q : PlainQuestion) (text : List ℕ) → HasTextVerdict text q v → LeavesText (IsTextRefutation q text) s (written_of o))
     → IsAnswer (answers.Asked v) task job first second → LeavesText (IsWrittenBy task o job first second) s (written_of o)
 asked_out v o s (Ask claim signal) job first second f t h = f (question_of claim signal job) job first h
@@ -289,7 +237,7 @@ asked_out v o s SurveyText job first second f t h = absurd h
 asked_out v o s (CompareTexts other) job first second f t h = absurd h
 
 pub surveyed_says : (v : Survey) (o : ProveOutcome) (task : Task) (job : Job) (first second : List ℕ)
-    → ((job : Job) (text : List ℕ) → HasSurvey text job.main job.assumed v → SurveySays o job text)
+    → ((job : Job) (text : List ℕ) → HasConstructiveSurvey text job.main job.assumed v → SurveySays o job text)
     → ((assumed : Option (List ℕ)) (text : List ℕ) → HasTextSurvey text assumed v → TextSurveySays o assumed text)
     → IsAnswer (answers.Surveyed v) task job first second → SaysOfTexts task o job first second
 surveyed_says v o (Ask claim signal) job first second f t h = absurd h
@@ -301,7 +249,7 @@ surveyed_says v o SurveyText job first second f t h = t job.assumed first h
 surveyed_says v o (CompareTexts other) job first second f t h = absurd h
 
 pub surveyed_out : (v : Survey) (o : ProveOutcome) (s : SinkChange) (task : Task) (job : Job) (first second : List ℕ)
-    → ((job : Job) (text : List ℕ) → HasSurvey text job.main job.assumed v → LeavesText (IsSurveyBy o job text) s (written_of o))
+    → ((job : Job) (text : List ℕ) → HasConstructiveSurvey text job.main job.assumed v → LeavesText (IsSurveyBy o job text) s (written_of o))
     → ((assumed : Option (List ℕ)) (text : List ℕ) → HasTextSurvey text assumed v → LeavesText (IsTextSurveyBy o assumed text) s (written_of o))
     → IsAnswer (answers.Surveyed v) task job first second → LeavesText (IsWrittenBy task o job first second) s (written_of o)
 surveyed_out v o s (Ask claim signal) job first second f t h = absurd h
@@ -335,7 +283,7 @@ covered_out v o s SurveyText job first second f h = absurd h
 covered_out v o s (CompareTexts other) job first second f h = absurd h
 
 pub compared_says : (v : Comparison) (o : ProveOutcome) (task : Task) (job : Job) (first second : List ℕ)
-    → ((first second : List ℕ) (job : Job) → HasComparison first second job.main v → ComparisonSays o job first second)
+    → ((first second : List ℕ) (job : Job) → HasConstructiveComparison first second job.main v → ComparisonSays o job first second)
     → ((first second : List ℕ) → HasTextComparison first second v → TextComparisonSays o first second)
     → IsAnswer (answers.Compared v) task job first second → SaysOfTexts task o job first second
 compared_says v o (Ask claim signal) job first second f t h = absurd h
@@ -347,7 +295,8 @@ compared_says v o SurveyText job first second f t h = absurd h
 compared_says v o (CompareTexts other) job first second f t h = t first second h
 
 pub compared_out : (v : Comparison) (o : ProveOutcome) (s : SinkChange) (task : Task) (job : Job) (first second : List ℕ)
-    → ((first second : List ℕ) (job : Job) → HasComparison first second job.main v → LeavesText (IsDistinction job first second) s (written_of o))
+    → ((first second : List ℕ) (job : Job) → HasConstructiveComparison first second job.main v
+    → LeavesText (IsDistinctionBy o job first second) s (written_of o))
     → ((first second : List ℕ) → HasTextComparison first second v → LeavesText (IsTextDistinction first second) s (written_of o))
     → IsAnswer (answers.Compared v) task job first second → LeavesText (IsWrittenBy task o job first second) s (written_of o)
 compared_out v o s (Ask claim signal) job first second f t h = absurd h
@@ -357,26 +306,6 @@ compared_out v o s (Compare other) job first second f t h = f first second job h
 compared_out v o s (AskText claim signal) job first second f t h = absurd h
 compared_out v o s SurveyText job first second f t h = absurd h
 compared_out v o s (CompareTexts other) job first second f t h = t first second h
-
-pub refused_says : (refusal : Refusal) (task : Task) (job : Job) (first second : List ℕ) → IsAnswer (answers.Refused refusal) task job first second
-    → SaysOfTexts task (refusal_outcome refusal) job first second
-refused_says refusal (Ask claim signal) job first second h = claim_refused refusal (question_of claim signal job) job first h
-refused_says refusal Surveys job first second h = survey_refused refusal job first h
-refused_says refusal Cover job first second h = covering_refused refusal job first h
-refused_says refusal (Compare other) job first second h = first_refused refusal job first second h
-refused_says refusal (AskText claim signal) job first second h = absurd h
-refused_says refusal SurveyText job first second h = absurd h
-refused_says refusal (CompareTexts other) job first second h = absurd h
-
-pub second_refused_says : (refusal : Refusal) (task : Task) (job : Job) (first second : List ℕ)
-    → IsAnswer (answers.SecondRefused refusal) task job first second → SaysOfTexts task (second_refusal_outcome refusal) job first second
-second_refused_says refusal (Ask claim signal) job first second h = absurd h
-second_refused_says refusal Surveys job first second h = absurd h
-second_refused_says refusal Cover job first second h = absurd h
-second_refused_says refusal (Compare other) job first second h = second_refused refusal job first second h
-second_refused_says refusal (AskText claim signal) job first second h = absurd h
-second_refused_says refusal SurveyText job first second h = absurd h
-second_refused_says refusal (CompareTexts other) job first second h = absurd h
 
 pub bad_text_says : (fault : OptFault) (task : Task) (job : Job) (first second : List ℕ) → IsAnswer (answers.BadText fault) task job first second
     → SaysOfTexts task (BadText fault) job first second

@@ -2,3 +2,4 @@ mod Answering
 mod Options
 pub mod Outcomes
 mod Progress
+mod Refused

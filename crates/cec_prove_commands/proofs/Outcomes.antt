@@ -7,7 +7,6 @@ use Rattle.base_types.specs.declared.files.reading.FileFault.TheVariants as read
 use Rattle.base_types.specs.Reading.{Reads, Counts, KeepsFaults}
 use Rattle.base_types.specs.SinkChanges.{SinkChange}
 use Rattle.base_types.specs.Writing.{Appends}
-use Rattle.cec_compile.specs.Refusals.{IsRefused}
 use Rattle.cec_compile.specs.declared.refusal.Refusal as refusals
 use Rattle.cec_compile.specs.declared.refusal.Refusal.TheVariants as refusing
 use Rattle.cec_text_io.proofs.Pieces as texts
@@ -21,10 +20,10 @@ use Rattle.cec_prove_sources.specs.Verdicts.{PlainQuestion}
 use Rattle.cec_prove_commands.specs.Answers.{AreHeld, GainsAll, IsWrittenBy, SaysOfTexts, byte_limit}
 use Rattle.cec_prove_commands.specs.Lines.{GainsJobErr, SpeaksOf, Subject, job_subject, line_of, most_further, second_of}
 use Rattle.cec_prove_commands.specs.Outcomes.{AgreesOnTexts}
-use Rattle.cec_prove_commands.specs.Outcomes.{AgreesOnFile, AgreesOnFiles, AgreesOnTask, ClaimSays, ComparisonSays, CountsFiles, CountsJob, IsDistinction}
-use Rattle.cec_prove_commands.specs.Outcomes.{IsRefutation, IsSurveyBy, IsSurveyOf, IsTextOf, IsWriting, SurveySays, question_of}
-use Rattle.cec_prove_commands.specs.Outcomes.{CoveringSays, IsCoveringBy, IsCoveringOf}
-use Rattle.cec_prove_commands.specs.Statuses.{written_outcome, refusal_outcome, second_refusal_outcome, second_unread_outcome, unread_outcome, written_of}
+use Rattle.cec_prove_commands.specs.Outcomes.{AgreesOnFile, AgreesOnFiles, AgreesOnTask, ClaimSays, ComparisonSays, CountsFiles, CountsJob, IsDistinctionBy}
+use Rattle.cec_prove_commands.specs.Outcomes.{IsClaimTraceBy, IsSurveyBy, IsTextOf, IsWriting, SurveySays, question_of}
+use Rattle.cec_prove_commands.specs.Outcomes.{CoveringSays, IsCoveringBy}
+use Rattle.cec_prove_commands.specs.Statuses.{written_outcome, second_unread_outcome, unread_outcome, written_of}
 use Rattle.cec_prove_commands.specs.TextOutcomes.{IsTextDistinction, IsTextRefutation, IsTextSurveyBy, TextClaimSays, TextComparisonSays, TextSurveySays}
 use Rattle.cec_prove_commands.specs.Views.{spoken_of, spoken_source}
 use Rattle.cec_prove_commands.specs.Words.{Job, Request, Task, Ask, Survey, Cover, Compare, AskText, SurveyText, CompareTexts, is_comparison}
@@ -34,6 +33,8 @@ use Rattle.cec_prove_commands.specs.declared.outcome.ProveOutcome.TheVariants.{T
 use Rattle.cec_prove_commands.specs.declared.outcome.ProveOutcome.TheVariants.{Undecided, NoSignal, NoAssumed}
 use Rattle.cec_prove_commands.specs.declared.outcome.ProveOutcome.TheVariants.{OtherGiven, OtherOutgoing, OtherRelations, Usage, FileFault, SecondFault}
 use Rattle.cec_prove_commands.specs.declared.outcome.ProveOutcome.TheVariants.{Refused, SecondRefused, BadText, SecondBadText, TooLong, SecondTooLong}
+use Rattle.cec_prove_commands.specs.declared.outcome.ProveOutcome.TheVariants.{NotConstructive, UndecidedCycle, TooManyNets}
+use Rattle.cec_prove_commands.specs.declared.outcome.ProveOutcome.TheVariants.{SecondNotConstructive, SecondUndecidedCycle, SecondTooManyNets}
 use Rattle.cec_prove_commands.specs.declared.outcome.ProveOutcome.TheVariants.{WriteFault, NoMemory}
 
 -- ---- what the program writes about itself
@@ -118,6 +119,12 @@ read_counts job FileFault before now failed_before failed_now read k = absurd (r
 read_counts job SecondFault before now failed_before failed_now read k = absurd (read.second refl)
 read_counts job (Refused refusal) before now failed_before failed_now read k = k
 read_counts job (SecondRefused refusal) before now failed_before failed_now read k = k
+read_counts job (NotConstructive stuck) before now failed_before failed_now read k = k
+read_counts job (SecondNotConstructive stuck) before now failed_before failed_now read k = k
+read_counts job (UndecidedCycle cycle) before now failed_before failed_now read k = k
+read_counts job (SecondUndecidedCycle cycle) before now failed_before failed_now read k = k
+read_counts job (TooManyNets cycle) before now failed_before failed_now read k = k
+read_counts job (SecondTooManyNets cycle) before now failed_before failed_now read k = k
 read_counts job (BadText fault) before now failed_before failed_now read k = k
 read_counts job (SecondBadText fault) before now failed_before failed_now read k = k
 read_counts job TooLong before now failed_before failed_now read k = k
@@ -145,6 +152,12 @@ file_agrees content name Says FileFault text held says read = absurd (read.first
 file_agrees content name Says SecondFault text held says read = (text, held, says)
 file_agrees content name Says (Refused refusal) text held says read = (text, held, says)
 file_agrees content name Says (SecondRefused refusal) text held says read = (text, held, says)
+file_agrees content name Says (NotConstructive stuck) text held says read = (text, held, says)
+file_agrees content name Says (SecondNotConstructive stuck) text held says read = (text, held, says)
+file_agrees content name Says (UndecidedCycle cycle) text held says read = (text, held, says)
+file_agrees content name Says (SecondUndecidedCycle cycle) text held says read = (text, held, says)
+file_agrees content name Says (TooManyNets cycle) text held says read = (text, held, says)
+file_agrees content name Says (SecondTooManyNets cycle) text held says read = (text, held, says)
 file_agrees content name Says (BadText fault) text held says read = (text, held, says)
 file_agrees content name Says (SecondBadText fault) text held says read = (text, held, says)
 file_agrees content name Says TooLong text held says read = (text, held, says)
@@ -172,6 +185,12 @@ files_agree content job other FileFault first second held held' says = absurd sa
 files_agree content job other SecondFault first second held held' says = absurd says
 files_agree content job other (Refused refusal) first second held held' says = (first, held, says)
 files_agree content job other (SecondRefused refusal) first second held held' says = (second, held', says)
+files_agree content job other (NotConstructive stuck) first second held held' says = (first, held, (second, held', says))
+files_agree content job other (SecondNotConstructive stuck) first second held held' says = (first, held, (second, held', says))
+files_agree content job other (UndecidedCycle cycle) first second held held' says = (first, held, (second, held', says))
+files_agree content job other (SecondUndecidedCycle cycle) first second held held' says = (first, held, (second, held', says))
+files_agree content job other (TooManyNets cycle) first second held held' says = (first, held, (second, held', says))
+files_agree content job other (SecondTooManyNets cycle) first second held held' says = (first, held, (second, held', says))
 files_agree content job other (BadText fault) first second held held' says = (first, held, (second, held', says))
 files_agree content job other (SecondBadText fault) first second held held' says = (first, held, (second, held', says))
 files_agree content job other TooLong first second held held' says = (first, held, (second, held', says))
@@ -199,6 +218,12 @@ texts_both_agree content job other FileFault first second held held' says = absu
 texts_both_agree content job other SecondFault first second held held' says = absurd says
 texts_both_agree content job other (Refused refusal) first second held held' says = (first, held, (second, held', says))
 texts_both_agree content job other (SecondRefused refusal) first second held held' says = (first, held, (second, held', says))
+texts_both_agree content job other (NotConstructive stuck) first second held held' says = (first, held, (second, held', says))
+texts_both_agree content job other (SecondNotConstructive stuck) first second held held' says = (first, held, (second, held', says))
+texts_both_agree content job other (UndecidedCycle cycle) first second held held' says = (first, held, (second, held', says))
+texts_both_agree content job other (SecondUndecidedCycle cycle) first second held held' says = (first, held, (second, held', says))
+texts_both_agree content job other (TooManyNets cycle) first second held held' says = (first, held, (second, held', says))
+texts_both_agree content job other (SecondTooManyNets cycle) first second held held' says = (first, held, (second, held', says))
 texts_both_agree content job other (BadText fault) first second held held' says = (first, held, says)
 texts_both_agree content job other (SecondBadText fault) first second held held' says = (first, held, (second, held', says))
 texts_both_agree content job other TooLong first second held held' says = (first, held, says)
@@ -229,6 +254,12 @@ text_speaks content job (BadText fault) unrefused second_unrefused = tt
 text_speaks content job (SecondBadText fault) unrefused second_unrefused = tt
 text_speaks content job TooLong unrefused second_unrefused = tt
 text_speaks content job SecondTooLong unrefused second_unrefused = tt
+text_speaks content job (NotConstructive stuck) unrefused second_unrefused = tt
+text_speaks content job (SecondNotConstructive stuck) unrefused second_unrefused = tt
+text_speaks content job (UndecidedCycle cycle) unrefused second_unrefused = tt
+text_speaks content job (SecondUndecidedCycle cycle) unrefused second_unrefused = tt
+text_speaks content job (TooManyNets cycle) unrefused second_unrefused = tt
+text_speaks content job (SecondTooManyNets cycle) unrefused second_unrefused = tt
 text_speaks content job WriteFault unrefused second_unrefused = tt
 text_speaks content job NoMemory unrefused second_unrefused = tt
 text_speaks content job (Refused (refusing.Static fault)) unrefused second_unrefused = absurd (unrefused (refusing.Static fault) refl)
@@ -272,6 +303,12 @@ read_speaks content job (BadText fault) first second held second_held = tt
 read_speaks content job (SecondBadText fault) first second held second_held = tt
 read_speaks content job TooLong first second held second_held = tt
 read_speaks content job SecondTooLong first second held second_held = tt
+read_speaks content job (NotConstructive stuck) first second held second_held = tt
+read_speaks content job (SecondNotConstructive stuck) first second held second_held = tt
+read_speaks content job (UndecidedCycle cycle) first second held second_held = tt
+read_speaks content job (SecondUndecidedCycle cycle) first second held second_held = tt
+read_speaks content job (TooManyNets cycle) first second held second_held = tt
+read_speaks content job (SecondTooManyNets cycle) first second held second_held = tt
 read_speaks content job WriteFault first second held second_held = tt
 read_speaks content job NoMemory first second held second_held = tt
 
@@ -425,14 +462,14 @@ pub texts_out : (content : Content) (task : Task) (job : Job) (outcome : ProveOu
     → AreHeld content task job first second → LeavesText (IsWrittenBy task outcome job first second) s (written_of outcome)
     → LeavesText (IsTextOf task job content outcome) s (written_of outcome)
 texts_out content (Ask claim signal) job outcome first second s held l =
-    texts.text_as (IsRefutation (question_of claim signal job) job first) (IsTextOf (Ask claim signal) job content outcome) s (written_of outcome)
+    texts.text_as (IsClaimTraceBy (question_of claim signal job) outcome job first) (IsTextOf (Ask claim signal) job content outcome) s (written_of outcome)
     (λ trace of. (first, held, of)) l
 texts_out content Survey job outcome first second s held l =
     texts.text_as (IsSurveyBy outcome job first) (IsTextOf Survey job content outcome) s (written_of outcome) (λ lines of. (first, held, of)) l
 texts_out content Cover job outcome first second s held l =
     texts.text_as (IsCoveringBy outcome job first) (IsTextOf Cover job content outcome) s (written_of outcome) (λ lines of. (first, held, of)) l
 texts_out content (Compare other) job outcome first second s held l =
-    texts.text_as (IsDistinction job first second) (IsTextOf (Compare other) job content outcome) s (written_of outcome)
+    texts.text_as (IsDistinctionBy outcome job first second) (IsTextOf (Compare other) job content outcome) s (written_of outcome)
     (λ trace of. (first, held.0, (second, held.1, of))) l
 texts_out content (AskText claim signal) job outcome first second s held l =
     texts.text_as (IsTextRefutation (question_of claim signal job) first) (IsTextOf (AskText claim signal) job content outcome) s (written_of outcome)

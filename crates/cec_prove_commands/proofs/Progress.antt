@@ -1,13 +1,13 @@
 -- The lines that are written during a search, and the line after them.
-use Rattle.std.proofs.Common.{◌≡◌, ℕ, ◌+◌, ◌≤◌, Bool, List, [], ◌++◌, Option, Result, Ok, Err, inl, inr, ⊎_elim, sym, subst, arith}
+use Rattle.std.proofs.Common.{◌≡◌, ℕ, ◌+◌, Bool, List, [], ◌++◌, Option, Result, inl, inr, ⊎_elim, subst, arith}
 use Rattle.std.proofs.Common.{append-nil, suc}
 use Rattle.base_types.specs.SinkChanges.{SinkChange}
 use Rattle.base_types.specs.Writing.{Appends, Stops, Wrote}
 use Rattle.base_types.specs.declared.sinks.writing.SinkFault.{SinkFault}
-use Rattle.base_types.proofs.Exports.{appends-twice, stops-behind, stops-early, wrote-behind}
+use Rattle.base_types.proofs.Exports.{appends-twice, stops-behind}
 use Rattle.cec_text_io.specs.ErrorLines.{GainsLine}
 use Rattle.cec_prove_commands.specs.Answers.{GainsAll, HasTold}
-use Rattle.cec_prove_commands.specs.Lines.{most_further, progress_line, progress_lines}
+use Rattle.cec_prove_commands.specs.Lines.{progress_line, progress_lines}
 
 -- after lines that were appended comes a line, or a prefix of it
 pub line-behind : (a b c : Option (List ℕ)) (f g h : ℕ) (x y : List ℕ) → Appends a b f g x → GainsLine b c g h y → GainsLine a c f h (x ++ y)

@@ -4,12 +4,13 @@ use Rattle.base_types.specs.declared.bounds.TheConstants.Limits.{SOURCE_BYTES, T
 use Rattle.base_types.specs.Writing.{Wrote}
 use Rattle.base_types.specs.declared.sinks.writing.SinkFault.{SinkFault}
 use Rattle.base_types.specs.SinkChanges.{SinkChange}
-use Rattle.cec_compile.specs.Refusals.{IsRefused}
+use Rattle.cec_cycles.specs.Constructive.{IsRefusedConstructive}
+use Rattle.cec_cycles.specs.declared.findings.CycleRefusal.TheVariants as causes
 use Rattle.cec_prove_covers.specs.Coverings.{HasCovering}
 use Rattle.cec_prove_covers.specs.declared.coverings.Covering.TheVariants as covering
-use Rattle.cec_prove_sources.specs.Sameness.{HasComparison}
-use Rattle.cec_prove_sources.specs.Surveys.{HasSurvey}
-use Rattle.cec_prove_sources.specs.Verdicts.{HasVerdict}
+use Rattle.cec_prove_cycles.specs.Answers.{HasConstructiveComparison, HasConstructiveSurvey, HasConstructiveVerdict}
+use Rattle.cec_prove_cycles.specs.Answers.{IsPairRefusedConstructive}
+use Rattle.cec_prove_cycles.specs.declared.refusal.CyclePairRefusal.TheVariants as sources
 use Rattle.cec_prove_sources.specs.declared.questions.Comparison.TheVariants as comparing
 use Rattle.cec_prove_sources.specs.declared.questions.Survey.TheVariants as surveying
 use Rattle.cec_prove_sources.specs.declared.questions.Verdict.TheVariants as deciding
@@ -23,7 +24,7 @@ use Rattle.cec_text_io.specs.Contents.{Content, IsHeld}
 use Rattle.cec_text_io.specs.ErrorLines.{GainsLine}
 use Rattle.cec_prove_commands.specs.Lines.{most_further, progress_lines}
 use Rattle.cec_prove_commands.specs.Outcomes.{ClaimSays, ComparisonSays, CoveringSays, SurveySays, question_of}
-use Rattle.cec_prove_commands.specs.Outcomes.{IsCoveringBy, IsDistinction, IsRefutation, IsSurveyBy}
+use Rattle.cec_prove_commands.specs.Outcomes.{IsClaimTraceBy, IsCoveringBy, IsDistinctionBy, IsSurveyBy}
 use Rattle.cec_prove_commands.specs.TextOutcomes.{IsTextDistinction, IsTextRefutation, IsTextSurveyBy}
 use Rattle.cec_prove_commands.specs.TextOutcomes.{TextClaimSays, TextComparisonSays, TextSurveySays}
 use Rattle.cec_prove_commands.specs.Words.{Job, Task, Ask, Survey, Cover, Compare}
@@ -35,16 +36,17 @@ use Rattle.cec_prove_commands.specs.declared.outcome.ProveOutcome.{ProveOutcome}
 -- an answer is one to a task about these texts, the second of which a comparison alone reads
 abbrev pub IsAnswer : Answer → Task → Job → (first second : List ℕ) → Type 0
 IsAnswer (answers.Asked verdict) (Ask claim signal) job first second =
-    HasVerdict first job.main (question_of claim signal job) verdict
-IsAnswer (answers.Surveyed survey) Survey job first second = HasSurvey first job.main job.assumed survey
+    HasConstructiveVerdict first job.main (question_of claim signal job) verdict
+IsAnswer (answers.Surveyed survey) Survey job first second = HasConstructiveSurvey first job.main job.assumed survey
 IsAnswer (answers.Covered covering) Cover job first second = HasCovering first job.main job.assumed covering
 IsAnswer (answers.Compared comparison) (Compare other) job first second =
-    HasComparison first second job.main comparison
-IsAnswer (answers.Refused refusal) (Ask claim signal) job first second = IsRefused first job.main refusal
-IsAnswer (answers.Refused refusal) Survey job first second = IsRefused first job.main refusal
-IsAnswer (answers.Refused refusal) Cover job first second = IsRefused first job.main refusal
-IsAnswer (answers.Refused refusal) (Compare other) job first second = IsRefused first job.main refusal
-IsAnswer (answers.SecondRefused refusal) (Compare other) job first second = IsRefused second job.main refusal
+    HasConstructiveComparison first second job.main comparison
+IsAnswer (answers.Refused refusal) (Ask claim signal) job first second = IsRefusedConstructive first job.main refusal
+IsAnswer (answers.Refused refusal) Survey job first second = IsRefusedConstructive first job.main refusal
+IsAnswer (answers.Refused refusal) Cover job first second = IsRefusedConstructive first job.main refusal
+IsAnswer (answers.Refused refusal) (Compare other) job first second = IsRefusedConstructive first job.main refusal
+IsAnswer (answers.SecondRefused refusal) (Compare other) job first second =
+    IsPairRefusedConstructive first second job.main (sources.Second refusal)
 IsAnswer (answers.Asked verdict) (AskText claim signal) job first second =
     HasTextVerdict first (question_of claim signal job) verdict
 IsAnswer (answers.Surveyed survey) SurveyText job first second = HasTextSurvey first job.assumed survey
@@ -64,6 +66,8 @@ is_open (answers.Asked (deciding.Open depth)) = true
 is_open (answers.Surveyed (surveying.Partly lines)) = true
 is_open (answers.Covered (covering.Partly lines)) = true
 is_open (answers.Compared (comparing.Open depth)) = true
+is_open (answers.Refused (causes.Undecided cycle)) = true
+is_open (answers.SecondRefused (causes.Undecided cycle)) = true
 is_open others = false
 
 -- what the outcome of a task says of these texts
@@ -79,10 +83,10 @@ SaysOfTexts (CompareTexts other) outcome job first second = TextComparisonSays o
 -- what a task writes about these texts, where it ends with an outcome
 abbrev pub IsWrittenBy : Task → ProveOutcome → Job → (first second written : List ℕ) → Type 0
 IsWrittenBy (Ask claim signal) outcome job first second written =
-    IsRefutation (question_of claim signal job) job first written
+    IsClaimTraceBy (question_of claim signal job) outcome job first written
 IsWrittenBy Survey outcome job first second written = IsSurveyBy outcome job first written
 IsWrittenBy Cover outcome job first second written = IsCoveringBy outcome job first written
-IsWrittenBy (Compare other) outcome job first second written = IsDistinction job first second written
+IsWrittenBy (Compare other) outcome job first second written = IsDistinctionBy outcome job first second written
 IsWrittenBy (AskText claim signal) outcome job first second written =
     IsTextRefutation (question_of claim signal job) first written
 IsWrittenBy SurveyText outcome job first second written = IsTextSurveyBy outcome job.assumed first written

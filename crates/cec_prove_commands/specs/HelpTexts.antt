@@ -11,6 +11,7 @@ help_text =
     ∷ codes "cec-prove all FILE             when each outgoing signal is present\n"
     ∷ codes "cec-prove cover FILE           which statements and branches are ever reached\n"
     ∷ codes "cec-prove same FILE FILE       whether two sources do the same\n"
+    ∷ codes "                               a source may have a cycle if it is constructive for every event\n"
     ∷ codes "    --assume SIGNAL            where this signal is present in each instant; not of same\n"
     ∷ codes "    --main M                   of the module M, not of the first one\n"
     ∷ codes "    --text                     each FILE is a BLIF file; not of cover, and not with --main\n"

@@ -5,5 +5,6 @@ pub mod TextFaults
 pub mod TextOutcomes
 pub mod Outcomes
 pub mod Lines
+pub mod Stopping
 pub mod Views
 pub mod Answers

@@ -2,6 +2,7 @@
 use Rattle.std.specs.Prelude.{⊤, ℕ, ◌+◌, ◌≤◌, Bool, true, false, List, [], ◌++◌, Option, Some, None, codes}
 use Rattle.std.specs.Prelude.{decimal, zero, suc, unwrap_or}
 use Rattle.cec_compile.specs.declared.refusal.Refusal.TheVariants as refusing
+use Rattle.cec_cycles.specs.declared.findings.Stuck.{Stuck}
 use Rattle.cec_refusals.specs.RefusalLines.{RefusalSubject, refusal_line}
 use Rattle.cec_text_io.specs.Contents.{Content, IsHeld}
 use Rattle.cec_text_io.specs.ErrorLines.{GainsLine}
@@ -15,6 +16,9 @@ use Rattle.cec_prove_commands.specs.declared.outcome.ProveOutcome.TheVariants.{P
 use Rattle.cec_prove_commands.specs.declared.outcome.ProveOutcome.TheVariants.{NoAssumed, OtherGiven, OtherOutgoing}
 use Rattle.cec_prove_commands.specs.declared.outcome.ProveOutcome.TheVariants.{OtherRelations, Usage, FileFault}
 use Rattle.cec_prove_commands.specs.declared.outcome.ProveOutcome.TheVariants.{SecondFault, Refused, SecondRefused}
+use Rattle.cec_prove_commands.specs.declared.outcome.ProveOutcome.TheVariants.{NotConstructive, UndecidedCycle}
+use Rattle.cec_prove_commands.specs.declared.outcome.ProveOutcome.TheVariants.{TooManyNets, SecondNotConstructive}
+use Rattle.cec_prove_commands.specs.declared.outcome.ProveOutcome.TheVariants.{SecondUndecidedCycle, SecondTooManyNets}
 use Rattle.cec_prove_commands.specs.declared.outcome.ProveOutcome.TheVariants.{BadText, SecondBadText}
 use Rattle.cec_prove_commands.specs.declared.outcome.ProveOutcome.TheVariants.{TooLong, SecondTooLong}
 use Rattle.cec_prove_commands.specs.declared.outcome.ProveOutcome.TheVariants.{WriteFault, NoMemory}
@@ -40,9 +44,13 @@ own_line said = codes "cec-prove: " ++ (said ++ codes "\n")
 abbrev pub refused_of : Subject → (name : List ℕ) → RefusalSubject
 refused_of s name = record { program = codes "cec-prove: "; name = name; main = s.main; source = s.source }
 
--- the same of the second text of a comparison: the name of its file comes first
+-- the same of the second source, or text, of a comparison: the name of its file comes first
 abbrev pub second_line : Subject → List ℕ → List ℕ
 second_line s said = (codes "cec-prove: " ++ (s.other ++ codes ": ")) ++ (said ++ codes "\n")
+
+-- the instant to which the program has no reaction, and the wires that are unknown there
+abbrev pub stuck_text : Stuck → List ℕ
+stuck_text stuck = codes "instant " ++ (decimal stuck.instant ++ (codes ": not constructive: " ++ stuck.text.items))
 
 -- the line of an outcome; none for Told
 abbrev pub line_of : Subject → ProveOutcome → List ℕ
@@ -64,6 +72,12 @@ line_of s FileFault = own_line (codes "cannot read " ++ s.name)
 line_of s SecondFault = own_line (codes "cannot read " ++ s.other)
 line_of s (Refused refusal) = refusal_line (refused_of s s.name) refusal
 line_of s (SecondRefused refusal) = refusal_line (refused_of s s.other) refusal
+line_of s (NotConstructive stuck) = own_line (stuck_text stuck)
+line_of s (SecondNotConstructive stuck) = second_line s (stuck_text stuck)
+line_of s (UndecidedCycle cycle) = own_line (codes "undecided: " ++ cycle.text.items)
+line_of s (SecondUndecidedCycle cycle) = second_line s (codes "undecided: " ++ cycle.text.items)
+line_of s (TooManyNets cycle) = own_line (codes "limit: nets: " ++ cycle.text.items)
+line_of s (SecondTooManyNets cycle) = second_line s (codes "limit: nets: " ++ cycle.text.items)
 line_of s (BadText fault) = own_line (fault_text fault)
 line_of s (SecondBadText fault) = second_line s (fault_text fault)
 line_of s TooLong = own_line (codes "limit: text")

@@ -1,14 +1,19 @@
 -- To believe: what each outcome of the top call says.
-use Rattle.std.specs.Prelude.{◌≡◌, ◌≢◌, ℕ, ⊤, Bool, true, false, List, [], Option, Some, None}
+use Rattle.std.specs.Prelude.{◌≡◌, ◌≢◌, ◌⊎◌, ℕ, ⊤, Bool, true, false, List, [], Option, Some, None}
 use Rattle.base_types.specs.Reading.{KeepsFaults, Notes}
 use Rattle.base_types.specs.SinkChanges.{SinkChange}
 use Rattle.base_types.specs.Writing.{Appends}
 use Rattle.est_kernel.specs.Plain.{Program, given_names, outgoing_names}
 use Rattle.est_front.specs.Sources.{StandsFor}
 use Rattle.net_ir.specs.NameLists.{is_among}
-use Rattle.cec_compile.specs.Refusals.{Compiles, IsRefused}
+use Rattle.net_ir.specs.Netlists.{Netlist}
+use Rattle.cec_compile.specs.Refusals.{IsRefused, KeepsGraphLimits}
 use Rattle.cec_compile.specs.declared.refusal.Refusal.{Refusal}
 use Rattle.cec_compile.specs.declared.refusal.Refusal.TheVariants as refusing
+use Rattle.cec_cycles.specs.Constructive.{HasCycle, IsRefusedConstructive, StandsForConstructiveMade, StandsForStuck}
+use Rattle.cec_cycles.specs.declared.findings.CycleRefusal.{CycleRefusal}
+use Rattle.cec_cycles.specs.declared.findings.CycleRefusal.TheVariants as causes
+use Rattle.cec_cycles.specs.declared.findings.Stuck.{Stuck}
 use Rattle.cec_opt_texts.specs.Faults.{IsOptFault}
 use Rattle.cec_text_io.specs.Contents.{Content, Holds}
 use Rattle.cec_text_io.specs.Writings.{LeavesText}
@@ -32,20 +37,33 @@ use Rattle.cec_prove_commands.specs.declared.outcome.ProveOutcome.TheVariants.{P
 use Rattle.cec_prove_commands.specs.declared.outcome.ProveOutcome.TheVariants.{NoAssumed, OtherGiven, OtherOutgoing}
 use Rattle.cec_prove_commands.specs.declared.outcome.ProveOutcome.TheVariants.{OtherRelations, Usage, FileFault}
 use Rattle.cec_prove_commands.specs.declared.outcome.ProveOutcome.TheVariants.{SecondFault, Refused, SecondRefused}
+use Rattle.cec_prove_commands.specs.declared.outcome.ProveOutcome.TheVariants.{NotConstructive, UndecidedCycle}
+use Rattle.cec_prove_commands.specs.declared.outcome.ProveOutcome.TheVariants.{TooManyNets, SecondNotConstructive}
+use Rattle.cec_prove_commands.specs.declared.outcome.ProveOutcome.TheVariants.{SecondUndecidedCycle, SecondTooManyNets}
 use Rattle.cec_prove_commands.specs.declared.outcome.ProveOutcome.TheVariants.{BadText, TooLong, SecondTooLong}
 use Rattle.cec_prove_commands.specs.declared.outcome.ProveOutcome.TheVariants.{WriteFault, NoMemory}
 
--- The bytes stand for a program that compiles, by its main module, and this is so of it.
+-- The bytes stand for a program whose graph keeps the limits, by its main module, and this is so of it. Its
+-- dependencies may go round in circles.
 pub record Answered (text : List ℕ) (job : Job) (Says : Program → Type 0) : Type 0 where
   pub program : Program
   pub source : StandsFor text job.main program
-  pub compiles : Compiles program
+  pub limits : KeepsGraphLimits program
   pub says : Says program
 
--- the cause of a refusal; running out of memory is an outcome of its own
+-- the cause of a refusal; a cycle is none, and running out of memory is an outcome of its own
 abbrev pub IsRefusedFor : Job → Refusal → List ℕ → Type 0
+IsRefusedFor job (refusing.Cyclic cycle) text = ⊥
 IsRefusedFor job refusing.NoMemory text = ⊥
 IsRefusedFor job refusal text = IsRefused text job.main refusal
+
+-- the source stands for a program that is not constructive
+abbrev pub IsStuckSource : Job → (source : List ℕ) → Type 0
+IsStuckSource job source = (stuck : Stuck) × StandsForStuck source job.main stuck
+
+-- a trace leads to an instant to which this program has no reaction
+abbrev pub IsStuckTrace : Job → (source trace : List ℕ) → Type 0
+IsStuckTrace job source trace = (stuck : Stuck) × StandsForStuck source job.main stuck × (trace ≡ stuck.trace.items)
 
 -- ---- claims
 
@@ -56,6 +74,12 @@ question_of claim signal job = record { claim = claim; signal = signal; assumed 
 abbrev pub IsRefutation : PlainQuestion → Job → List ℕ → List ℕ → Type 0
 IsRefutation q job text trace = Answered text job (λ p. AnswersBroken LinePerInstant p q trace)
 
+-- the trace of a claim that ended with an outcome
+abbrev pub IsClaimTraceBy : PlainQuestion → ProveOutcome → Job → (text trace : List ℕ) → Type 0
+IsClaimTraceBy q Refuted job text trace = IsRefutation q job text trace
+IsClaimTraceBy q (NotConstructive stuck) job text trace = trace ≡ stuck.trace.items
+IsClaimTraceBy q others job text trace = IsRefutation q job text trace ⊎ IsStuckTrace job text trace
+
 abbrev pub ClaimSays : PlainQuestion → ProveOutcome → Job → List ℕ → Type 0
 ClaimSays q Proved job text = Answered text job (λ p. AnswersHolds p q)
 ClaimSays q Refuted job text = (trace : List ℕ) × IsRefutation q job text trace
@@ -63,7 +87,10 @@ ClaimSays q (Undecided depth) job text = Answered text job (λ p. HasSignals p q
 ClaimSays q NoSignal job text = Answered text job (λ p. is_among q.signal (outgoing_names p) ≡ false)
 ClaimSays q NoAssumed job text = Answered text job (λ p. IsNone p q.assumed)
 ClaimSays q (Refused refusal) job text = IsRefusedFor job refusal text
-ClaimSays q WriteFault job text = (trace : List ℕ) × IsRefutation q job text trace
+ClaimSays q (NotConstructive stuck) job text = StandsForStuck text job.main stuck
+ClaimSays q (UndecidedCycle cycle) job text = HasCycle text job.main cycle
+ClaimSays q (TooManyNets cycle) job text = HasCycle text job.main cycle
+ClaimSays q WriteFault job text = ((trace : List ℕ) × IsRefutation q job text trace) ⊎ IsStuckSource job text
 ClaimSays q NoMemory job text = ⊤
 ClaimSays q others job text = ⊥
 
@@ -73,18 +100,23 @@ ClaimSays q others job text = ⊥
 abbrev pub IsSurveyOf : Job → Bool → List ℕ → List ℕ → Type 0
 IsSurveyOf job whole text lines = Answered text job (λ p. IsSurveyText p job.assumed (outgoing_names p) lines whole)
 
--- the lines of a survey that ended with an outcome
+-- the lines of a survey that ended with an outcome, or the trace
 abbrev pub IsSurveyBy : ProveOutcome → Job → List ℕ → List ℕ → Type 0
 IsSurveyBy Surveyed job text lines = IsSurveyOf job true text lines
 IsSurveyBy PartlySurveyed job text lines = IsSurveyOf job false text lines
-IsSurveyBy others job text lines = (whole : Bool) × IsSurveyOf job whole text lines
+IsSurveyBy (NotConstructive stuck) job text lines = lines ≡ stuck.trace.items
+IsSurveyBy others job text lines = ((whole : Bool) × IsSurveyOf job whole text lines) ⊎ IsStuckTrace job text lines
 
 abbrev pub SurveySays : ProveOutcome → Job → List ℕ → Type 0
 SurveySays Surveyed job text = (lines : List ℕ) × IsSurveyOf job true text lines
 SurveySays PartlySurveyed job text = (lines : List ℕ) × IsSurveyOf job false text lines
 SurveySays NoAssumed job text = Answered text job (λ p. IsNone p job.assumed)
 SurveySays (Refused refusal) job text = IsRefusedFor job refusal text
-SurveySays WriteFault job text = (whole : Bool) × ((lines : List ℕ) × IsSurveyOf job whole text lines)
+SurveySays (NotConstructive stuck) job text = StandsForStuck text job.main stuck
+SurveySays (UndecidedCycle cycle) job text = HasCycle text job.main cycle
+SurveySays (TooManyNets cycle) job text = HasCycle text job.main cycle
+SurveySays WriteFault job text =
+    ((whole : Bool) × ((lines : List ℕ) × IsSurveyOf job whole text lines)) ⊎ IsStuckSource job text
 SurveySays NoMemory job text = ⊤
 SurveySays others job text = ⊥
 
@@ -94,36 +126,70 @@ SurveySays others job text = ⊥
 abbrev pub IsCoveringOf : Job → Bool → List ℕ → List ℕ → Type 0
 IsCoveringOf job whole text lines = Answered text job (λ p. IsCovering text job.main job.assumed lines whole)
 
--- the lines of a covering that ended with an outcome
+-- the lines of a covering that ended with an outcome, or the trace
 abbrev pub IsCoveringBy : ProveOutcome → Job → List ℕ → List ℕ → Type 0
 IsCoveringBy Covered job text lines = IsCoveringOf job true text lines
 IsCoveringBy PartlyCovered job text lines = IsCoveringOf job false text lines
-IsCoveringBy others job text lines = (whole : Bool) × IsCoveringOf job whole text lines
+IsCoveringBy (NotConstructive stuck) job text lines = lines ≡ stuck.trace.items
+IsCoveringBy others job text lines =
+    ((whole : Bool) × IsCoveringOf job whole text lines) ⊎ IsStuckTrace job text lines
 
 abbrev pub CoveringSays : ProveOutcome → Job → List ℕ → Type 0
 CoveringSays Covered job text = (lines : List ℕ) × IsCoveringOf job true text lines
 CoveringSays PartlyCovered job text = (lines : List ℕ) × IsCoveringOf job false text lines
 CoveringSays NoAssumed job text = Answered text job (λ p. IsNone p job.assumed)
 CoveringSays (Refused refusal) job text = IsRefusedFor job refusal text
-CoveringSays WriteFault job text = (whole : Bool) × ((lines : List ℕ) × IsCoveringOf job whole text lines)
+CoveringSays (NotConstructive stuck) job text = StandsForStuck text job.main stuck
+CoveringSays (UndecidedCycle cycle) job text = HasCycle text job.main cycle
+CoveringSays (TooManyNets cycle) job text = HasCycle text job.main cycle
+CoveringSays WriteFault job text =
+    ((whole : Bool) × ((lines : List ℕ) × IsCoveringOf job whole text lines)) ⊎ IsStuckSource job text
 CoveringSays NoMemory job text = ⊤
 CoveringSays others job text = ⊥
 
 -- ---- comparisons
 
--- The bytes of each of two texts stand for a program that compiles, and this is so of the two programs.
+-- The bytes of each of two texts stand for a program whose graph keeps the limits, and this is so of the two programs.
 pub record Compared (first second : List ℕ) (job : Job) (Says : Program → Program → Type 0) : Type 0 where
   pub left : Program
   pub left_source : StandsFor first job.main left
-  pub left_compiles : Compiles left
+  pub left_limits : KeepsGraphLimits left
   pub right : Program
   pub right_source : StandsFor second job.main right
-  pub right_compiles : Compiles right
+  pub right_limits : KeepsGraphLimits right
   pub says : Says left right
 
 -- the trace leads to reactions that differ
 abbrev pub IsDistinction : Job → (first second trace : List ℕ) → Type 0
 IsDistinction job first second trace = Compared first second job (λ p q. AreDifferent p q trace)
+
+-- The source stands for a program whose graph keeps the limits, and a netlist keeps what it means. So over all events
+-- that meet the relations, and resets, its reactions are constructive.
+abbrev pub HasConstructive : Job → (source : List ℕ) → Type 0
+HasConstructive job source =
+    (program : Program) × (net : Netlist) × StandsForConstructiveMade source job.main program net
+
+-- the second source has no such netlist, for this cause, and the first one has
+abbrev pub IsSecondRefused : Job → CycleRefusal → (first second : List ℕ) → Type 0
+IsSecondRefused job refusal first second =
+    HasConstructive job first × IsRefusedConstructive second job.main refusal
+
+-- the second source is not constructive, and the first one is
+abbrev pub IsSecondStuck : Job → (first second : List ℕ) → Type 0
+IsSecondStuck job first second = (stuck : Stuck) × IsSecondRefused job (causes.NotConstructive stuck) first second
+
+-- a trace leads to an instant to which the second source has no reaction
+abbrev pub IsSecondStuckTrace : Job → (first second trace : List ℕ) → Type 0
+IsSecondStuckTrace job first second trace =
+    (stuck : Stuck) × IsSecondRefused job (causes.NotConstructive stuck) first second × (trace ≡ stuck.trace.items)
+
+-- the trace of a comparison that ended with an outcome
+abbrev pub IsDistinctionBy : ProveOutcome → Job → (first second trace : List ℕ) → Type 0
+IsDistinctionBy Refuted job first second trace = IsDistinction job first second trace
+IsDistinctionBy (NotConstructive stuck) job first second trace = trace ≡ stuck.trace.items
+IsDistinctionBy (SecondNotConstructive stuck) job first second trace = trace ≡ stuck.trace.items
+IsDistinctionBy others job first second trace =
+    IsDistinction job first second trace ⊎ (IsStuckTrace job first trace ⊎ IsSecondStuckTrace job first second trace)
 
 abbrev pub ComparisonSays : ProveOutcome → Job → (first second : List ℕ) → Type 0
 ComparisonSays Proved job first second = Compared first second job AreSame
@@ -134,7 +200,17 @@ ComparisonSays OtherOutgoing job first second = Compared first second job (λ p 
 ComparisonSays OtherRelations job first second = Compared first second job (λ p q. p.relations ≢ q.relations)
 ComparisonSays (Refused refusal) job first second = IsRefusedFor job refusal first
 ComparisonSays (SecondRefused refusal) job first second = IsRefusedFor job refusal second
-ComparisonSays WriteFault job first second = (trace : List ℕ) × IsDistinction job first second trace
+ComparisonSays (NotConstructive stuck) job first second = StandsForStuck first job.main stuck
+ComparisonSays (SecondNotConstructive stuck) job first second =
+    IsSecondRefused job (causes.NotConstructive stuck) first second
+ComparisonSays (UndecidedCycle cycle) job first second = HasCycle first job.main cycle
+ComparisonSays (SecondUndecidedCycle cycle) job first second =
+    IsSecondRefused job (causes.Undecided cycle) first second
+ComparisonSays (TooManyNets cycle) job first second = HasCycle first job.main cycle
+ComparisonSays (SecondTooManyNets cycle) job first second =
+    IsSecondRefused job (causes.TooManyNets cycle) first second
+ComparisonSays WriteFault job first second = ((trace : List ℕ) × IsDistinction job first second trace)
+    ⊎ (IsStuckSource job first ⊎ IsSecondStuck job first second)
 ComparisonSays NoMemory job first second = ⊤
 ComparisonSays others job first second = ⊥
 
@@ -211,11 +287,11 @@ CountsFiles None outcome before now failed_before failed_now = KeepsFaults befor
 -- a covering
 abbrev pub IsTextOf : Task → Job → Content → ProveOutcome → List ℕ → Type 0
 IsTextOf (Ask claim signal) job content outcome written =
-    Holds content job.name (λ text. IsRefutation (question_of claim signal job) job text written)
+    Holds content job.name (λ text. IsClaimTraceBy (question_of claim signal job) outcome job text written)
 IsTextOf Survey job content outcome written = Holds content job.name (λ text. IsSurveyBy outcome job text written)
 IsTextOf Cover job content outcome written = Holds content job.name (λ text. IsCoveringBy outcome job text written)
 IsTextOf (Compare other) job content outcome written =
-    BothHold content job.name other (λ first second. IsDistinction job first second written)
+    BothHold content job.name other (λ first second. IsDistinctionBy outcome job first second written)
 IsTextOf (AskText claim signal) job content outcome written =
     Holds content job.name (λ text. IsTextRefutation (question_of claim signal job) text written)
 IsTextOf SurveyText job content outcome written =

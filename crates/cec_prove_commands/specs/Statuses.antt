@@ -14,9 +14,19 @@ use Rattle.cec_prove_commands.specs.declared.outcome.ProveOutcome.TheVariants.{P
 use Rattle.cec_prove_commands.specs.declared.outcome.ProveOutcome.TheVariants.{NoAssumed, OtherGiven, OtherOutgoing}
 use Rattle.cec_prove_commands.specs.declared.outcome.ProveOutcome.TheVariants.{OtherRelations, Usage, FileFault}
 use Rattle.cec_prove_commands.specs.declared.outcome.ProveOutcome.TheVariants.{SecondFault, Refused, SecondRefused}
+use Rattle.cec_prove_commands.specs.declared.outcome.ProveOutcome.TheVariants.{NotConstructive, UndecidedCycle}
+use Rattle.cec_prove_commands.specs.declared.outcome.ProveOutcome.TheVariants.{TooManyNets, SecondNotConstructive}
+use Rattle.cec_prove_commands.specs.declared.outcome.ProveOutcome.TheVariants.{SecondUndecidedCycle, SecondTooManyNets}
 use Rattle.cec_prove_commands.specs.declared.outcome.ProveOutcome.TheVariants.{BadText, SecondBadText}
 use Rattle.cec_prove_commands.specs.declared.outcome.ProveOutcome.TheVariants.{TooLong, SecondTooLong}
 use Rattle.cec_prove_commands.specs.declared.outcome.ProveOutcome.TheVariants.{WriteFault, NoMemory}
+
+-- of a source that does not compile: that of `cec`
+abbrev pub refusal_status : refusals.Refusal → ℕ
+refusal_status (refusing.Static fault) = 4
+refusal_status (refusing.Cyclic cycle) = 5
+refusal_status (refusing.Limit limit) = 8
+refusal_status refusing.NoMemory = 10
 
 abbrev pub status_of : ProveOutcome → ℕ
 status_of Told = 0
@@ -35,8 +45,14 @@ status_of OtherRelations = 23
 status_of Usage = 2
 status_of FileFault = 3
 status_of SecondFault = 3
-status_of (Refused refusal) = 4
-status_of (SecondRefused refusal) = 4
+status_of (Refused refusal) = refusal_status refusal
+status_of (SecondRefused refusal) = refusal_status refusal
+status_of (NotConstructive stuck) = 12
+status_of (SecondNotConstructive stuck) = 12
+status_of (UndecidedCycle cycle) = 21
+status_of (SecondUndecidedCycle cycle) = 21
+status_of (TooManyNets cycle) = 8
+status_of (SecondTooManyNets cycle) = 8
 status_of (BadText fault) = 7
 status_of (SecondBadText fault) = 7
 status_of TooLong = 8
@@ -53,6 +69,8 @@ written_of Surveyed = Some ends.Done
 written_of PartlySurveyed = Some ends.Done
 written_of Covered = Some ends.Done
 written_of PartlyCovered = Some ends.Done
+written_of (NotConstructive stuck) = Some ends.Done
+written_of (SecondNotConstructive stuck) = Some ends.Done
 written_of WriteFault = Some ends.WriteFault
 written_of NoMemory = Some ends.NoMemory
 written_of others = None

@@ -133,6 +133,11 @@ with_option job key value =
     else if is_same_name key (codes "--effort") then with_level job value
     else None
 
+-- the options that have a value
+abbrev pub takes_value : List ℕ → Bool
+takes_value word = is_same_name word (codes "--assume") || is_same_name word (codes "--main")
+    || is_same_name word (codes "--effort")
+
 -- the one option without a value
 abbrev pub is_flag : List ℕ → Bool
 is_flag word = is_same_name word (codes "--text")
@@ -191,18 +196,27 @@ request_by (word ∷ next ∷ rest) =
 
 -- ---- what is wrong with words that have no meaning
 
+-- a word in the place of an option; a name is one word too many
+abbrev pub bad_option : List ℕ → List ℕ
+bad_option word = if is_plain word then codes "one word too many: " ++ word else codes "bad option: " ++ word
+
+-- the last word, in the place of an option
+abbrev pub last_option : List ℕ → List ℕ
+last_option word = if takes_value word then codes "no value after " ++ word else bad_option word
+
 abbrev pub misuse_of_rest : (key : List ℕ) → (Job → List ℕ) → Option Job → List ℕ
-misuse_of_rest key rest None = codes "bad option: " ++ key
+misuse_of_rest key rest None = bad_option key
 misuse_of_rest key rest (Some next) = rest next
 
--- the first option without its value, unknown, given before, with a value that it does not take, or beside a command or
--- an option that it does not go with; the one that is named here waits for its value
+-- The first option that is without its value, unknown, given before, or with a value that it does not take; or that
+-- does not go with the command or with another option; or a name in its place. The option that is named here waits
+-- for its value.
 abbrev pub misuse_of_options : Job → (waiting : Option (List ℕ)) → List (List ℕ) → List ℕ
 misuse_of_options job None [] = codes "no fault"
 misuse_of_options job None (word ∷ more) =
     if is_flag word then misuse_of_rest word (λ next. misuse_of_options next None more) (with_text job)
     else misuse_of_options job (Some word) more
-misuse_of_options job (Some key) [] = codes "no value after " ++ key
+misuse_of_options job (Some key) [] = last_option key
 misuse_of_options job (Some key) (value ∷ more) =
     misuse_of_rest key (λ next. misuse_of_options next None more) (with_option job key value)
 

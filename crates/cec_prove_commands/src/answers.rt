@@ -3,7 +3,7 @@
 ghost use Rattle.std.specs.Prelude.{◌≡◌};
 ghost use Rattle.cec_prove_commands.specs.Answers.{is_open};
 
-use cec_compile::Refusal;
+use cec_cycles::CycleRefusal;
 use cec_opt_texts::OptFault;
 use cec_prove_covers::Covering;
 use cec_prove_sources::{Comparison, Survey, Verdict};
@@ -20,9 +20,9 @@ pub(crate) enum Answer {
     /// About two sources, or two texts.
     Compared(Comparison),
     /// The source is refused.
-    Refused(Refusal),
-    /// The second source of a comparison is refused.
-    SecondRefused(Refusal),
+    Refused(CycleRefusal),
+    /// The second source of a comparison is refused, and the first one is not.
+    SecondRefused(CycleRefusal),
     /// The text has this fault.
     BadText(OptFault),
     /// The second text of a comparison has this fault, and the first one has none.
@@ -40,6 +40,8 @@ pub(crate) fn is_open(answer: &Answer) -> bool
         Answer::Surveyed(Survey::Partly(_)) => true,
         Answer::Covered(Covering::Partly(_)) => true,
         Answer::Compared(Comparison::Open(_)) => true,
+        Answer::Refused(CycleRefusal::Undecided(_)) => true,
+        Answer::SecondRefused(CycleRefusal::Undecided(_)) => true,
         _ => false,
     }
 }

@@ -29,6 +29,7 @@ cec-prove always SIGNAL FILE   whether SIGNAL is present in each instant
 cec-prove all FILE             when each outgoing signal is present
 cec-prove cover FILE           which statements and branches are ever reached
 cec-prove same FILE FILE       whether two sources do the same
+                               a source may have a cycle if it is constructive for every event
     --assume SIGNAL            where this signal is present in each instant; not of same
     --main M                   of the module M, not of the first one
     --text                     each FILE is a BLIF file; not of cover, and not with --main
@@ -60,6 +61,10 @@ const VERSION: &[u8] = b"cec-prove 0.1.0\n";
 /// With `progress`, for a person who waits, the search begins with a thousandth of the effort. Before it goes on with
 /// a hundredth, a tenth and the whole, a line says so. Nothing of an earlier try is written to `out`. Nothing more goes
 /// to `err` once it has failed.
+///
+/// The dependencies of a source may go round in circles, if its program is constructive over every such list. Else
+/// `NotConstructive` has a trace, and the program has no reaction to its last event. `UndecidedCycle` and `TooManyNets`
+/// show a cycle, so a source without one never has them.
 ///
 /// `Proved` of a claim holds of every list of events that meet the source's relations, and resets: each reaction is
 /// constructive, and in each the signal is as claimed (`ClaimHolds`), whatever the search does. For `Refuted` the trace

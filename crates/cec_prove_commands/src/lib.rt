@@ -13,6 +13,7 @@ mod lines;
 mod outcome;
 mod search;
 mod sources;
+mod stopping;
 mod texts;
 mod words;
 mod writing;

@@ -5,7 +5,7 @@ ghost use Rattle.std.specs.String.{string_bytes};
 ghost use Rattle.base_types.specs.Writing.{Wrote};
 ghost use Rattle.cec_text_io.specs.ErrorLines.{GainsLine};
 ghost use Rattle.cec_refusals.specs.Views.{refused_is};
-ghost use Rattle.cec_prove_commands.specs.Lines.{line_of, own_line, progress_line, refused_of, second_line};
+ghost use Rattle.cec_prove_commands.specs.Lines.{line_of, own_line, progress_line, refused_of, second_line, stuck_text};
 ghost use Rattle.cec_prove_commands.specs.TextFaults.{fault_text};
 ghost use Rattle.cec_prove_commands.specs.Views.{subject_is};
 ghost use Rattle.cec_prove_commands.specs.Words.{misuse_of};
@@ -14,6 +14,8 @@ use crate::faults::put_fault;
 use crate::outcome::ProveOutcome;
 use crate::words::misuse_of;
 use base_types::{Limits, Sink, SinkFault, write_pieces};
+use cec_compile::Cycle;
+use cec_cycles::Stuck;
 use cec_opt_texts::OptFault;
 use cec_refusals::{RefusedSource, put_refusal};
 use itoa::Buffer;
@@ -148,6 +150,16 @@ fn put_line<E: Sink>(
             refused_of(subject, subject.other),
             refusal,
         ),
+        ProveOutcome::NotConstructive(stuck) => put_stuck(err, b"cec-prove: ", stuck),
+        ProveOutcome::SecondNotConstructive(stuck) => put_second_stuck(err, subject, stuck),
+        ProveOutcome::UndecidedCycle(cycle) => put_said(err, b"undecided: ", &cycle.text),
+        ProveOutcome::SecondUndecidedCycle(cycle) => {
+            put_second_cycle(err, subject, b"undecided: ", cycle)
+        }
+        ProveOutcome::TooManyNets(cycle) => put_said(err, b"limit: nets: ", &cycle.text),
+        ProveOutcome::SecondTooManyNets(cycle) => {
+            put_second_cycle(err, subject, b"limit: nets: ", cycle)
+        }
         ProveOutcome::BadText(fault) => put_fault(err, b"cec-prove: ", fault),
         ProveOutcome::SecondBadText(fault) => put_second_fault(err, subject, fault),
         ProveOutcome::TooLong => put_said(err, b"limit: text", b""),
@@ -181,6 +193,57 @@ fn put_second_limit<E: Sink>(err: &mut E, subject: Subject<'_>) -> Result<(), Si
         return Err(stop);
     }
     write_pieces(err, &[b"limit: text", b"\n"])
+}
+
+// The line of a program that is not constructive, after its beginning.
+fn put_stuck<E: Sink>(err: &mut E, begin: &[u8], stuck: &Stuck) -> Result<(), SinkFault>
+    ensures { Wrote (E.told err.old) (E.told err.new) (E.faults err.old) (E.faults err.new)
+        (begin.now ++ (stuck_text stuck.now ++ codes "\n")) result }
+{
+    let mut shown = Buffer::new();
+    let shown = shown.format(stuck.instant).as_bytes();
+    write_pieces(
+        err,
+        &[
+            begin,
+            b"instant ",
+            shown,
+            b": not constructive: ",
+            &stuck.text,
+            b"\n",
+        ],
+    )
+}
+
+// The line about the second source of a comparison, which is not constructive.
+fn put_second_stuck<E: Sink>(
+    err: &mut E,
+    subject: Subject<'_>,
+    stuck: &Stuck,
+) -> Result<(), SinkFault>
+    ensures { Wrote (E.told err.old) (E.told err.new) (E.faults err.old) (E.faults err.new)
+        (second_line (subject_is subject.entry) (stuck_text stuck.now)) result }
+{
+    if let Err(stop) = put_second_name(err, subject) {
+        return Err(stop);
+    }
+    put_stuck(err, b"", stuck)
+}
+
+// The line about the second source of a comparison, whose dependencies have a cycle.
+fn put_second_cycle<E: Sink>(
+    err: &mut E,
+    subject: Subject<'_>,
+    said: &[u8],
+    cycle: &Cycle,
+) -> Result<(), SinkFault>
+    ensures { Wrote (E.told err.old) (E.told err.new) (E.faults err.old) (E.faults err.new)
+        (second_line (subject_is subject.entry) (said.now ++ cycle.now.text.items)) result }
+{
+    if let Err(stop) = put_second_name(err, subject) {
+        return Err(stop);
+    }
+    write_pieces(err, &[said, &cycle.text, b"\n"])
 }
 
 // The name of the second file, with which such a line begins.

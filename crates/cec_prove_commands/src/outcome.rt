@@ -2,11 +2,12 @@
 
 ghost use Rattle.std.specs.Prelude.{◌≡◌};
 ghost use Rattle.cec_prove_commands.specs.Statuses.{written_outcome, refusal_outcome, second_refusal_outcome};
-ghost use Rattle.cec_prove_commands.specs.Statuses.{second_unread_outcome, status_of, unread_outcome};
+ghost use Rattle.cec_prove_commands.specs.Statuses.{refusal_status, second_unread_outcome, status_of, unread_outcome};
 ghost use Rattle.cec_prove_commands.specs.Statuses.{long_outcome, second_long_outcome};
 
 use base_types::FileFault;
-use cec_compile::{Limit, Refusal};
+use cec_compile::{Cycle, Limit, Refusal};
+use cec_cycles::Stuck;
 use cec_opt_texts::OptFault;
 use cec_text_io::Written;
 
@@ -45,10 +46,23 @@ pub enum ProveOutcome {
     FileFault,
     /// The same of the second file of a comparison.
     SecondFault,
-    /// The source does not compile.
+    /// The source does not compile, for another cause than a cycle.
     Refused(Refusal),
-    /// The second source of a comparison does not compile.
+    /// The second source of a comparison does not compile, for another cause than a cycle.
     SecondRefused(Refusal),
+    /// The source's program is not constructive: the trace was written, and the program has no reaction to its last
+    /// event.
+    NotConstructive(Stuck),
+    /// The same of the second source of a comparison, the first one of which is constructive.
+    SecondNotConstructive(Stuck),
+    /// The dependencies have this cycle, and it was not shown whether the program is constructive.
+    UndecidedCycle(Cycle),
+    /// The same of the second source of a comparison, the first one of which is constructive.
+    SecondUndecidedCycle(Cycle),
+    /// The dependencies have this cycle, and the netlist that shows it would be too large.
+    TooManyNets(Cycle),
+    /// The same of the second source of a comparison, the first one of which is constructive.
+    SecondTooManyNets(Cycle),
     /// The first fault of the text, or that of its circuit.
     BadText(OptFault),
     /// The same of the second text of a comparison, the first one of which has none.
@@ -148,17 +162,33 @@ impl ProveOutcome {
             ProveOutcome::Surveyed | ProveOutcome::Covered => 0,
             ProveOutcome::Usage => 2,
             ProveOutcome::FileFault | ProveOutcome::SecondFault => 3,
-            ProveOutcome::Refused(_) | ProveOutcome::SecondRefused(_) => 4,
+            ProveOutcome::Refused(refusal) => refusal_status(refusal),
+            ProveOutcome::SecondRefused(refusal) => refusal_status(refusal),
             ProveOutcome::BadText(_) | ProveOutcome::SecondBadText(_) => 7,
             ProveOutcome::TooLong | ProveOutcome::SecondTooLong => 8,
+            ProveOutcome::TooManyNets(_) | ProveOutcome::SecondTooManyNets(_) => 8,
             ProveOutcome::WriteFault => 9,
             ProveOutcome::NoMemory => 10,
+            ProveOutcome::NotConstructive(_) | ProveOutcome::SecondNotConstructive(_) => 12,
             ProveOutcome::Refuted => 20,
             ProveOutcome::PartlySurveyed | ProveOutcome::PartlyCovered => 21,
             ProveOutcome::Undecided(_) => 21,
+            ProveOutcome::UndecidedCycle(_) | ProveOutcome::SecondUndecidedCycle(_) => 21,
             ProveOutcome::NoSignal | ProveOutcome::NoAssumed => 22,
             ProveOutcome::OtherGiven | ProveOutcome::OtherOutgoing | ProveOutcome::OtherRelations =>
                 23,
         }
+    }
+}
+
+// The status of a source that does not compile: that of `cec`.
+fn refusal_status(refusal: &Refusal) -> u8
+    ensures { result ≡ refusal_status refusal.now }
+{
+    match refusal {
+        Refusal::Static(_) => 4,
+        Refusal::Cyclic(_) => 5,
+        Refusal::Limit(_) => 8,
+        Refusal::NoMemory => 10,
     }
 }

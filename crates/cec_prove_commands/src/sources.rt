@@ -1,11 +1,10 @@
 // Answers to tasks. Those about sources are here.
 
 ghost use Rattle.std.specs.Prelude.{◌≤◌, ℕ, List, length, IfErr, IfOk};
-ghost use Rattle.cec_compile.specs.Refusals.{IsRefused};
+ghost use Rattle.cec_cycles.specs.Constructive.{IsRefusedConstructive};
 ghost use Rattle.cec_prove_covers.specs.Coverings.{HasCovering};
-ghost use Rattle.cec_prove_sources.specs.Sameness.{HasComparison, IsPairRefused};
-ghost use Rattle.cec_prove_sources.specs.Surveys.{HasSurvey};
-ghost use Rattle.cec_prove_sources.specs.Verdicts.{HasVerdict};
+ghost use Rattle.cec_prove_cycles.specs.Answers.{HasConstructiveComparison, HasConstructiveSurvey};
+ghost use Rattle.cec_prove_cycles.specs.Answers.{HasConstructiveVerdict, IsPairRefusedConstructive};
 ghost use Rattle.cec_prove_commands.specs.Answers.{IsAnswer, byte_limit};
 ghost use Rattle.cec_prove_commands.specs.Outcomes.{question_of};
 ghost use Rattle.cec_prove_commands.specs.Views.{job_is, task_is};
@@ -15,11 +14,12 @@ use crate::answers::Answer;
 use crate::texts::{text_claim_answer, text_comparison_answer, text_survey_answer};
 use crate::words::{Job, Task};
 use base_types::Limits;
-use cec_compile::Refusal;
+use cec_cycles::CycleRefusal;
 use cec_prove_covers::{Covering, covering_of};
-use cec_prove_sources::{
-    Claim, Comparison, PairRefusal, Question, Survey, Verdict, comparison_of, survey_of, verdict_of,
+use cec_prove_cycles::{
+    CyclePairRefusal, constructive_comparison_of, constructive_survey_of, constructive_verdict_of,
 };
+use cec_prove_sources::{Claim, Comparison, Question, Survey, Verdict};
 use grc_order::First;
 use std::alloc::Global;
 
@@ -71,18 +71,18 @@ fn verdict(
     signal: &[u8],
     text: &[u8],
     effort: u64,
-) -> Result<Verdict, Refusal>
+) -> Result<Verdict, CycleRefusal>
     requires { length text.now ≤ Limits.SOURCE_BYTES }
-    ensures answers { IfOk result (HasVerdict text.now (job_is job.entry).main
+    ensures answers { IfOk result (HasConstructiveVerdict text.now (job_is job.entry).main
         (question_of claim signal.now (job_is job.entry))) }
-    ensures refuses { IfErr result (IsRefused text.now (job_is job.entry).main) }
+    ensures refuses { IfErr result (IsRefusedConstructive text.now (job_is job.entry).main) }
 {
     let question = Question {
         claim,
         signal,
         assumed: job.assumed,
     };
-    verdict_of(alloc, text, job.main, &mut First, question, effort)
+    constructive_verdict_of(alloc, text, job.main, &mut First, question, effort)
 }
 
 // The survey of a text.
@@ -96,12 +96,12 @@ fn survey_answer(alloc: Global, job: Job<'_>, text: &[u8], effort: u64) -> Answe
     }
 }
 
-fn survey(alloc: Global, job: Job<'_>, text: &[u8], effort: u64) -> Result<Survey, Refusal>
+fn survey(alloc: Global, job: Job<'_>, text: &[u8], effort: u64) -> Result<Survey, CycleRefusal>
     requires { length text.now ≤ Limits.SOURCE_BYTES }
-    ensures surveys { IfOk result (HasSurvey text.now (job_is job.entry).main (job_is job.entry).assumed) }
-    ensures refuses { IfErr result (IsRefused text.now (job_is job.entry).main) }
+    ensures surveys { IfOk result (HasConstructiveSurvey text.now (job_is job.entry).main (job_is job.entry).assumed) }
+    ensures refuses { IfErr result (IsRefusedConstructive text.now (job_is job.entry).main) }
 {
-    survey_of(alloc, text, job.main, &mut First, job.assumed, effort)
+    constructive_survey_of(alloc, text, job.main, &mut First, job.assumed, effort)
 }
 
 // The covering of a text.
@@ -115,10 +115,10 @@ fn covering_answer(alloc: Global, job: Job<'_>, text: &[u8], effort: u64) -> Ans
     }
 }
 
-fn covering(alloc: Global, job: Job<'_>, text: &[u8], effort: u64) -> Result<Covering, Refusal>
+fn covering(alloc: Global, job: Job<'_>, text: &[u8], effort: u64) -> Result<Covering, CycleRefusal>
     requires { length text.now ≤ Limits.SOURCE_BYTES }
     ensures covers { IfOk result (HasCovering text.now (job_is job.entry).main (job_is job.entry).assumed) }
-    ensures refuses { IfErr result (IsRefused text.now (job_is job.entry).main) }
+    ensures refuses { IfErr result (IsRefusedConstructive text.now (job_is job.entry).main) }
 {
     covering_of(alloc, text, job.main, &mut First, job.assumed, effort)
 }
@@ -137,8 +137,8 @@ fn comparison_answer(
 {
     match comparison(alloc, job, first, second, effort) {
         Ok(comparison) => Answer::Compared(comparison),
-        Err(PairRefusal::First(refusal)) => Answer::Refused(refusal),
-        Err(PairRefusal::Second(refusal)) => Answer::SecondRefused(refusal),
+        Err(CyclePairRefusal::First(refusal)) => Answer::Refused(refusal),
+        Err(CyclePairRefusal::Second(refusal)) => Answer::SecondRefused(refusal),
     }
 }
 
@@ -148,11 +148,11 @@ fn comparison(
     first: &[u8],
     second: &[u8],
     effort: u64,
-) -> Result<Comparison, PairRefusal>
+) -> Result<Comparison, CyclePairRefusal>
     requires first { length first.now ≤ Limits.SOURCE_BYTES }
     requires second { length second.now ≤ Limits.SOURCE_BYTES }
-    ensures compares { IfOk result (HasComparison first.now second.now (job_is job.entry).main) }
-    ensures refuses { IfErr result (IsPairRefused first.now second.now (job_is job.entry).main) }
+    ensures compares { IfOk result (HasConstructiveComparison first.now second.now (job_is job.entry).main) }
+    ensures refuses { IfErr result (IsPairRefusedConstructive first.now second.now (job_is job.entry).main) }
 {
-    comparison_of(alloc, first, second, job.main, &mut First, effort)
+    constructive_comparison_of(alloc, first, second, job.main, &mut First, effort)
 }

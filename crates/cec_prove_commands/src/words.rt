@@ -4,6 +4,7 @@ ghost use Rattle.std.specs.Prelude.{◌≡◌, ◌++◌, map, option_map, None};
 ghost use Rattle.std.specs.String.{string_bytes};
 ghost use Rattle.cec_prove_commands.specs.Views.{command_is, job_is, request_is, task_is};
 ghost use Rattle.cec_prove_commands.specs.Words.{
+  bad_option,
   claim_asked,
   command_asked,
   command_of,
@@ -15,6 +16,7 @@ ghost use Rattle.cec_prove_commands.specs.Words.{
   is_plain,
   job_asked,
   job_with,
+  last_option,
   level_of,
   misuse_after,
   misuse_of,
@@ -26,6 +28,7 @@ ghost use Rattle.cec_prove_commands.specs.Words.{
   misuse_of_own,
   plain_job,
   request_by,
+  takes_value,
   text_task,
   with_assumed,
   with_level,
@@ -258,6 +261,13 @@ fn is_flag(word: &[u8]) -> bool
     word == b"--text".as_slice()
 }
 
+// Whether a word is an option that has a value.
+fn takes_value(word: &[u8]) -> bool
+    ensures { result ≡ takes_value word.now }
+{
+    word == b"--assume".as_slice() || word == b"--main".as_slice() || word == b"--effort".as_slice()
+}
+
 // The task with one option.
 fn with_option<'a>(job: Job<'a>, key: &[u8], value: &'a [u8]) -> Option<Job<'a>>
     ensures { option_map job_is result ≡ with_option (job_is job.entry) key.now value.now }
@@ -480,7 +490,7 @@ fn misuse_of_options<'a>(job: Job<'a>, options: &'a [String]) -> Misuse<'a>
             None => {
                 if is_flag(word.as_bytes()) {
                     match with_text(with) {
-                        None => return faulty(b"bad option: ", word.as_bytes()),
+                        None => return bad_option(word.as_bytes()),
                         Some(next) => with = next,
                     }
                 } else {
@@ -488,7 +498,7 @@ fn misuse_of_options<'a>(job: Job<'a>, options: &'a [String]) -> Misuse<'a>
                 }
             }
             Some(name) => match with_option(with, name, word.as_bytes()) {
-                None => return faulty(b"bad option: ", name),
+                None => return bad_option(name),
                 Some(next) => {
                     with = next;
                     key = None;
@@ -498,7 +508,29 @@ fn misuse_of_options<'a>(job: Job<'a>, options: &'a [String]) -> Misuse<'a>
     }
     match key {
         None => faulty(b"no fault", b""),
-        Some(name) => faulty(b"no value after ", name),
+        Some(name) => last_option(name),
+    }
+}
+
+// The same of a word in the place of an option: a name is one word too many.
+fn bad_option(word: &[u8]) -> Misuse<'_>
+    ensures { result.fault.now ++ result.word.now ≡ bad_option word.now }
+{
+    if is_plain(word) {
+        faulty(b"one word too many: ", word)
+    } else {
+        faulty(b"bad option: ", word)
+    }
+}
+
+// The same of the last word, in the place of an option.
+fn last_option(word: &[u8]) -> Misuse<'_>
+    ensures { result.fault.now ++ result.word.now ≡ last_option word.now }
+{
+    if takes_value(word) {
+        faulty(b"no value after ", word)
+    } else {
+        bad_option(word)
     }
 }
 

@@ -4,22 +4,23 @@ ghost use Rattle.std.specs.Prelude.{ℕ, List, Option};
 ghost use Rattle.base_types.specs.SinkChanges.{change};
 ghost use Rattle.cec_text_io.specs.Writings.{LeavesText};
 ghost use Rattle.cec_prove_covers.specs.Coverings.{HasCovering};
-ghost use Rattle.cec_prove_sources.specs.Sameness.{HasComparison};
-ghost use Rattle.cec_prove_sources.specs.Surveys.{HasSurvey};
-ghost use Rattle.cec_prove_sources.specs.Verdicts.{HasVerdict, PlainQuestion};
+ghost use Rattle.cec_prove_cycles.specs.Answers.{HasConstructiveComparison, HasConstructiveSurvey};
+ghost use Rattle.cec_prove_cycles.specs.Answers.{HasConstructiveVerdict};
+ghost use Rattle.cec_prove_sources.specs.Verdicts.{PlainQuestion};
 ghost use Rattle.cec_prove_texts.specs.Sameness.{HasTextComparison};
 ghost use Rattle.cec_prove_texts.specs.Surveys.{HasTextSurvey};
 ghost use Rattle.cec_prove_texts.specs.Verdicts.{HasTextVerdict};
 ghost use Rattle.cec_prove_commands.specs.Answers.{IsAnswer, IsWrittenBy, SaysOfTexts};
-ghost use Rattle.cec_prove_commands.specs.Outcomes.{ClaimSays, ComparisonSays, IsDistinction, IsRefutation, IsSurveyBy};
-ghost use Rattle.cec_prove_commands.specs.Outcomes.{CoveringSays, IsCoveringBy, SurveySays};
+ghost use Rattle.cec_prove_commands.specs.Outcomes.{ClaimSays, ComparisonSays, IsClaimTraceBy, IsDistinctionBy};
+ghost use Rattle.cec_prove_commands.specs.Outcomes.{CoveringSays, IsCoveringBy, IsSurveyBy, SurveySays};
 ghost use Rattle.cec_prove_commands.specs.Statuses.{written_of};
 ghost use Rattle.cec_prove_commands.specs.TextOutcomes.{IsTextDistinction, IsTextRefutation, IsTextSurveyBy};
 ghost use Rattle.cec_prove_commands.specs.TextOutcomes.{TextClaimSays, TextComparisonSays, TextSurveySays};
 ghost use Rattle.cec_prove_commands.specs.Words.{Job, Task};
 
 use crate::answers::Answer;
-use crate::outcome::{ProveOutcome, refusal_outcome, second_refusal_outcome, written_outcome};
+use crate::outcome::{ProveOutcome, written_outcome};
+use crate::stopping::{refused, second_refused};
 use base_types::Sink;
 use cec_prove_covers::Covering;
 use cec_prove_sources::{Comparison, Survey, Verdict};
@@ -38,8 +39,8 @@ pub(crate) fn answer_outcome<O: Sink>(answer: Answer, out: &mut O) -> ProveOutco
         Answer::Surveyed(survey) => survey_outcome(survey, out),
         Answer::Covered(covering) => covering_outcome(covering, out),
         Answer::Compared(comparison) => comparison_outcome(comparison, out),
-        Answer::Refused(refusal) => refusal_outcome(refusal),
-        Answer::SecondRefused(refusal) => second_refusal_outcome(refusal),
+        Answer::Refused(refusal) => refused(refusal, out),
+        Answer::SecondRefused(refusal) => second_refused(refusal, out),
         Answer::BadText(fault) => ProveOutcome::BadText(fault),
         Answer::SecondBadText(fault) => ProveOutcome::SecondBadText(fault),
         Answer::NoMemory => ProveOutcome::NoMemory,
@@ -48,10 +49,10 @@ pub(crate) fn answer_outcome<O: Sink>(answer: Answer, out: &mut O) -> ProveOutco
 
 // The outcome of a claim.
 fn verdict_outcome<O: Sink>(verdict: Verdict, out: &mut O) -> ProveOutcome
-    ensures says { (q : PlainQuestion) (job : Job) (text : List ℕ) → HasVerdict text job.main q verdict
+    ensures says { (q : PlainQuestion) (job : Job) (text : List ℕ) → HasConstructiveVerdict text job.main q verdict
         → ClaimSays q result job text }
-    ensures out { (q : PlainQuestion) (job : Job) (text : List ℕ) → HasVerdict text job.main q verdict
-        → LeavesText (IsRefutation q job text) (change O.told O.faults out.old out.new) (written_of result) }
+    ensures out { (q : PlainQuestion) (job : Job) (text : List ℕ) → HasConstructiveVerdict text job.main q verdict
+        → LeavesText (IsClaimTraceBy q result job text) (change O.told O.faults out.old out.new) (written_of result) }
     ensures says_of_text { (q : PlainQuestion) (text : List ℕ) → HasTextVerdict text q verdict
         → TextClaimSays q result text }
     ensures out_of_text { (q : PlainQuestion) (text : List ℕ) → HasTextVerdict text q verdict
@@ -70,9 +71,9 @@ fn verdict_outcome<O: Sink>(verdict: Verdict, out: &mut O) -> ProveOutcome
 
 // The outcome of a survey.
 fn survey_outcome<O: Sink>(survey: Survey, out: &mut O) -> ProveOutcome
-    ensures says { (job : Job) (text : List ℕ) → HasSurvey text job.main job.assumed survey
+    ensures says { (job : Job) (text : List ℕ) → HasConstructiveSurvey text job.main job.assumed survey
         → SurveySays result job text }
-    ensures out { (job : Job) (text : List ℕ) → HasSurvey text job.main job.assumed survey
+    ensures out { (job : Job) (text : List ℕ) → HasConstructiveSurvey text job.main job.assumed survey
         → LeavesText (IsSurveyBy result job text) (change O.told O.faults out.old out.new) (written_of result) }
     ensures says_of_text { (assumed : Option (List ℕ)) (text : List ℕ) → HasTextSurvey text assumed survey
         → TextSurveySays result assumed text }
@@ -111,10 +112,11 @@ fn covering_outcome<O: Sink>(covering: Covering, out: &mut O) -> ProveOutcome
 
 // The outcome of a comparison.
 fn comparison_outcome<O: Sink>(comparison: Comparison, out: &mut O) -> ProveOutcome
-    ensures says { (first second : List ℕ) (job : Job) → HasComparison first second job.main comparison
+    ensures says { (first second : List ℕ) (job : Job) → HasConstructiveComparison first second job.main comparison
         → ComparisonSays result job first second }
-    ensures out { (first second : List ℕ) (job : Job) → HasComparison first second job.main comparison
-        → LeavesText (IsDistinction job first second) (change O.told O.faults out.old out.new) (written_of result) }
+    ensures out { (first second : List ℕ) (job : Job) → HasConstructiveComparison first second job.main comparison
+        → LeavesText (IsDistinctionBy result job first second) (change O.told O.faults out.old out.new)
+        (written_of result) }
     ensures says_of_texts { (first second : List ℕ) → HasTextComparison first second comparison
         → TextComparisonSays result first second }
     ensures out_of_texts { (first second : List ℕ) → HasTextComparison first second comparison

@@ -1,3 +1,4 @@
 mod CoveringLines
+mod Graphs
 mod Joint
 mod NewSignals

@@ -8,7 +8,7 @@ use Rattle.est_cover.specs.Covered.{covered}
 use Rattle.est_cover.specs.Points.{points_of}
 use Rattle.est_dismantle.specs.Expansions.{Expanded, expansion}
 use Rattle.est_front.specs.Sources.{Flattens, StandsFor}
-use Rattle.cec_compile.specs.Refusals.{Compiles}
+use Rattle.cec_compile.specs.Refusals.{KeepsGraphLimits}
 use Rattle.cec_prove_sources.specs.Surveys.{about}
 use Rattle.cec_prove_sources.specs.Verdicts.{AnswersBroken, AnswersHolds, HasPlace, IsNone}
 use Rattle.cec_prove_sources.specs.declared.questions.Claim.TheVariants as claims
@@ -74,9 +74,10 @@ SaysCovering source main assumed p (Whole text) = IsCovering source main assumed
 SaysCovering source main assumed p (Partly text) = IsCovering source main assumed text.items false
 SaysCovering source main assumed p NoAssumed = IsNone p assumed
 
--- The bytes stand for a program that compiles, and the covering is one of its source.
+-- The bytes stand for a program whose graph keeps the limits, and the covering is one of its source. The dependencies
+-- of the program may go round in circles.
 pub record HasCovering (source : List ℕ) (main assumed : Option (List ℕ)) (covering : Covering) : Type 0 where
   pub program : Program
   pub stands : StandsFor source main program
-  pub compiles : Compiles program
+  pub limits : KeepsGraphLimits program
   pub says : SaysCovering source main assumed program covering

@@ -5,11 +5,14 @@ use Rattle.est_ast.specs.FlatTrees.{Flat}
 use Rattle.est_cover.specs.declared.points.Point.{Point}
 use Rattle.est_dismantle.specs.Expansions.{Expanded, expansion}
 use Rattle.est_front.specs.Sources.{StandsFor}
-use Rattle.est_kernel.specs.Plain.{Program, program_of}
+use Rattle.est_front.specs.declared.analysis.Analysed.{Analysed}
+use Rattle.est_kernel.specs.CodeLists.{AreCodesOf}
+use Rattle.est_kernel.specs.Plain.{Program, program_of, term_of}
+use Rattle.est_kernel.specs.StaticCodes.{NoInstantLoop}
 use Rattle.est_kernel.specs.WellFormed.{HasNames, IsWellFormed}
 use Rattle.net_ir.specs.Runs.{netlist_of}
 use Rattle.cec_compile.specs.NetMeaning.{NetKeeps}
-use Rattle.cec_compile.specs.Refusals.{Compiles}
+use Rattle.cec_compile.specs.Refusals.{KeepsGraphLimits}
 use Rattle.cec_prove_sources.specs.Verdicts.{IsNone}
 use Rattle.cec_prove_covers.specs.declared.coverings.Covering.{Covering}
 use Rattle.cec_prove_covers.specs.declared.coverings.Covering.TheVariants.{Whole, Partly, NoAssumed}
@@ -17,11 +20,12 @@ use Rattle.cec_prove_covers.specs.declared.nets.CoveredNet.{CoveredNet}
 use Rattle.cec_prove_covers.specs.Coverings.{AreReaches}
 use Rattle.cec_prove_covers.specs.Lines.{Reach, covering_text, is_decided}
 
--- the bytes stand for a program that compiles, and None says that it has no signal of the name that is assumed
+-- the bytes stand for a program whose graph keeps the limits, and None says that it has no signal of the name that is
+-- assumed
 pub record HasRoom (source : List ℕ) (main assumed : Option (List ℕ)) (room : Option ℕ) : Type 0 where
   pub program : Program
   pub stands : StandsFor source main program
-  pub compiles : Compiles program
+  pub limits : KeepsGraphLimits program
   pub none : room ≡ None → IsNone program assumed
 
 -- what lines say
@@ -36,10 +40,16 @@ pub record IsCoveredProgram (flat : Flat) (p : Program) : Type 0 where
   pub formed : IsWellFormed p
   pub names : HasNames p
 
+-- the same with its static codes, where it has no instantaneous loop
+pub record IsAnalysedCover (flat : Flat) (analysed : Analysed) : Type 0 where
+  pub program : IsCoveredProgram flat (program_of analysed.program)
+  pub no_loop : NoInstantLoop (term_of analysed.program.body)
+  pub codes : AreCodesOf analysed.codes (term_of analysed.program.body)
+
 -- a netlist keeps what the program of a covered one means
 pub record IsCoveredNet (flat : Flat) (net : CoveredNet) : Type 0 where
-  pub program : IsCoveredProgram flat (program_of net.compiled.graph.program)
-  pub keeps : NetKeeps (netlist_of net.small) (program_of net.compiled.graph.program)
+  pub program : IsCoveredProgram flat (program_of net.program)
+  pub keeps : NetKeeps (netlist_of net.net) (program_of net.program)
 
 -- a text has the lines of the points before this number
 pub record IsCoveringPart (source : List ℕ) (flat : Flat) (assumed : Option (List ℕ)) (points : List Point) (number : ℕ)

@@ -6,6 +6,7 @@
 #![tactic(auto)]
 
 mod coverings;
+mod cycles;
 mod lines;
 mod nets;
 mod portions;

@@ -1,4 +1,4 @@
-// Covered programs, compiled and optimized.
+// Covered programs, and netlists of them.
 
 ghost use Rattle.std.specs.Prelude.{◌≡◌, ◌+◌, ◌≤◌, IfOk, IfSome, length, map, take};
 ghost use Rattle.est_ast.specs.FlatTrees.{Flat as PlainFlat};
@@ -13,8 +13,9 @@ ghost use Rattle.est_kernel.specs.Plain.{Program as PlainProgram, program_of, te
 ghost use Rattle.est_kernel.specs.StaticCodes.{NoInstantLoop};
 ghost use Rattle.est_kernel.specs.WellFormed.{HasNames, IsWellFormed};
 ghost use Rattle.cec_compile.specs.Compiling.{IsCompiled};
-ghost use Rattle.cec_prove_covers.specs.Stages.{IsCoveredNet, IsCoveredProgram};
+ghost use Rattle.cec_prove_covers.specs.Stages.{IsAnalysedCover, IsCoveredNet, IsCoveredProgram};
 
+use crate::cycles::constructive_net;
 use base_types::{Limits, NoMemory, SignalInfo, Stop};
 use cec_compile::{Compiled, Refusal, compile_program};
 use est_ast::Flat;
@@ -23,26 +24,29 @@ use est_cover::{cover_program, is_named};
 use est_dismantle::dismantle;
 use est_front::Analysed;
 use est_kernel::KernelProgram;
+use grc_graph::Graph;
 use grc_order::Picker;
 use net_ir::Net;
 use net_opt::optimize;
 use std::alloc::Global;
 
-/// A compiled program, and its optimized netlist.
+/// A program, and an optimized netlist that keeps what it means.
 #[derive(Drop)]
 pub(crate) struct CoveredNet {
-    pub(crate) compiled: Compiled,
-    pub(crate) small: Net,
+    pub(crate) program: KernelProgram,
+    pub(crate) net: Net,
 }
 
-/// The program of a flat program with new outgoing signals of these names for the points from this one on, compiled.
-/// None where that program passes a limit, or does not compile.
+/// The program of a flat program with new outgoing signals of these names for the points from this one on, and its
+/// netlist. None where that program passes a limit, or where its dependencies have a cycle and it was not shown within
+/// the effort that it is constructive.
 pub(crate) fn covered_net<P: Picker>(
     alloc: Global,
     flat: &Flat,
     first: usize,
     names: &[SignalInfo],
     picker: &mut P,
+    effort: u64,
 ) -> Result<Option<CoveredNet>, NoMemory>
     requires flat { IsFlat (flat_of flat.now) }
     requires room { length flat.now.signals.items + length names.now ≤ 4096 }
@@ -54,9 +58,74 @@ pub(crate) fn covered_net<P: Picker>(
     if !is_named(flat) {
         return Ok(None);
     }
+    match acyclic_net(alloc, flat, first, names, picker)? {
+        None => cyclic_net(alloc, flat, first, names, effort),
+        Some(net) => Ok(Some(net)),
+    }
+}
+
+// The same where the dependencies have no cycle, else None.
+fn acyclic_net<P: Picker>(
+    alloc: Global,
+    flat: &Flat,
+    first: usize,
+    names: &[SignalInfo],
+    picker: &mut P,
+) -> Result<Option<CoveredNet>, NoMemory>
+    requires flat { IsFlat (flat_of flat.now) }
+    requires named { IsNamed (flat_of flat.now) }
+    requires room { length flat.now.signals.items + length names.now ≤ 4096 }
+    requires new { AreNew (take (visible_count (flat_of flat.now)) (flat_of flat.now).signals)
+        (map (λ s. s.name) names.now) }
+    ensures { IfOk result (λ o. IfSome o (IsCoveredNet
+        (covered (flat_of flat.now) first (map (λ s. s.name) names.now)))) }
+{
+    match analysed_cover(alloc, flat, first, names)? {
+        None => Ok(None),
+        Some(analysed) => compiled_net(alloc, analysed, picker),
+    }
+}
+
+// The same where the dependencies may go round in circles.
+fn cyclic_net(
+    alloc: Global,
+    flat: &Flat,
+    first: usize,
+    names: &[SignalInfo],
+    effort: u64,
+) -> Result<Option<CoveredNet>, NoMemory>
+    requires flat { IsFlat (flat_of flat.now) }
+    requires named { IsNamed (flat_of flat.now) }
+    requires room { length flat.now.signals.items + length names.now ≤ 4096 }
+    requires new { AreNew (take (visible_count (flat_of flat.now)) (flat_of flat.now).signals)
+        (map (λ s. s.name) names.now) }
+    ensures { IfOk result (λ o. IfSome o (IsCoveredNet
+        (covered (flat_of flat.now) first (map (λ s. s.name) names.now)))) }
+{
+    match analysed_cover(alloc, flat, first, names)? {
+        None => Ok(None),
+        Some(analysed) => constructive_net(alloc, analysed, effort),
+    }
+}
+
+// The program of a covered one with its static codes, where it keeps the limits and has no instantaneous loop.
+fn analysed_cover(
+    alloc: Global,
+    flat: &Flat,
+    first: usize,
+    names: &[SignalInfo],
+) -> Result<Option<Analysed>, NoMemory>
+    requires flat { IsFlat (flat_of flat.now) }
+    requires named { IsNamed (flat_of flat.now) }
+    requires room { length flat.now.signals.items + length names.now ≤ 4096 }
+    requires new { AreNew (take (visible_count (flat_of flat.now)) (flat_of flat.now).signals)
+        (map (λ s. s.name) names.now) }
+    ensures { IfOk result (λ o. IfSome o (IsAnalysedCover
+        (covered (flat_of flat.now) first (map (λ s. s.name) names.now)))) }
+{
     match covered_program(alloc, flat, first, names)? {
         None => Ok(None),
-        Some(program) => program_net(alloc, program, picker),
+        Some(program) => analysed_program(alloc, program),
     }
 }
 
@@ -99,29 +168,11 @@ fn kernel_of(alloc: Global, flat: Flat) -> Result<Option<KernelProgram>, NoMemor
     }
 }
 
-// A program, compiled and optimized.
-fn program_net<P: Picker>(
-    alloc: Global,
-    program: KernelProgram,
-    picker: &mut P,
-) -> Result<Option<CoveredNet>, NoMemory>
-    requires formed { IsWellFormed (program_of program) }
-    requires names { HasNames (program_of program) }
-    ensures { (flat : PlainFlat) → IsCoveredProgram flat (program_of program)
-        → IfOk result (λ o. IfSome o (IsCoveredNet flat)) }
-{
-    match analysed_program(alloc, program)? {
-        None => Ok(None),
-        Some(analysed) => analysed_net(alloc, analysed, picker),
-    }
-}
-
 // A program with its static codes, where it has no instantaneous loop.
 fn analysed_program(alloc: Global, program: KernelProgram) -> Result<Option<Analysed>, NoMemory>
     requires { IsWellFormed (program_of program) }
-    ensures program { IfOk result (λ o. IfSome o (λ a. program_of a.program ≡ program_of program)) }
-    ensures no_loop { IfOk result (λ o. IfSome o (λ a. NoInstantLoop (term_of a.program.body))) }
-    ensures codes { IfOk result (λ o. IfSome o (λ a. AreCodesOf a.codes (term_of a.program.body))) }
+    ensures { (flat : PlainFlat) → IsCoveredProgram flat (program_of program)
+        → IfOk result (λ o. IfSome o (IsAnalysedCover flat)) }
 {
     match codes(alloc, &program.body) {
         Ok(codes) => Ok(Some(Analysed { program, codes })),
@@ -130,8 +181,8 @@ fn analysed_program(alloc: Global, program: KernelProgram) -> Result<Option<Anal
     }
 }
 
-// The same of a program with its static codes.
-fn analysed_net<P: Picker>(
+// The netlist of a program whose dependencies have no cycle.
+fn compiled_net<P: Picker>(
     alloc: Global,
     analysed: Analysed,
     picker: &mut P,
@@ -155,6 +206,8 @@ fn optimized(alloc: Global, compiled: Compiled) -> Result<CoveredNet, NoMemory>
     ensures { (flat : PlainFlat) (p : PlainProgram) → IsCompiled compiled p → IsCoveredProgram flat p
         → IfOk result (IsCoveredNet flat) }
 {
-    let small = optimize(alloc, &compiled.net)?;
-    Ok(CoveredNet { compiled, small })
+    let net = optimize(alloc, &compiled.net)?;
+    let Compiled { graph, .. } = compiled;
+    let Graph { program, .. } = graph;
+    Ok(CoveredNet { program, net })
 }

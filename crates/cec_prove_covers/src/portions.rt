@@ -108,7 +108,7 @@ fn push_portion<P: Picker>(
     requires within { end ≤ length asked.now.points.now }
     ensures { HasLines asked.now first lines.old → OnOk result (HasLines asked.now end lines.new) }
 {
-    match covered_net(alloc, asked.flat, first, asked.names, picker)? {
+    match covered_net(alloc, asked.flat, first, asked.names, picker, asked.effort)? {
         None => push_unknown(asked, first, end, lines),
         Some(net) => push_reaches(alloc, asked, &net, first, end, lines),
     }
@@ -209,11 +209,10 @@ fn point_reach(
         return Ok(Finding::Open(0));
     }
     let signal = asked.names[place].name.bytes();
-    let program = &net.compiled.graph.program;
     signal_reach(
         alloc,
-        program,
-        &net.small,
+        &net.program,
+        &net.net,
         signal,
         asked.assumed,
         asked.effort,

@@ -7,12 +7,14 @@ ghost use Rattle.est_front.specs.Sources.{Flattens};
 ghost use Rattle.est_kernel.specs.Plain.{program_of};
 ghost use Rattle.net_ir.specs.Runs.{netlist_of};
 ghost use Rattle.cec_compile.specs.NetMeaning.{NetKeeps};
-ghost use Rattle.cec_compile.specs.Refusals.{IsRefused};
+ghost use Rattle.cec_cycles.specs.Constructive.{IsOtherRefusal, IsRefusedConstructive};
 ghost use Rattle.cec_prove_sources.specs.Verdicts.{IsNone};
 ghost use Rattle.cec_prove_covers.specs.Stages.{HasRoom};
 
 use base_types::Limits;
-use cec_compile::{Refusal, compile};
+use cec_compile::Refusal;
+use cec_cycles::CycleRefusal;
+use cec_prove_cycles::constructive_made;
 use cec_prove_sources::place_of;
 use est_ast::Flat;
 use est_front::flat_program;
@@ -22,22 +24,23 @@ use net_ir::Net;
 use std::alloc::Global;
 
 /// How many more signals there is room for in the program of a source. None where no outgoing signal has the name that
-/// is assumed. It refuses what `cec_compile::compile` refuses.
+/// is assumed. It refuses what `cec_prove_cycles::constructive_verdict_of` refuses.
 pub(crate) fn room_of<P: Picker>(
     alloc: Global,
     text: &[u8],
     main: Option<&[u8]>,
     picker: &mut P,
     assumed: Option<&[u8]>,
-) -> Result<Option<usize>, Refusal>
+    effort: u64,
+) -> Result<Option<usize>, CycleRefusal>
     requires { length text.now ≤ Limits.SOURCE_BYTES }
     ensures room { IfOk result (HasRoom text.now (option_map (λ m. m.now) main.entry)
         (option_map (λ n. n.now) assumed.entry)) }
     ensures few { IfOk result (λ o. IfSome o (λ room. room ≤ 4096)) }
-    ensures refuses { IfErr result (IsRefused text.now (option_map (λ m. m.now) main.entry)) }
+    ensures refuses { IfErr result (IsRefusedConstructive text.now (option_map (λ m. m.now) main.entry)) }
 {
-    let compiled = compile(alloc, text, main, picker)?;
-    let room = room_beside(&compiled.graph.program, &compiled.net, assumed);
+    let made = constructive_made(alloc, text, main, picker, effort)?;
+    let room = room_beside(&made.program, &made.net, assumed);
     Ok(room)
 }
 
@@ -57,12 +60,12 @@ fn room_beside(program: &KernelProgram, net: &Net, assumed: Option<&[u8]>) -> Op
     }
 }
 
-/// The flat program of a source. It refuses what `cec_compile::compile` refuses at this stage.
+/// The flat program of a source. It refuses what `cec_compile::compile` refuses at this stage, so never a cycle.
 pub(crate) fn source_flat(alloc: Global, text: &[u8], main: Option<&[u8]>) -> Result<Flat, Refusal>
     requires { length text.now ≤ Limits.SOURCE_BYTES }
     ensures flattens { IfOk result (λ f. Flattens text.now (option_map (λ m. m.now) main.entry) (flat_of f)) }
     ensures flat { IfOk result (λ f. IsFlat (flat_of f)) }
-    ensures refuses { IfErr result (IsRefused text.now (option_map (λ m. m.now) main.entry)) }
+    ensures refuses { IfErr result (IsOtherRefusal text.now (option_map (λ m. m.now) main.entry)) }
 {
     let flat = flat_program(alloc, text, main)?;
     Ok(flat)

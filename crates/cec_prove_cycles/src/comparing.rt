@@ -17,9 +17,12 @@ use cec_prove_sources::{Comparison, net_comparison};
 use grc_order::Picker;
 use std::alloc::Global;
 
-// The program of a source, and a netlist that keeps what it means. Where the dependencies have no cycle, it is the one
-// that `cec_prove_sources::comparison_of` compares.
-fn constructive_made<P: Picker>(
+/// The program of a source whose dependencies may go round in circles, and a netlist that keeps what it means. Where
+/// the dependencies have no cycle, it is the one that `cec_prove_sources::comparison_of` compares. The effort is that
+/// of `constructive_verdict_of`.
+///
+/// It refuses what `constructive_verdict_of` refuses.
+pub fn constructive_made<P: Picker>(
     alloc: Global,
     text: &[u8],
     main: Option<&[u8]>,

@@ -13,7 +13,7 @@ mod refusal;
 mod surveys;
 mod verdicts;
 
-pub use comparing::constructive_comparison_of;
+pub use comparing::{constructive_comparison_of, constructive_made};
 pub use refusal::CyclePairRefusal;
 pub use surveys::constructive_survey_of;
 pub use verdicts::constructive_verdict_of;

@@ -3,7 +3,7 @@ use Rattle.std.proofs.Common.{◌≡◌, ℕ, Bool, true, false, List, [], ◌�
 use Rattle.std.specs.Prelude.{flat_map}
 use Rattle.std.proofs.lemmas.List.{append-nil}
 use Rattle.net_ir.specs.Netlists.{Netlist}
-use Rattle.csub_embed.specs.Grammar.{self_word, in_word, out_word}
+use Rattle.csub_embed.specs.Grammar.{self_word, out_word}
 use Rattle.csub_embed.specs.Parts.{unread_line, unshown_line}
 use Rattle.csub_embed.specs.Written.{ignored_line, untouched_line, where_empty, where_unread, reads_input, net_ignored}
 
@@ -13,17 +13,22 @@ three-pieces t a b c = simp append_assoc refl
 pub four-pieces : (t a b c d : List ℕ) → (((t ++ a) ++ b) ++ c) ++ d ≡ t ++ (a ++ (b ++ (c ++ d)))
 four-pieces t a b c d = simp append_assoc refl
 
--- the names of the function and of its parameters' types
-pub react-pieces : (t h n r p own s given j shown q : List ℕ)
-    → ((t ++ (h ++ (n ++ (r ++ p)))) ++ (n ++ ((own ++ s) ++ n))) ++ ((given ++ j) ++ (n ++ (shown ++ q)))
-    ≡ t ++ (h ++ ((n ++ r) ++ (p ++ ((n ++ own) ++ (s ++ ((n ++ given) ++ (j ++ ((n ++ shown) ++ q))))))))
-react-pieces t h n r p own s given j shown q = simp append_assoc refl
+-- the linkage, and the names of the function and of its parameters' types
+pub react-pieces : (t l h n r p own s given j shown q : List ℕ)
+    → (((t ++ l) ++ (h ++ (n ++ (r ++ p)))) ++ (n ++ ((own ++ s) ++ n))) ++ ((given ++ j) ++ (n ++ (shown ++ q)))
+    ≡ t ++ (l ++ (h ++ ((n ++ r) ++ (p ++ ((n ++ own) ++ (s ++ ((n ++ given) ++ (j ++ ((n ++ shown) ++ q)))))))))
+react-pieces t l h n r p own s given j shown q = simp append_assoc refl
 
-pub reset-pieces : (t h n r p own q : List ℕ) → ((t ++ (h ++ (n ++ (r ++ p)))) ++ n) ++ (own ++ q) ≡ t ++ (h ++ ((n ++ r) ++ (p ++ ((n ++ own) ++ q))))
-reset-pieces t h n r p own q = simp append_assoc refl
+pub reset-pieces : (t l h n r p own q : List ℕ)
+    → ((t ++ l) ++ (h ++ (n ++ (r ++ p)))) ++ (n ++ (own ++ q)) ≡ t ++ (l ++ (h ++ ((n ++ r) ++ (p ++ ((n ++ own) ++ q)))))
+reset-pieces t l h n r p own q = simp append_assoc refl
 
-pub front-pieces : (t a b c : List ℕ) → (t ++ (a ++ b)) ++ c ≡ t ++ (a ++ (b ++ c))
-front-pieces t a b c = simp append_assoc refl
+pub five-pieces : (t a b c d e : List ℕ) → ((((t ++ a) ++ b) ++ c) ++ d) ++ e ≡ t ++ (a ++ (b ++ (c ++ (d ++ e))))
+five-pieces t a b c d e = simp append_assoc refl
+
+-- three pieces that a call put, between two others
+pub react-text-pieces : (t a b c d e : List ℕ) → ((t ++ a) ++ (b ++ (c ++ d))) ++ e ≡ t ++ (a ++ (b ++ (c ++ (d ++ e))))
+react-text-pieces t a b c d e = simp append_assoc refl
 
 -- ---- parameters that nothing uses
 

@@ -1,9 +1,9 @@
 -- The tokens of the pieces of a text.
-use Rattle.std.proofs.Common.{◌≡◌, ℕ, ◌+◌, ◌-◌, suc, Bool, true, false, not, List, [], ◌∷◌, ◌++◌, length, map, take, refl, sym, ap, ◌∙◌, subst, arith}
+use Rattle.std.proofs.Common.{◌≡◌, ℕ, ◌+◌, suc, true, false, not, List, [], ◌∷◌, ◌++◌, length, map, refl, sym, ap, ◌∙◌, subst, arith}
 use Rattle.std.proofs.Common.{append_assoc}
-use Rattle.std.proofs.Common.{Option, Some, None}
+use Rattle.std.proofs.Common.{Some}
 use Rattle.std.specs.Prelude.{codes, ◌==◌}
-use Rattle.std.specs.List.{list_all, prefix_len}
+use Rattle.std.specs.List.{list_all}
 use Rattle.std.proofs.lemmas.Bool.{ne_eqb, and_parts, and_from, not-true, not_from_false, or_left, false≢true, eqb-true, both_ways, false_from_ne_true}
 use Rattle.std.proofs.lemmas.List.Folds.{list_all-append}
 use Rattle.std.proofs.lemmas.List.{length-append}
@@ -13,12 +13,12 @@ use Rattle.csub_text.specs.Tokens.{closed_after, one_more}
 use Rattle.net_expressions.specs.Lexemes.{PlacedToken, token_of, tokens_behind, begins_name}
 use Rattle.net_expressions.proofs.Saying as saying
 use Rattle.net_expressions.proofs.Exports.{FrontsNames, begins_high, bytes-name}
-use Rattle.csub_embed.specs.Grammar.{semicolon, equals, arrow, star, comma, self_word, in_word, out_word, open_kinds, unused_kinds, bit_kind}
+use Rattle.csub_embed.specs.Grammar.{semicolon, equals, arrow, star, comma, self_word, in_word, out_word, open_kinds}
 use Rattle.csub_embed.specs.Names.{is_identifier}
-use Rattle.csub_embed.specs.Tokens.{Kind, Word, Mark, Bad, front, comment_front}
-use Rattle.csub_embed.specs.Written.{line_end, open_text, comment, bit_text}
+use Rattle.csub_embed.specs.Tokens.{Kind, Word, Number, Mark, Bad, front, comment_front}
+use Rattle.csub_embed.specs.Written.{comment}
 
--- a piece of a text has these tokens, whatever stands behind it
+-- a piece of a text has these tokens, whatever follows it
 abbrev pub Says : List ℕ → List Kind → Type 0
 Says = saying.Says Bad front
 
@@ -144,20 +144,38 @@ says-bool = record { on = λ at rest. (at + 1 + 1 + 1 + 1 + 1 + 1 + 1 + 1 + 1, r
 pub says-end : Says (codes ";\n") (semicolon ∷ [])
 says-end = record { on = λ at rest. (at + 1 + 1, refl) }
 
+pub says-width : Says (codes " : 1;\n") (Mark (codes ":") ∷ Number (codes "1") ∷ semicolon ∷ [])
+says-width = record { on = λ at rest. (at + 1 + 1 + 1 + 1 + 1 + 1, refl) }
+
 pub says-unused : Says (codes "    uint8_t unused;\n") (Word (codes "uint8_t") ∷ Word (codes "unused") ∷ semicolon ∷ [])
 says-unused = record { on = λ at rest. (at + 1 + 1 + 1 + 1 + 1 + 1 + 1 + 1 + 1 + 1 + 1 + 1 + 1 + 1 + 1 + 1 + 1 + 1 + 1 + 1, refl) }
 
 pub says-close : Says (codes "} ") (Mark (codes "}") ∷ [])
 says-close = record { on = λ at rest. (at + 1 + 1, refl) }
 
-pub says-static-void : Says (codes "\nstatic inline void ") (Word (codes "static") ∷ Word (codes "inline") ∷ Word (codes "void") ∷ [])
-says-static-void = record { on = λ at rest. (at + 1 + 1 + 1 + 1 + 1 + 1 + 1 + 1 + 1 + 1 + 1 + 1 + 1 + 1 + 1 + 1 + 1 + 1 + 1 + 1, refl) }
+pub says-line : Says (codes "\n") []
+says-line = record { on = λ at rest. (at + 1, refl) }
+
+pub says-static-inline : Says (codes "static inline ") (Word (codes "static") ∷ Word (codes "inline") ∷ [])
+says-static-inline = record { on = λ at rest. (at + 1 + 1 + 1 + 1 + 1 + 1 + 1 + 1 + 1 + 1 + 1 + 1 + 1 + 1, refl) }
+
+pub says-void : Says (codes "void ") (Word (codes "void") ∷ [])
+says-void = record { on = λ at rest. (at + 1 + 1 + 1 + 1 + 1, refl) }
+
+pub says-bool-type : Says (codes "bool ") (Word (codes "bool") ∷ [])
+says-bool-type = record { on = λ at rest. (at + 1 + 1 + 1 + 1 + 1, refl) }
+
+pub says-start : Says (codes "\n{\n") (Mark (codes "{") ∷ [])
+says-start = record { on = λ at rest. (at + 1 + 1 + 1, refl) }
+
+pub says-stop : Says (codes "}\n\n") (Mark (codes "}") ∷ [])
+says-stop = record { on = λ at rest. (at + 1 + 1 + 1, refl) }
 
 pub says-left : Says (codes "(") (Mark (codes "(") ∷ [])
 says-left = record { on = λ at rest. (at + 1, refl) }
 
-pub says-self-parameter : Says (codes " *self)\n{\n") (star ∷ Word self_word ∷ Mark (codes ")") ∷ Mark (codes "{") ∷ [])
-says-self-parameter = record { on = λ at rest. (at + 1 + 1 + 1 + 1 + 1 + 1 + 1 + 1 + 1 + 1, refl) }
+pub says-self-parameter : Says (codes " *self)") (star ∷ Word self_word ∷ Mark (codes ")") ∷ [])
+says-self-parameter = record { on = λ at rest. (at + 1 + 1 + 1 + 1 + 1 + 1 + 1, refl) }
 
 pub says-ignored : Says (codes "    (void)") (Mark (codes "(") ∷ Word (codes "void") ∷ Mark (codes ")") ∷ [])
 says-ignored = record { on = λ at rest. (at + 1 + 1 + 1 + 1 + 1 + 1 + 1 + 1 + 1 + 1, refl) }
@@ -168,17 +186,14 @@ says-self-indented = record { on = λ at rest. (at + 1 + 1 + 1 + 1 + 1 + 1 + 1 +
 pub says-equals : Says (codes " = ") (equals ∷ [])
 says-equals = record { on = λ at rest. (at + 1 + 1 + 1, refl) }
 
-pub says-static-bool : Says (codes "}\n\nstatic inline bool ") (Mark (codes "}") ∷ Word (codes "static") ∷ Word (codes "inline") ∷ Word (codes "bool") ∷ [])
-says-static-bool = record { on = λ at rest. (at + 1 + 1 + 1 + 1 + 1 + 1 + 1 + 1 + 1 + 1 + 1 + 1 + 1 + 1 + 1 + 1 + 1 + 1 + 1 + 1 + 1 + 1, refl) }
-
 pub says-self-const : Says (codes " *self, const ") (star ∷ Word self_word ∷ comma ∷ Word (codes "const") ∷ [])
 says-self-const = record { on = λ at rest. (at + 1 + 1 + 1 + 1 + 1 + 1 + 1 + 1 + 1 + 1 + 1 + 1 + 1 + 1, refl) }
 
 pub says-in-parameter : Says (codes " *in, ") (star ∷ Word in_word ∷ comma ∷ [])
 says-in-parameter = record { on = λ at rest. (at + 1 + 1 + 1 + 1 + 1 + 1, refl) }
 
-pub says-out-parameter : Says (codes " *out)\n{\n") (star ∷ Word out_word ∷ Mark (codes ")") ∷ Mark (codes "{") ∷ [])
-says-out-parameter = record { on = λ at rest. (at + 1 + 1 + 1 + 1 + 1 + 1 + 1 + 1 + 1, refl) }
+pub says-out-parameter : Says (codes " *out)") (star ∷ Word out_word ∷ Mark (codes ")") ∷ [])
+says-out-parameter = record { on = λ at rest. (at + 1 + 1 + 1 + 1 + 1 + 1, refl) }
 
 pub says-const : Says (codes "    const bool ") (Word (codes "const") ∷ Word (codes "bool") ∷ [])
 says-const = record { on = λ at rest. (at + 1 + 1 + 1 + 1 + 1 + 1 + 1 + 1 + 1 + 1 + 1 + 1 + 1 + 1 + 1, refl) }

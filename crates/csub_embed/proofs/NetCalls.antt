@@ -1,13 +1,11 @@
 -- What a call of a net's component leaves: the values of the nets.
-use Rattle.std.proofs.Common.{◌≡◌, ℕ, ◌+◌, ◌-◌, ◌<◌, ◌≤◌, ◌==◌, zero, suc, Bool, true, false, not, List, [], ◌∷◌, ◌++◌, length, map, get_or, refl, sym, ap}
+use Rattle.std.proofs.Common.{◌≡◌, ℕ, ◌+◌, ◌-◌, ◌<◌, Bool, false, List, [], ◌∷◌, ◌++◌, length, map, get_or, refl, sym, ap}
 use Rattle.std.proofs.Common.{◌∙◌, subst, arith, inl, inr}
 use Rattle.std.proofs.lemmas.Bool.{cases_lt}
 use Rattle.std.proofs.lemmas.List.{length-append, length-map, get_or-map, get_or_append_left, get_or-append-add}
 use Rattle.base_facts.proofs.Lists.{map-composed}
 use Rattle.base_types.specs.Distinct.{all_differ}
 use Rattle.base_types.specs.Names.{is_same_name}
-use Rattle.net_ir.specs.declared.netlist.Latch.{Latch}
-use Rattle.net_ir.specs.declared.netlist.NetOut.{NetOut}
 use Rattle.net_ir.specs.Gates.{value_in}
 use Rattle.net_ir.specs.NameLists.{is_among}
 use Rattle.net_ir.specs.Netlists.{Netlist, first_gate, net_count, output_names}
@@ -19,7 +17,7 @@ use Rattle.net_expressions.proofs.Exports.{any_gate, any_latch, any_output}
 use Rattle.csub_text.specs.Machine.{Memory}
 use Rattle.csub_embed.specs.Machine.{Frame, place_value, run_locals, run_shown, run_kept, run_body, with_given}
 use Rattle.csub_embed.specs.Names.{name_of_local}
-use Rattle.csub_embed.specs.Trees.{Place, State, Given, Local, LocalValue, Transfer, Const}
+use Rattle.csub_embed.specs.Trees.{Local, LocalValue, Transfer}
 use Rattle.csub_embed.specs.Written.{state_word, gate_word, next_word, running_word, place_of, gate_local, next_local, running_local, output_store, state_store}
 use Rattle.csub_embed.specs.Written.{net_locals, net_component}
 use Rattle.csub_embed.proofs.Frames.{Past, place-past, locals-append, local-other, locals-copy, members, shown-place, shown-set, kept-shown, kept-local}

@@ -1,16 +1,16 @@
 -- The frames of a call of a net's component: where the values of the nets are.
-use Rattle.std.proofs.Common.{◌≡◌, ℕ, ◌+◌, ◌-◌, ◌<◌, ◌≤◌, ◌^◌, zero, suc, Bool, true, false, not, ◌&&◌, ◌||◌, List, [], ◌∷◌, ◌++◌, length, map, get_or, refl}
-use Rattle.std.proofs.Common.{sym, ap, ap₂, ◌∙◌, subst, arith, inl, inr}
-use Rattle.std.specs.Prelude.{nat_lt, if◌then◌else◌}
+use Rattle.std.proofs.Common.{◌≡◌, ℕ, ◌+◌, ◌-◌, ◌<◌, ◌≤◌, suc, Bool, false, List, [], ◌∷◌, ◌++◌, length, get_or, refl}
+use Rattle.std.proofs.Common.{sym, ap, ◌∙◌, subst, arith, inl, inr}
+use Rattle.std.specs.Prelude.{if◌then◌else◌}
 use Rattle.std.proofs.lemmas.Bool.{cases_lt, lt-ltb, le-ltb}
-use Rattle.std.proofs.lemmas.List.{length-append, length_push, get_or_append_left, get_or-append-add, get_or_push}
+use Rattle.std.proofs.lemmas.List.{length_push, get_or_append_left, get_or_push}
 use Rattle.base_types.specs.Names.{is_same_name}
 use Rattle.base_types.proofs.Exports.{same_name-self}
 use Rattle.net_ir.specs.declared.netlist.Gate.{Gate}
 use Rattle.net_ir.specs.declared.netlist.Op.{Op}
 use Rattle.net_ir.specs.declared.netlist.Op.TheVariants as ops
 use Rattle.net_ir.specs.Gates.{operand_end, op_value, value_in, gate_values}
-use Rattle.net_ir.specs.Netlists.{Netlist, first_gate, net_count}
+use Rattle.net_ir.specs.Netlists.{Netlist, first_gate}
 use Rattle.net_ir.specs.Numbered.{numbered}
 use Rattle.net_ir.specs.Writing.{IsWritable}
 use Rattle.net_ir.proofs.Exports.{differ-decimal, net_cases, op_value-same}

@@ -1,5 +1,5 @@
 -- The text of a net that can be embedded means the net.
-use Rattle.std.proofs.Common.{◌≡◌, ℕ, ◌+◌, ◌<◌, zero, suc, Bool, true, false, List, [], ◌∷◌, ◌++◌, length, map, get_or, refl, sym, ap, ap₂, ◌∙◌, subst, arith}
+use Rattle.std.proofs.Common.{◌≡◌, ℕ, ◌+◌, Bool, true, false, List, [], ◌∷◌, ◌++◌, length, map, get_or, refl, sym, ap, ap₂, ◌∙◌, subst, arith}
 use Rattle.std.proofs.Common.{Option, Some, None, ⊎_elim}
 use Rattle.std.specs.Prelude.{filter, nat_eq, if◌then◌else◌}
 use Rattle.std.proofs.lemmas.Bool.{cases_Bool, eqb-true}
@@ -11,9 +11,8 @@ use Rattle.base_types.specs.Items.{Item, Event, Reset, EachEvent}
 use Rattle.net_ir.specs.declared.netlist.Latch.{Latch}
 use Rattle.net_ir.specs.declared.netlist.NetOut.{NetOut}
 use Rattle.net_ir.specs.Gates.{value_in}
-use Rattle.net_ir.specs.Netlists.{Netlist, first_gate, net_count, output_names}
-use Rattle.net_ir.specs.Numbered.{numbered}
-use Rattle.net_ir.specs.Runs.{shown, net_run, net_values, net_values_run, next_latches, initial_latches, values_from}
+use Rattle.net_ir.specs.Netlists.{Netlist, output_names}
+use Rattle.net_ir.specs.Runs.{shown, net_values, net_values_run, next_latches, initial_latches, values_from}
 use Rattle.net_ir.specs.Writing.{IsWritable}
 use Rattle.net_ir.proofs.Exports.{get_or-numbered, length-next, length-numbered, map-numbered}
 use Rattle.net_expressions.proofs.Exports.{any_latch, any_output}
@@ -23,9 +22,12 @@ use Rattle.csub_embed.specs.Faults.{IsEmbeddable}
 use Rattle.csub_embed.specs.Machine.{Frame, Call, InstanceStates, SeenCall, SeenOf, react, reset, seen, with_instance, left_state, seen_after, run_calls}
 use Rattle.csub_embed.specs.Machine.{own_seen, own_items}
 use Rattle.csub_embed.specs.Machine.{BeginsReset, with_given}
-use Rattle.csub_embed.specs.Texts.{Describes, first_lines, last_line}
+use Rattle.csub_embed.specs.Texts.{AreEmbedFiles, IsEmbedFile}
 use Rattle.csub_embed.specs.Trees.{StateVariable, Component, name_of_state}
-use Rattle.csub_embed.specs.Written.{state_word, net_state, net_component, body_text, written, Means}
+use Rattle.csub_embed.specs.Written.{net_state, net_component, body_text, files_beside, files_with, written, Means}
+use Rattle.csub_embed.specs.declared.layout.EmbedFile.{EmbedFile}
+use Rattle.csub_embed.specs.declared.layout.EmbedFile.TheVariants.{Header, Declarations, Definitions}
+use Rattle.csub_embed.specs.declared.layout.EmbedLayout.{EmbedLayout}
 use Rattle.csub_embed.proofs.Frames.{reset-set}
 use Rattle.csub_embed.proofs.NetCalls.{Keeps, Leaves, call-leaves}
 use Rattle.csub_embed.proofs.NetNames.{differ-states}
@@ -190,20 +192,28 @@ module _ (net : Netlist) (is : IsWritable net) (k : ℕ) where
       ∙ ap (λ l. map (λ v. shown_by_call (shown net v)) (shown_from net known l)) (sym items))
       (cases_Bool (nat_eq x.instance k))
 
--- ---- the text
+-- ---- the files
 
-describes-net : (net : Netlist) → IsWritable net → IsEmbeddable net → Describes (written net) (net_component net)
-describes-net net is fits = record {
-  body = body_text (net_component net);
+file-net : (layout : EmbedLayout) (net : Netlist) → IsWritable net → IsEmbeddable net → IsEmbedFile layout (written layout net) (net_component net)
+file-net layout net is fits = record {
+  body = body_text layout (net_component net);
   framed = refl;
-  tokens = kinds-component (net_component net) (spelled-net net is fits);
-  sound = sound-net net is fits;
+  tokens = kinds-component layout (net_component net) (spelled-net net is fits);
 }
 
-pub Means-written : (net : Netlist) → IsWritable net → IsEmbeddable net → Means (written net) net
-Means-written net is fits = record {
+files-net : (file : EmbedFile) (packed : Bool) (net : Netlist) → IsWritable net → IsEmbeddable net
+    → AreEmbedFiles packed (files_beside file packed (written (record { packed = packed; file = file }) net) net) (net_component net)
+files-net Header packed net is fits = file-net (record { packed = packed; file = Header }) net is fits
+files-net Declarations packed net is fits =
+    (file-net (record { packed = packed; file = Declarations }) net is fits, file-net (record { packed = packed; file = Definitions }) net is fits)
+files-net Definitions packed net is fits =
+    (file-net (record { packed = packed; file = Declarations }) net is fits, file-net (record { packed = packed; file = Definitions }) net is fits)
+
+pub Means-written : (layout : EmbedLayout) (net : Netlist) → IsWritable net → IsEmbeddable net
+    → Means layout.packed (files_with layout (written layout net) net) net
+Means-written layout net is fits = record {
   component = net_component net;
-  describes = describes-net net is fits;
+  describes = record { files_are = files-net layout.file layout.packed net is fits; sound = sound-net net is fits };
   name = refl;
   inputs = refl;
   outputs = refl;

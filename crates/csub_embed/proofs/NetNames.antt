@@ -1,22 +1,20 @@
 -- The names of a net's component: that they are free words, and that no two locals and no two states have one.
-use Rattle.std.proofs.Common.{◌≡◌, ℕ, ◌+◌, ◌<◌, ◌≤◌, ◌^◌, ◌==◌, Bool, true, false, not, ◌&&◌, ◌||◌, List, [], ◌∷◌, ◌++◌, length, map, get_or, All, refl, sym}
+use Rattle.std.proofs.Common.{◌≡◌, ℕ, ◌<◌, ◌^◌, ◌==◌, Bool, true, false, not, ◌||◌, List, [], ◌∷◌, ◌++◌, map, refl}
 use Rattle.std.proofs.Common.{ap, ◌∙◌, arith}
 use Rattle.std.specs.Prelude.{codes, decimal}
-use Rattle.std.specs.List.{list_all, list_any}
-use Rattle.std.proofs.lemmas.Bool.{and_from, or_from, or_parts}
-use Rattle.std.proofs.lemmas.List.{length-append, append_assoc}
+use Rattle.std.specs.List.{list_all}
 use Rattle.base_types.specs.Distinct.{all_differ}
-use Rattle.base_types.specs.Names.{is_name, is_name_byte, is_same_name}
-use Rattle.net_ir.specs.Netlists.{Netlist, first_gate, net_count}
+use Rattle.base_types.specs.Names.{is_name, is_same_name}
+use Rattle.net_ir.specs.Netlists.{Netlist}
 use Rattle.net_ir.specs.NameLists.{is_among}
 use Rattle.net_ir.specs.Numbered.{numbered}
 use Rattle.net_ir.specs.Writing.{IsWritable}
 use Rattle.net_ir.specs.declared.netlist.Gate.{Gate}
 use Rattle.net_ir.specs.declared.netlist.Latch.{Latch}
-use Rattle.net_ir.proofs.Exports.{differ-by, differ-decimal, joined-differ, map-numbered, numbered-differ, list_any-left, list_any-right}
+use Rattle.net_ir.proofs.Exports.{differ-by, differ-decimal, map-numbered, numbered-differ}
 use Rattle.std.proofs.lemmas.List.{map-append}
 use Rattle.net_expressions.proofs.Exports.{all-both, all-numbered, bytes-decimal, digits-decimal, in-front, mark, no-word}
-use Rattle.csub_embed.specs.Names.{IsFree, is_reserved, is_identifier, name_of_local, parameters}
+use Rattle.csub_embed.specs.Names.{IsFree, is_reserved, name_of_local, parameters}
 use Rattle.csub_embed.specs.Written.{state_word, gate_word, next_word, running_word, net_locals, gate_local, next_local, running_local}
 use Rattle.csub_embed.proofs.Lexing.{word-name}
 

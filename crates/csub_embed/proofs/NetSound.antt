@@ -1,9 +1,9 @@
 -- The component of a net that can be embedded keeps the rules on names, and is spelled with words.
-use Rattle.std.proofs.Common.{◌≡◌, ℕ, ◌+◌, ◌-◌, ◌<◌, ◌≤◌, ◌^◌, zero, suc, Bool, true, false, not, ◌||◌, List, [], ◌∷◌, ◌++◌, length, map, get_or, All, refl}
+use Rattle.std.proofs.Common.{◌≡◌, ℕ, ◌+◌, ◌<◌, ◌≤◌, ◌^◌, zero, suc, Bool, true, false, List, [], ◌∷◌, ◌++◌, length, map, get_or, All, refl}
 use Rattle.std.proofs.Common.{sym, ap, ◌∙◌, subst, arith, inl, inr}
 use Rattle.std.specs.List.{AllByRecursion, list_any}
 use Rattle.std.proofs.lemmas.Bool.{or_left, or_right, or_parts, cases_lt}
-use Rattle.std.proofs.lemmas.List.{length-append, length-map, get_or-map}
+use Rattle.std.proofs.lemmas.List.{length-map, get_or-map}
 use Rattle.std.proofs.lemmas.List.Elements.{All-append, All-map}
 use Rattle.std.proofs.lemmas.List.Folds.{list_any_at, list_any-append}
 use Rattle.base_facts.proofs.Lists.{map-composed}
@@ -20,12 +20,12 @@ use Rattle.net_ir.specs.NameLists.{is_among}
 use Rattle.net_ir.specs.Netlists.{Netlist, first_gate, net_count, output_names}
 use Rattle.net_ir.specs.Numbered.{numbered}
 use Rattle.net_ir.specs.Writing.{IsWritable}
-use Rattle.net_ir.proofs.Exports.{All-numbered, any-none, get_or-numbered, length-numbered, map-numbered, net_cases}
+use Rattle.net_ir.proofs.Exports.{All-numbered, any-none, map-numbered, net_cases}
 use Rattle.net_expressions.proofs.Exports.{among-left, among-numbered, among-right, any_gate, any_latch, any_output, gate-low}
-use Rattle.csub_embed.specs.Faults.{IsEmbeddable, signals}
+use Rattle.csub_embed.specs.Faults.{IsEmbeddable}
 use Rattle.csub_embed.specs.Grammar.{self_word, in_word, out_word}
-use Rattle.csub_embed.specs.Names.{IsFree, IsTypeName, IsDeclared, ReadsDeclared, LocalsRead, IsSound, is_reserved, local_names, name_of_local, parameters}
-use Rattle.csub_embed.specs.Trees.{StateVariable, Place, State, Given, Local, Value, LocalValue, Transfer, name_of_state}
+use Rattle.csub_embed.specs.Names.{IsFree, IsDeclared, ReadsDeclared, LocalsRead, IsSound, is_reserved, local_names, parameters}
+use Rattle.csub_embed.specs.Trees.{LocalValue, Transfer, name_of_state}
 use Rattle.csub_embed.specs.Written.{state_word, gate_word, next_word, running_word, net_state, place_of, op_value_of, gate_local, next_local, running_local}
 use Rattle.csub_embed.specs.Written.{output_store, state_store, where_empty, where_unread, reads_input, net_ignored, net_locals, net_component}
 use Rattle.csub_embed.proofs.Lexing.{IsSpelledWord, spelled-word}

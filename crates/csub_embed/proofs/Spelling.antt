@@ -5,17 +5,22 @@ use Rattle.std.proofs.lemmas.List.Elements.{All-map}
 use Rattle.base_types.specs.Names.{is_name, is_name_byte}
 use Rattle.net_expressions.proofs.Exports.{says-then, says-lines, says-whole}
 use Rattle.net_expressions.proofs.Saying as saying
-use Rattle.csub_embed.specs.Grammar.{semicolon, equals, arrow, self_word, in_word, out_word, bit_kind, place_kinds, value_kinds, member_kinds, unused_kinds}
-use Rattle.csub_embed.specs.Grammar.{open_kinds, close_kinds, structure_kinds, ignored_kinds, untouched_kinds, first_kinds, reset_head_kinds, react_head_kinds}
-use Rattle.csub_embed.specs.Grammar.{local_kinds, store_kinds, answer_kinds, component_kinds}
-use Rattle.csub_embed.specs.Tokens.{Kind, Word, Mark, kinds}
+use Rattle.csub_embed.specs.Grammar.{semicolon, equals, arrow, star, comma, self_word, in_word, out_word, bit_kind, place_kinds, value_kinds, member_kinds}
+use Rattle.csub_embed.specs.Grammar.{unused_kinds, open_kinds, close_kinds, structure_kinds, structures_kinds, ignored_kinds, untouched_kinds, first_kinds}
+use Rattle.csub_embed.specs.Grammar.{linkage_kinds, reset_head_kinds, react_head_kinds, local_kinds, store_kinds, answer_kinds, prototype_kinds, function_kinds}
+use Rattle.csub_embed.specs.Grammar.{file_kinds, component_kinds}
+use Rattle.csub_embed.specs.Tokens.{Kind, Word, Number, Mark, kinds}
 use Rattle.csub_embed.specs.Trees.{StateVariable, Place, State, Given, Local, Value, Const, Copy, Not, And, Or, LocalValue, Transfer, Component, name_of_state}
 use Rattle.csub_embed.specs.Written.{line_end, bit_text, written_place, value_text, comment, open_text, member_line, unused_line, close_text, structure_text}
-use Rattle.csub_embed.specs.Written.{reset_head, ignored_line, untouched_line, first_line, react_head, local_line, store_line, return_lines, body_text}
-use Rattle.csub_embed.proofs.Lexing.{Says, IsSpelledWord, says-word, spelled-word, spelled-more, says-comment, says-open, says-bool, says-end, says-unused}
-use Rattle.csub_embed.proofs.Lexing.{says-close, says-static-void, says-left, says-self-parameter, says-ignored, says-self-indented, says-equals}
-use Rattle.csub_embed.proofs.Lexing.{says-static-bool, says-self-const, says-in-parameter, says-out-parameter, says-const, says-not, says-and, says-or}
-use Rattle.csub_embed.proofs.Lexing.{says-self, says-in, says-arrow, says-indent, says-return, says-last}
+use Rattle.csub_embed.specs.Written.{structures_text, linkage_text, reset_head, react_head, body_start, ignored_line, untouched_line, first_line, local_line}
+use Rattle.csub_embed.specs.Written.{store_line, return_lines, prototype_text, function_text, file_text, body_text}
+use Rattle.csub_embed.specs.declared.layout.EmbedFile.{EmbedFile}
+use Rattle.csub_embed.specs.declared.layout.EmbedFile.TheVariants.{Header, Declarations, Definitions}
+use Rattle.csub_embed.specs.declared.layout.EmbedLayout.{EmbedLayout}
+use Rattle.csub_embed.proofs.Lexing.{Says, IsSpelledWord, says-word, spelled-word, spelled-more, says-comment, says-open, says-bool, says-end, says-width}
+use Rattle.csub_embed.proofs.Lexing.{says-unused, says-close, says-line, says-static-inline, says-void, says-bool-type, says-start, says-stop, says-left}
+use Rattle.csub_embed.proofs.Lexing.{says-self-parameter, says-ignored, says-self-indented, says-equals, says-self-const, says-in-parameter, says-out-parameter}
+use Rattle.csub_embed.proofs.Lexing.{says-const, says-not, says-and, says-or, says-self, says-in, says-arrow, says-indent, says-return, says-last}
 
 -- ---- what is spelled of words
 
@@ -91,8 +96,11 @@ says-value (Or p q) d ds ks is stops says =
 
 -- ---- lines
 
-says-member : (name : List ℕ) → IsSpelledWord name → Says (member_line name) (member_kinds name)
-says-member name is =
+says-member : (packed : Bool) (name : List ℕ) → IsSpelledWord name → Says (member_line packed name) (member_kinds packed name)
+says-member true name is =
+    says-then (codes "    bool ") (name ++ codes " : 1;\n") (Word (codes "bool") ∷ []) (Word name ∷ Mark (codes ":") ∷ Number (codes "1") ∷ semicolon ∷ [])
+    says-bool (says-word name 32 (codes ": 1;\n") (Mark (codes ":") ∷ Number (codes "1") ∷ semicolon ∷ []) is refl says-width)
+says-member false name is =
     says-then (codes "    bool ") (name ++ line_end) (Word (codes "bool") ∷ []) (Word name ∷ semicolon ∷ []) says-bool
     (says-word name 59 (10 ∷ []) (semicolon ∷ []) is refl says-end)
 
@@ -146,42 +154,62 @@ says-close-line type is =
     says-then (codes "} ") (type ++ line_end) (Mark (codes "}") ∷ []) (Word type ∷ semicolon ∷ []) says-close
     (says-word type 59 (10 ∷ []) (semicolon ∷ []) is refl says-end)
 
-says-structure : (type : List ℕ) (members : List (List ℕ)) → IsSpelledWord type → All IsSpelledWord members
-    → Says (structure_text type members) (structure_kinds type members)
-says-structure type members is all =
-    let lines = says-lines member_line member_kinds members (λ k d h. says-member (get_or members k d) (all k d h)) in
-    says-then open_text (flat_map member_line members ++ (unused_line members ++ close_text type)) open_kinds
-    (flat_map member_kinds members ++ (unused_kinds members ++ close_kinds type)) says-open
-    (says-then (flat_map member_line members) (unused_line members ++ close_text type) (flat_map member_kinds members)
+says-structure : (packed : Bool) (type : List ℕ) (members : List (List ℕ)) → IsSpelledWord type → All IsSpelledWord members
+    → Says (structure_text packed type members) (structure_kinds packed type members)
+says-structure packed type members is all =
+    let lines = says-lines (member_line packed) (member_kinds packed) members (λ k d h. says-member packed (get_or members k d) (all k d h)) in
+    says-then open_text (flat_map (member_line packed) members ++ (unused_line members ++ close_text type)) open_kinds
+    (flat_map (member_kinds packed) members ++ (unused_kinds members ++ close_kinds type)) says-open
+    (says-then (flat_map (member_line packed) members) (unused_line members ++ close_text type) (flat_map (member_kinds packed) members)
     (unused_kinds members ++ close_kinds type) lines
     (says-then (unused_line members) (close_text type) (unused_kinds members) (close_kinds type) (says-no-member members) (says-close-line type is)))
 
+says-structures : (packed : Bool) (c : Component) → IsSpelled c → Says (structures_text packed c) (structures_kinds packed c)
+says-structures packed c is =
+    let states = map name_of_state c.states in
+    let named = All-map IsSpelledWord name_of_state c.states is.states in
+    let members = structure_text packed (c.name ++ codes "_t") states in
+    let state_kinds = structure_kinds packed (c.name ++ codes "_t") states in
+    let inputs = structure_text false (c.name ++ codes "_inputs_t") c.inputs in
+    let input_kinds = structure_kinds false (c.name ++ codes "_inputs_t") c.inputs in
+    let outputs = structure_text false (c.name ++ codes "_outputs_t") c.outputs in
+    let output_kinds = structure_kinds false (c.name ++ codes "_outputs_t") c.outputs in
+    says-then members (inputs ++ outputs) state_kinds (input_kinds ++ output_kinds)
+    (says-structure packed (c.name ++ codes "_t") states (spelled-more c.name (codes "_t") is.name refl) named)
+    (says-then inputs outputs input_kinds output_kinds
+    (says-structure false (c.name ++ codes "_inputs_t") c.inputs (spelled-more c.name (codes "_inputs_t") is.name refl) is.inputs)
+    (says-structure false (c.name ++ codes "_outputs_t") c.outputs (spelled-more c.name (codes "_outputs_t") is.name refl) is.outputs))
+
 -- ---- heads of functions
 
-says-reset-head : (name : List ℕ) → is_name name ≡ true → Says (reset_head name) (reset_head_kinds name)
-says-reset-head name fits =
+says-linkage : (file : EmbedFile) → Says (linkage_text file) (linkage_kinds file)
+says-linkage Header = says-static-inline
+says-linkage Declarations = saying.says-nothing
+says-linkage Definitions = saying.says-nothing
+
+says-reset-head : (file : EmbedFile) (name : List ℕ) → is_name name ≡ true → Says (reset_head file name) (reset_head_kinds file name)
+says-reset-head file name fits =
     let type = name ++ codes "_t" in
     let function = name ++ codes "_reset" in
-    let kinds1 = Mark (codes "*") ∷ Word self_word ∷ Mark (codes ")") ∷ Mark (codes "{") ∷ [] in
-    let last = says-word type 32 (codes "*self)\n{\n") kinds1 (spelled-more name (codes "_t") fits refl) refl says-self-parameter in
-    let text1 = type ++ codes " *self)\n{\n" in
+    let kinds1 = star ∷ Word self_word ∷ Mark (codes ")") ∷ [] in
+    let text1 = type ++ codes " *self)" in
+    let last = says-word type 32 (codes "*self)") kinds1 (spelled-more name (codes "_t") fits refl) refl says-self-parameter in
     let left = says-then (codes "(") text1 (Mark (codes "(") ∷ []) (Word type ∷ kinds1) says-left last in
-    says-then (codes "\nstatic inline void ") (function ++ (codes "(" ++ text1))
-    (Word (codes "static") ∷ Word (codes "inline") ∷ Word (codes "void") ∷ []) (Word function ∷ Mark (codes "(") ∷ Word type ∷ kinds1)
-    says-static-void
-    (says-word function 40 text1 (Mark (codes "(") ∷ Word type ∷ kinds1) (spelled-more name (codes "_reset") fits refl) refl left)
+    let kinds2 = Word function ∷ Mark (codes "(") ∷ Word type ∷ kinds1 in
+    let text2 = function ++ (codes "(" ++ text1) in
+    says-then (linkage_text file) (codes "void " ++ text2) (linkage_kinds file) (Word (codes "void") ∷ kinds2) (says-linkage file)
+    (says-then (codes "void ") text2 (Word (codes "void") ∷ []) kinds2 says-void
+    (says-word function 40 text1 (Mark (codes "(") ∷ Word type ∷ kinds1) (spelled-more name (codes "_reset") fits refl) refl left))
 
-says-react-head : (name : List ℕ) → is_name name ≡ true → Says (react_head name) (Mark (codes "}") ∷ react_head_kinds name)
-says-react-head name fits =
+says-react-head : (file : EmbedFile) (name : List ℕ) → is_name name ≡ true → Says (react_head file name) (react_head_kinds file name)
+says-react-head file name fits =
     let type = name ++ codes "_t" in
     let function = name ++ codes "_react" in
     let inputs = name ++ codes "_inputs_t" in
     let outputs = name ++ codes "_outputs_t" in
-    let star = Mark (codes "*") in
-    let comma = Mark (codes ",") in
-    let kinds1 = star ∷ Word out_word ∷ Mark (codes ")") ∷ Mark (codes "{") ∷ [] in
-    let text1 = outputs ++ codes " *out)\n{\n" in
-    let says1 = says-word outputs 32 (codes "*out)\n{\n") kinds1 (spelled-more name (codes "_outputs_t") fits refl) refl says-out-parameter in
+    let kinds1 = star ∷ Word out_word ∷ Mark (codes ")") ∷ [] in
+    let text1 = outputs ++ codes " *out)" in
+    let says1 = says-word outputs 32 (codes "*out)") kinds1 (spelled-more name (codes "_outputs_t") fits refl) refl says-out-parameter in
     let kinds2 = star ∷ Word in_word ∷ comma ∷ Word outputs ∷ kinds1 in
     let text2 = inputs ++ (codes " *in, " ++ text1) in
     let says2 = says-word inputs 32 (codes "*in, " ++ text1) kinds2 (spelled-more name (codes "_inputs_t") fits refl) refl
@@ -191,17 +219,28 @@ says-react-head name fits =
     let says3 = says-word type 32 (codes "*self, const " ++ text2) kinds3 (spelled-more name (codes "_t") fits refl) refl
     (says-then (codes " *self, const ") text2 (star ∷ Word self_word ∷ comma ∷ Word (codes "const") ∷ []) (Word inputs ∷ kinds2) says-self-const says2) in
     let left = says-then (codes "(") text3 (Mark (codes "(") ∷ []) (Word type ∷ kinds3) says-left says3 in
-    says-then (codes "}\n\nstatic inline bool ") (function ++ (codes "(" ++ text3))
-    (Mark (codes "}") ∷ Word (codes "static") ∷ Word (codes "inline") ∷ Word (codes "bool") ∷ [])
-    (Word function ∷ Mark (codes "(") ∷ Word type ∷ kinds3) says-static-bool
-    (says-word function 40 text3 (Mark (codes "(") ∷ Word type ∷ kinds3) (spelled-more name (codes "_react") fits refl) refl left)
+    let kinds4 = Word function ∷ Mark (codes "(") ∷ Word type ∷ kinds3 in
+    let text4 = function ++ (codes "(" ++ text3) in
+    says-then (linkage_text file) (codes "bool " ++ text4) (linkage_kinds file) (Word (codes "bool") ∷ kinds4) (says-linkage file)
+    (says-then (codes "bool ") text4 (Word (codes "bool") ∷ []) kinds4 says-bool-type
+    (says-word function 40 text3 (Mark (codes "(") ∷ Word type ∷ kinds3) (spelled-more name (codes "_react") fits refl) refl left))
 
--- ---- the whole
+says-prototypes : (name : List ℕ) → is_name name ≡ true → Says (prototype_text name) (prototype_kinds name)
+says-prototypes name fits =
+    let reset = reset_head Declarations name in
+    let resets = reset_head_kinds Declarations name in
+    let react = react_head Declarations name in
+    let reacts = react_head_kinds Declarations name in
+    says-then (codes "\n") (reset ++ (line_end ++ (react ++ line_end))) [] (resets ++ semicolon ∷ (reacts ++ semicolon ∷ [])) says-line
+    (says-then reset (line_end ++ (react ++ line_end)) resets (semicolon ∷ (reacts ++ semicolon ∷ [])) (says-reset-head Declarations name fits)
+    (says-then line_end (react ++ line_end) (semicolon ∷ []) (reacts ++ semicolon ∷ []) says-end
+    (says-then react line_end reacts (semicolon ∷ []) (says-react-head Declarations name fits) says-end)))
 
-pub says-component : (c : Component) → IsSpelled c → Says (body_text c) (component_kinds c)
-says-component c is =
+-- ---- the functions
+
+says-functions : (file : EmbedFile) (c : Component) → IsSpelled c → Says (function_text file c) (function_kinds file c)
+says-functions file c is =
     let states = map name_of_state c.states in
-    let named = All-map IsSpelledWord name_of_state c.states is.states in
     let firsts = says-lines first_line first_kinds c.states (λ k d h. says-first (get_or c.states k d) (is.states k d h)) in
     let ignored = says-lines ignored_line ignored_kinds c.ignored (λ k d h. says-ignored-line (get_or c.ignored k d) (is.ignored k d h)) in
     let locals = says-lines local_line local_kinds c.locals (λ k d h. says-local (get_or c.locals k d) (is.locals k d h)) in
@@ -219,37 +258,47 @@ says-component c is =
     let kinds4 = flat_map local_kinds c.locals ++ kinds3 in
     let text5 = flat_map ignored_line c.ignored ++ text4 in
     let kinds5 = flat_map ignored_kinds c.ignored ++ kinds4 in
-    let text6 = react_head c.name ++ text5 in
-    let kinds6 = Mark (codes "}") ∷ (react_head_kinds c.name ++ kinds5) in
-    let text7 = untouched_line states ++ text6 in
-    let kinds7 = untouched_kinds states ++ kinds6 in
-    let text8 = flat_map first_line c.states ++ text7 in
-    let kinds8 = flat_map first_kinds c.states ++ kinds7 in
-    let text9 = reset_head c.name ++ text8 in
-    let kinds9 = reset_head_kinds c.name ++ kinds8 in
-    let outputs = structure_text (c.name ++ codes "_outputs_t") c.outputs in
-    let output_kinds = structure_kinds (c.name ++ codes "_outputs_t") c.outputs in
-    let inputs = structure_text (c.name ++ codes "_inputs_t") c.inputs in
-    let input_kinds = structure_kinds (c.name ++ codes "_inputs_t") c.inputs in
-    let members = structure_text (c.name ++ codes "_t") states in
-    let state_kinds = structure_kinds (c.name ++ codes "_t") states in
-    says-then (comment c.name) (members ++ (inputs ++ (outputs ++ text9))) [] (state_kinds ++ (input_kinds ++ (output_kinds ++ kinds9)))
-    (says-comment c.name is.name)
-    (says-then members (inputs ++ (outputs ++ text9)) state_kinds (input_kinds ++ (output_kinds ++ kinds9))
-    (says-structure (c.name ++ codes "_t") states (spelled-more c.name (codes "_t") is.name refl) named)
-    (says-then inputs (outputs ++ text9) input_kinds (output_kinds ++ kinds9)
-    (says-structure (c.name ++ codes "_inputs_t") c.inputs (spelled-more c.name (codes "_inputs_t") is.name refl) is.inputs)
-    (says-then outputs text9 output_kinds kinds9
-    (says-structure (c.name ++ codes "_outputs_t") c.outputs (spelled-more c.name (codes "_outputs_t") is.name refl) is.outputs)
-    (says-then (reset_head c.name) text8 (reset_head_kinds c.name) kinds8 (says-reset-head c.name is.name)
-    (says-then (flat_map first_line c.states) text7 (flat_map first_kinds c.states) kinds7 firsts
-    (says-then (untouched_line states) text6 (untouched_kinds states) kinds6 (says-untouched states)
-    (says-then (react_head c.name) text5 (Mark (codes "}") ∷ react_head_kinds c.name) kinds5 (says-react-head c.name is.name)
+    let text6 = body_start ++ text5 in
+    let kinds6 = Mark (codes "{") ∷ kinds5 in
+    let text7 = react_head file c.name ++ text6 in
+    let kinds7 = react_head_kinds file c.name ++ kinds6 in
+    let text8 = codes "}\n\n" ++ text7 in
+    let kinds8 = Mark (codes "}") ∷ kinds7 in
+    let text9 = untouched_line states ++ text8 in
+    let kinds9 = untouched_kinds states ++ kinds8 in
+    let text10 = flat_map first_line c.states ++ text9 in
+    let kinds10 = flat_map first_kinds c.states ++ kinds9 in
+    let text11 = body_start ++ text10 in
+    let kinds11 = Mark (codes "{") ∷ kinds10 in
+    let text12 = reset_head file c.name ++ text11 in
+    let kinds12 = reset_head_kinds file c.name ++ kinds11 in
+    says-then (codes "\n") text12 [] kinds12 says-line
+    (says-then (reset_head file c.name) text11 (reset_head_kinds file c.name) kinds11 (says-reset-head file c.name is.name)
+    (says-then body_start text10 (Mark (codes "{") ∷ []) kinds10 says-start
+    (says-then (flat_map first_line c.states) text9 (flat_map first_kinds c.states) kinds9 firsts
+    (says-then (untouched_line states) text8 (untouched_kinds states) kinds8 (says-untouched states)
+    (says-then (codes "}\n\n") text7 (Mark (codes "}") ∷ []) kinds7 says-stop
+    (says-then (react_head file c.name) text6 (react_head_kinds file c.name) kinds6 (says-react-head file c.name is.name)
+    (says-then body_start text5 (Mark (codes "{") ∷ []) kinds5 says-start
     (says-then (flat_map ignored_line c.ignored) text4 (flat_map ignored_kinds c.ignored) kinds4 ignored
     (says-then (flat_map local_line c.locals) text3 (flat_map local_kinds c.locals) kinds3 locals
     (says-then (flat_map (store_line out_word) c.shown) text2 (flat_map (store_kinds out_word) c.shown) kinds2 shown
     (says-then (flat_map (store_line self_word) c.kept) text1 (flat_map (store_kinds self_word) c.kept) kinds1 kept
     (says-answer c.answer is.answer))))))))))))
 
-pub kinds-component : (c : Component) → IsSpelled c → kinds (body_text c) ≡ component_kinds c
-kinds-component c is = says-whole (body_text c) (component_kinds c) (says-component c is)
+-- ---- the whole
+
+says-file : (file : EmbedFile) (packed : Bool) (c : Component) → IsSpelled c → Says (file_text file packed c) (file_kinds file packed c)
+says-file Header packed c is =
+    says-then (structures_text packed c) (function_text Header c) (structures_kinds packed c) (function_kinds Header c) (says-structures packed c is)
+    (says-functions Header c is)
+says-file Declarations packed c is =
+    says-then (structures_text packed c) (prototype_text c.name) (structures_kinds packed c) (prototype_kinds c.name) (says-structures packed c is)
+    (says-prototypes c.name is.name)
+says-file Definitions packed c is = says-functions Definitions c is
+
+pub kinds-component : (layout : EmbedLayout) (c : Component) → IsSpelled c → kinds (body_text layout c) ≡ component_kinds layout c
+kinds-component layout c is =
+    says-whole (body_text layout c) (component_kinds layout c)
+    (says-then (comment c.name) (file_text layout.file layout.packed c) [] (component_kinds layout c) (says-comment c.name is.name)
+    (says-file layout.file layout.packed c is))

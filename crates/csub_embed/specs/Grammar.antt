@@ -1,26 +1,36 @@
--- To believe: the tokens of a component, which determine it. In words, where NAME is the name of the component:
+-- To believe: the tokens of the files of a component, which determine it. In words, where NAME is the name of the
+-- component:
 --
 -- ```
---   text      = structure(NAME_t) structure(NAME_inputs_t) structure(NAME_outputs_t) reset react
+--   header       = structures reset react
+--   declarations = structures reset_head ";" react_head ";"
+--   definitions  = reset react
+--   structures   = structure(NAME_t) structure(NAME_inputs_t) structure(NAME_outputs_t)
 --   structure(TYPE) = "typedef" "struct" "{" ( member { member } | "uint8_t" "unused" ";" ) "}" TYPE ";"
---   member    = "bool" MEMBER ";"
---   reset     = "static" "inline" "void" NAME_reset "(" NAME_t "*" "self" ")"
---               "{" ( first { first } | "(" "void" ")" "self" ";" ) "}"
---   first     = "self" "->" MEMBER "=" bit ";"
---   react     = "static" "inline" "bool" NAME_react
---               "(" NAME_t "*" "self" "," "const" NAME_inputs_t "*" "in" "," NAME_outputs_t "*" "out" ")"
---               "{" { "(" "void" ")" PARAMETER ";" } { local } { "out" "->" MEMBER "=" place ";" }
---               { "self" "->" MEMBER "=" place ";" } "return" place ";" "}"
---   local     = "const" "bool" LOCAL "=" value ";"
---   value     = bit | place | "!" place | place "&&" place | place "||" place
---   place     = "self" "->" MEMBER | "in" "->" MEMBER | LOCAL
---   bit       = "true" | "false"
+--   member     = "bool" MEMBER [ ":" "1" ] ";"
+--   reset      = reset_head "{" ( first { first } | "(" "void" ")" "self" ";" ) "}"
+--   reset_head = [ "static" "inline" ] "void" NAME_reset "(" NAME_t "*" "self" ")"
+--   first      = "self" "->" MEMBER "=" bit ";"
+--   react      = react_head
+--                "{" { "(" "void" ")" PARAMETER ";" } { local } { "out" "->" MEMBER "=" place ";" }
+--                { "self" "->" MEMBER "=" place ";" } "return" place ";" "}"
+--   react_head = [ "static" "inline" ] "bool" NAME_react
+--                "(" NAME_t "*" "self" "," "const" NAME_inputs_t "*" "in" "," NAME_outputs_t "*" "out" ")"
+--   local      = "const" "bool" LOCAL "=" value ";"
+--   value      = bit | place | "!" place | place "&&" place | place "||" place
+--   place      = "self" "->" MEMBER | "in" "->" MEMBER | LOCAL
+--   bit        = "true" | "false"
 -- ```
--- A structure without members of its own has the member `unused`, which is no state, input or output.
+-- The functions of a header are static and inline, and those of two files are not. The members of a packed state have
+-- one bit each, and no others. A structure without members of its own has the member `unused`, which is no state, input
+-- or output.
 use Rattle.std.specs.Prelude.{ℕ, Bool, true, false, List, [], ◌∷◌, ◌++◌, map, flat_map, codes}
-use Rattle.csub_embed.specs.Tokens.{Kind, Word, Mark}
+use Rattle.csub_embed.specs.Tokens.{Kind, Word, Number, Mark}
 use Rattle.csub_embed.specs.Trees.{StateVariable, Place, State, Given, Local, Value, Const, Copy, Not, And, Or}
 use Rattle.csub_embed.specs.Trees.{LocalValue, Transfer, Component, name_of_state}
+use Rattle.csub_embed.specs.declared.layout.EmbedLayout.{EmbedLayout}
+use Rattle.csub_embed.specs.declared.layout.EmbedFile.{EmbedFile}
+use Rattle.csub_embed.specs.declared.layout.EmbedFile.TheVariants.{Header, Declarations, Definitions}
 
 abbrev pub semicolon : Kind
 semicolon = Mark (codes ";")
@@ -67,8 +77,13 @@ value_kinds (Or first second) = place_kinds first ++ Mark (codes "||") ∷ place
 
 -- ---- structures
 
-abbrev pub member_kinds : List ℕ → List Kind
-member_kinds name = Word (codes "bool") ∷ Word name ∷ semicolon ∷ []
+-- the width of a packed member
+abbrev pub width_kinds : (packed : Bool) → List Kind
+width_kinds true = Mark (codes ":") ∷ Number (codes "1") ∷ []
+width_kinds false = []
+
+abbrev pub member_kinds : (packed : Bool) → List ℕ → List Kind
+member_kinds packed name = Word (codes "bool") ∷ Word name ∷ (width_kinds packed ++ semicolon ∷ [])
 
 abbrev pub unused_kinds : List (List ℕ) → List Kind
 unused_kinds [] = Word (codes "uint8_t") ∷ Word (codes "unused") ∷ semicolon ∷ []
@@ -80,9 +95,15 @@ open_kinds = Word (codes "typedef") ∷ Word (codes "struct") ∷ Mark (codes "{
 abbrev pub close_kinds : List ℕ → List Kind
 close_kinds type = Mark (codes "}") ∷ Word type ∷ semicolon ∷ []
 
-abbrev pub structure_kinds : List ℕ → List (List ℕ) → List Kind
-structure_kinds type members =
-    open_kinds ++ (flat_map member_kinds members ++ (unused_kinds members ++ close_kinds type))
+abbrev pub structure_kinds : (packed : Bool) → List ℕ → List (List ℕ) → List Kind
+structure_kinds packed type members =
+    open_kinds ++ (flat_map (member_kinds packed) members ++ (unused_kinds members ++ close_kinds type))
+
+abbrev pub structures_kinds : (packed : Bool) → Component → List Kind
+structures_kinds packed c =
+    structure_kinds packed (c.name ++ codes "_t") (map name_of_state c.states)
+    ++ (structure_kinds false (c.name ++ codes "_inputs_t") c.inputs
+    ++ structure_kinds false (c.name ++ codes "_outputs_t") c.outputs)
 
 -- ---- functions
 
@@ -98,17 +119,22 @@ untouched_kinds (name ∷ names) = []
 abbrev pub first_kinds : StateVariable → List Kind
 first_kinds s = Word self_word ∷ arrow ∷ Word s.name ∷ equals ∷ bit_kind s.init ∷ semicolon ∷ []
 
-abbrev pub reset_head_kinds : List ℕ → List Kind
-reset_head_kinds name =
-    Word (codes "static") ∷ Word (codes "inline") ∷ Word (codes "void") ∷ Word (name ++ codes "_reset")
-    ∷ Mark (codes "(") ∷ Word (name ++ codes "_t") ∷ star ∷ Word self_word ∷ Mark (codes ")") ∷ Mark (codes "{") ∷ []
+abbrev pub linkage_kinds : EmbedFile → List Kind
+linkage_kinds Header = Word (codes "static") ∷ Word (codes "inline") ∷ []
+linkage_kinds Declarations = []
+linkage_kinds Definitions = []
 
-abbrev pub react_head_kinds : List ℕ → List Kind
-react_head_kinds name =
-    Word (codes "static") ∷ Word (codes "inline") ∷ Word (codes "bool") ∷ Word (name ++ codes "_react")
+abbrev pub reset_head_kinds : EmbedFile → List ℕ → List Kind
+reset_head_kinds file name =
+    linkage_kinds file ++ (Word (codes "void") ∷ Word (name ++ codes "_reset")
+    ∷ Mark (codes "(") ∷ Word (name ++ codes "_t") ∷ star ∷ Word self_word ∷ Mark (codes ")") ∷ [])
+
+abbrev pub react_head_kinds : EmbedFile → List ℕ → List Kind
+react_head_kinds file name =
+    linkage_kinds file ++ (Word (codes "bool") ∷ Word (name ++ codes "_react")
     ∷ Mark (codes "(") ∷ Word (name ++ codes "_t") ∷ star ∷ Word self_word ∷ comma
     ∷ Word (codes "const") ∷ Word (name ++ codes "_inputs_t") ∷ star ∷ Word in_word ∷ comma
-    ∷ Word (name ++ codes "_outputs_t") ∷ star ∷ Word out_word ∷ Mark (codes ")") ∷ Mark (codes "{") ∷ []
+    ∷ Word (name ++ codes "_outputs_t") ∷ star ∷ Word out_word ∷ Mark (codes ")") ∷ [])
 
 abbrev pub local_kinds : LocalValue → List Kind
 local_kinds l =
@@ -121,13 +147,24 @@ store_kinds structure s =
 abbrev pub answer_kinds : Place → List Kind
 answer_kinds place = Word (codes "return") ∷ (place_kinds place ++ semicolon ∷ Mark (codes "}") ∷ [])
 
-abbrev pub component_kinds : Component → List Kind
-component_kinds c =
-    let states = map name_of_state c.states in
-    structure_kinds (c.name ++ codes "_t") states
-    ++ (structure_kinds (c.name ++ codes "_inputs_t") c.inputs
-    ++ (structure_kinds (c.name ++ codes "_outputs_t") c.outputs
-    ++ (reset_head_kinds c.name ++ (flat_map first_kinds c.states ++ (untouched_kinds states ++ (Mark (codes "}")
-    ∷ (react_head_kinds c.name ++ (flat_map ignored_kinds c.ignored ++ (flat_map local_kinds c.locals
-    ++ (flat_map (store_kinds out_word) c.shown ++ (flat_map (store_kinds self_word) c.kept
-    ++ answer_kinds c.answer)))))))))))
+abbrev pub prototype_kinds : List ℕ → List Kind
+prototype_kinds name =
+    reset_head_kinds Declarations name ++ semicolon ∷ (react_head_kinds Declarations name ++ semicolon ∷ [])
+
+abbrev pub function_kinds : EmbedFile → Component → List Kind
+function_kinds file c =
+    reset_head_kinds file c.name ++ (Mark (codes "{") ∷ (flat_map first_kinds c.states
+    ++ (untouched_kinds (map name_of_state c.states) ++ (Mark (codes "}")
+    ∷ (react_head_kinds file c.name ++ (Mark (codes "{") ∷ (flat_map ignored_kinds c.ignored
+    ++ (flat_map local_kinds c.locals ++ (flat_map (store_kinds out_word) c.shown
+    ++ (flat_map (store_kinds self_word) c.kept ++ answer_kinds c.answer))))))))))
+
+-- ---- the files
+
+abbrev pub file_kinds : EmbedFile → (packed : Bool) → Component → List Kind
+file_kinds Header packed c = structures_kinds packed c ++ function_kinds Header c
+file_kinds Declarations packed c = structures_kinds packed c ++ prototype_kinds c.name
+file_kinds Definitions packed c = function_kinds Definitions c
+
+abbrev pub component_kinds : EmbedLayout → Component → List Kind
+component_kinds layout c = file_kinds layout.file layout.packed c

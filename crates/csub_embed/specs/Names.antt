@@ -1,7 +1,7 @@
 -- To believe: the rules on names, which C and C++ have. The members of a structure differ, and so do the locals. No
 -- name is a word of C or of C++. What is read is a member of its structure, or a local that is declared before. Each
 -- member of the outputs and of the state is set once, in declared order.
-use Rattle.std.specs.Prelude.{◌≡◌, ℕ, Bool, true, false, ◌&&◌, List, [], ◌∷◌, ◌++◌, map, IsTrue, codes}
+use Rattle.std.specs.Prelude.{◌≡◌, ℕ, Bool, true, false, ◌&&◌, List, [], ◌∷◌, ◌++◌, map, IsTrue}
 use Rattle.std.specs.List.{list_all, list_any, AllByRecursion}
 use Rattle.base_types.specs.Distinct.{all_differ}
 use Rattle.base_types.specs.Names.{is_name, is_same_name, is_name_byte}
@@ -9,7 +9,7 @@ use Rattle.net_ir.specs.NameLists.{is_among}
 use Rattle.net_expressions.specs.Lexemes.{begins_name}
 use Rattle.csub_embed.specs.Grammar.{self_word, in_word, out_word}
 use Rattle.csub_embed.specs.Trees.{Place, State, Given, Local, Value, Const, Copy, Not, And, Or}
-use Rattle.csub_embed.specs.Trees.{LocalValue, Transfer, Component, name_of_state}
+use Rattle.csub_embed.specs.Trees.{LocalValue, Component, name_of_state}
 use Rattle.csub_embed.specs.declared.words.TheConstants.{RESERVED, TYPES}
 
 -- ---- words

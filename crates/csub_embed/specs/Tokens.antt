@@ -1,15 +1,16 @@
--- To believe: the tokens of an embedded text, each as long as it can be: words, and marks of one or two bytes. Spaces
--- and comments are none.
+-- To believe: the tokens of an embedded text, each as long as it can be: words, numbers, and marks of one or two bytes.
+-- Spaces and comments are none.
 use Rattle.std.specs.Prelude.{ℕ, ◌+◌, ◌==◌, Bool, ◌||◌, List, [], ◌∷◌, take, map}
 use Rattle.std.specs.Prelude.{Option, Some, None, if◌then◌else◌}
 use Rattle.std.specs.List.{prefix_len}
-use Rattle.base_types.specs.Names.{is_name_byte}
+use Rattle.base_types.specs.Names.{is_digit, is_name_byte}
 use Rattle.csub_text.specs.Tokens.{closed_after}
 use Rattle.net_expressions.specs.Lexemes.{Front, Gap, Lexeme, Wrong, is_space, begins_name, tokens_behind}
 
 -- what a token is; `Bad` is a token that no text has
 pub data Kind : Type 0 where
   Word : (word : List ℕ) → Kind
+  Number : (number : List ℕ) → Kind
   Mark : (mark : List ℕ) → Kind
   Bad : Kind
 
@@ -27,10 +28,11 @@ abbrev pub pair_front : ℕ → ℕ → List ℕ → Front Kind
 pair_front first second [] = Wrong
 pair_front first second (c ∷ cs) = if c == second then Lexeme 1 (Mark (first ∷ second ∷ [])) else Wrong
 
--- ( ) { } ; = * , !
+-- ( ) { } ; : = * , !
 abbrev pub is_single_mark : ℕ → Bool
 is_single_mark c =
-    c == 40 || (c == 41 || (c == 123 || (c == 125 || (c == 59 || (c == 61 || (c == 42 || (c == 44 || c == 33)))))))
+    c == 40 || (c == 41 || (c == 123 || (c == 125 || (c == 59 || (c == 58 || (c == 61 || (c == 42
+    || (c == 44 || c == 33))))))))
 
 -- and `->`, `&&`, `||`
 abbrev pub longest_mark : ℕ → List ℕ → Front Kind
@@ -40,14 +42,16 @@ longest_mark c cs =
     else (if c == 38 then pair_front 38 38 cs
     else (if c == 124 then pair_front 124 124 cs else Wrong)))
 
--- what a byte and those after it begin with
+-- what a byte and those after it begin with; a number goes on like a word
 abbrev pub front : ℕ → List ℕ → Front Kind
 front c cs =
     if is_space c then Gap 0
     else (if c == 47 then slash_front cs
     else (if begins_name c then Lexeme (prefix_len is_name_byte cs)
     (Word (c ∷ take (prefix_len is_name_byte cs) cs))
-    else longest_mark c cs))
+    else (if is_digit c then Lexeme (prefix_len is_name_byte cs)
+    (Number (c ∷ take (prefix_len is_name_byte cs) cs))
+    else longest_mark c cs)))
 
 -- the tokens of a text
 abbrev pub kinds : List ℕ → List Kind

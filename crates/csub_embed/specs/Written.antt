@@ -1,4 +1,4 @@
--- To believe: the component that stands for a net, its text, and what the text means. The component has the name of the
+-- To believe: the component that stands for a net, its texts, and what they mean. The component has the name of the
 -- net. Latch J of the net is the member `stateJ` of the state, and an input or an output is the member of its own name.
 -- Gate K is the local `gK`; the next value of latch J is computed into `nextJ`, and whether the program is still active
 -- into `running`, which is returned.
@@ -13,13 +13,16 @@ use Rattle.net_ir.specs.declared.netlist.Op.{Op}
 use Rattle.net_ir.specs.declared.netlist.Op.TheVariants as ops
 use Rattle.net_ir.specs.Netlists.{Netlist, first_gate, output_names}
 use Rattle.net_ir.specs.Numbered.{numbered}
-use Rattle.net_ir.specs.Runs.{Shown, net_run}
+use Rattle.net_ir.specs.Runs.{net_run}
 use Rattle.csub_text.specs.Written.{shown_by_call}
 use Rattle.csub_embed.specs.Trees.{StateVariable, Place, State, Given, Local, Value, Const, Copy, Not, And, Or}
 use Rattle.csub_embed.specs.Trees.{LocalValue, Transfer, Component, name_of_state}
 use Rattle.csub_embed.specs.Grammar.{self_word, in_word, out_word}
 use Rattle.csub_embed.specs.Machine.{Call, InstanceStates, run_calls, own_seen, own_items, BeginsReset}
-use Rattle.csub_embed.specs.Texts.{Describes, first_lines, last_line}
+use Rattle.csub_embed.specs.Texts.{Describes, EmbedFiles, One, Two, lines_before, lines_after}
+use Rattle.csub_embed.specs.declared.layout.EmbedLayout.{EmbedLayout}
+use Rattle.csub_embed.specs.declared.layout.EmbedFile.{EmbedFile}
+use Rattle.csub_embed.specs.declared.layout.EmbedFile.TheVariants.{Header, Declarations, Definitions}
 
 -- ---- names
 
@@ -147,8 +150,13 @@ comment name = codes "\n/* " ++ (name ++ comment_tail)
 abbrev pub open_text : List ℕ
 open_text = codes "\ntypedef struct {\n"
 
-abbrev pub member_line : List ℕ → List ℕ
-member_line name = codes "    bool " ++ (name ++ line_end)
+-- a packed member has one bit
+abbrev pub member_end : (packed : Bool) → List ℕ
+member_end true = codes " : 1;\n"
+member_end false = line_end
+
+abbrev pub member_line : (packed : Bool) → List ℕ → List ℕ
+member_line packed name = codes "    bool " ++ (name ++ member_end packed)
 
 abbrev pub unused_line : {X : Type 0} → List X → List ℕ
 unused_line [] = codes "    uint8_t unused;\n"
@@ -157,10 +165,26 @@ unused_line (x ∷ xs) = []
 abbrev pub close_text : List ℕ → List ℕ
 close_text type = codes "} " ++ (type ++ line_end)
 
-abbrev pub reset_head : List ℕ → List ℕ
-reset_head name =
-    codes "\nstatic inline void " ++ ((name ++ codes "_reset") ++ (codes "(" ++ ((name ++ codes "_t")
-    ++ codes " *self)\n{\n")))
+-- the functions of a header are static and inline
+abbrev pub linkage_text : EmbedFile → List ℕ
+linkage_text Header = codes "static inline "
+linkage_text Declarations = []
+linkage_text Definitions = []
+
+abbrev pub reset_head : EmbedFile → List ℕ → List ℕ
+reset_head file name =
+    linkage_text file ++ (codes "void " ++ ((name ++ codes "_reset") ++ (codes "(" ++ ((name ++ codes "_t")
+    ++ codes " *self)"))))
+
+abbrev pub react_head : EmbedFile → List ℕ → List ℕ
+react_head file name =
+    linkage_text file ++ (codes "bool " ++ ((name ++ codes "_react") ++ (codes "(" ++ ((name ++ codes "_t")
+    ++ (codes " *self, const " ++ ((name ++ codes "_inputs_t") ++ (codes " *in, " ++ ((name ++ codes "_outputs_t")
+    ++ codes " *out)"))))))))
+
+-- a function begins
+abbrev pub body_start : List ℕ
+body_start = codes "\n{\n"
 
 abbrev pub ignored_line : List ℕ → List ℕ
 ignored_line parameter = codes "    (void)" ++ (parameter ++ line_end)
@@ -172,12 +196,6 @@ untouched_line (x ∷ xs) = []
 abbrev pub first_line : StateVariable → List ℕ
 first_line s = codes "    self->" ++ (s.name ++ (codes " = " ++ (bit_text s.init ++ line_end)))
 
-abbrev pub react_head : List ℕ → List ℕ
-react_head name =
-    codes "}\n\nstatic inline bool " ++ ((name ++ codes "_react") ++ (codes "(" ++ ((name ++ codes "_t")
-    ++ (codes " *self, const " ++ ((name ++ codes "_inputs_t") ++ (codes " *in, " ++ ((name ++ codes "_outputs_t")
-    ++ codes " *out)\n{\n")))))))
-
 abbrev pub local_line : LocalValue → List ℕ
 local_line l = codes "    const bool " ++ (l.name ++ (codes " = " ++ (value_text l.value ++ line_end)))
 
@@ -188,37 +206,62 @@ store_line structure s =
 abbrev pub return_lines : Place → List ℕ
 return_lines place = codes "    return " ++ (written_place place ++ codes ";\n}\n")
 
-abbrev pub structure_text : List ℕ → List (List ℕ) → List ℕ
-structure_text type members =
-    open_text ++ (flat_map member_line members ++ (unused_line members ++ close_text type))
+abbrev pub structure_text : (packed : Bool) → List ℕ → List (List ℕ) → List ℕ
+structure_text packed type members =
+    open_text ++ (flat_map (member_line packed) members ++ (unused_line members ++ close_text type))
 
--- what is between the lines for the preprocessor
-abbrev pub body_text : Component → List ℕ
-body_text c =
-    let states = map name_of_state c.states in
-    comment c.name ++ (structure_text (c.name ++ codes "_t") states
-    ++ (structure_text (c.name ++ codes "_inputs_t") c.inputs
-    ++ (structure_text (c.name ++ codes "_outputs_t") c.outputs
-    ++ (reset_head c.name ++ (flat_map first_line c.states ++ (untouched_line states
-    ++ (react_head c.name ++ (flat_map ignored_line c.ignored ++ (flat_map local_line c.locals
+abbrev pub structures_text : (packed : Bool) → Component → List ℕ
+structures_text packed c =
+    structure_text packed (c.name ++ codes "_t") (map name_of_state c.states)
+    ++ (structure_text false (c.name ++ codes "_inputs_t") c.inputs
+    ++ structure_text false (c.name ++ codes "_outputs_t") c.outputs)
+
+abbrev pub prototype_text : List ℕ → List ℕ
+prototype_text name =
+    codes "\n" ++ (reset_head Declarations name ++ (line_end ++ (react_head Declarations name ++ line_end)))
+
+abbrev pub function_text : EmbedFile → Component → List ℕ
+function_text file c =
+    codes "\n" ++ (reset_head file c.name ++ (body_start ++ (flat_map first_line c.states
+    ++ (untouched_line (map name_of_state c.states) ++ (codes "}\n\n" ++ (react_head file c.name ++ (body_start
+    ++ (flat_map ignored_line c.ignored ++ (flat_map local_line c.locals
     ++ (flat_map (store_line out_word) c.shown ++ (flat_map (store_line self_word) c.kept
     ++ return_lines c.answer)))))))))))
 
-abbrev pub component_text : Component → List ℕ
-component_text c = first_lines c.name ++ (body_text c ++ last_line)
+abbrev pub file_text : EmbedFile → (packed : Bool) → Component → List ℕ
+file_text Header packed c = structures_text packed c ++ function_text Header c
+file_text Declarations packed c = structures_text packed c ++ prototype_text c.name
+file_text Definitions packed c = function_text Definitions c
+
+-- what is between the lines for the preprocessor
+abbrev pub body_text : EmbedLayout → Component → List ℕ
+body_text layout c = comment c.name ++ file_text layout.file layout.packed c
+
+abbrev pub component_text : EmbedLayout → Component → List ℕ
+component_text layout c =
+    lines_before layout.file c.name ++ (body_text layout c ++ lines_after layout.file)
 
 -- the embedded C text of a net
-abbrev pub written : Netlist → List ℕ
-written net = component_text (net_component net)
+abbrev pub written : EmbedLayout → Netlist → List ℕ
+written layout net = component_text layout (net_component net)
 
--- ---- what the text means
+-- The files to which a text of this layout belongs. The other one of two files is that of the same net.
+abbrev pub files_beside : EmbedFile → (packed : Bool) → List ℕ → Netlist → EmbedFiles
+files_beside Header packed text net = One text
+files_beside Declarations packed text net = Two text (written (record { packed = packed; file = Definitions }) net)
+files_beside Definitions packed text net = Two (written (record { packed = packed; file = Declarations }) net) text
 
--- A text means a net: it describes a component with the net's name, inputs, outputs and latches. Of whatever the
+abbrev pub files_with : EmbedLayout → List ℕ → Netlist → EmbedFiles
+files_with layout text net = files_beside layout.file layout.packed text net
+
+-- ---- what the files mean
+
+-- Files mean a net: they describe a component with the net's name, inputs, outputs and latches. Of whatever the
 -- instances hold before, and in whatever order the instances are called: an instance that is reset before its first
 -- event shows at each call what the net shows at the event.
-pub record Means (text : List ℕ) (net : Netlist) : Type 0 where
+pub record Means (packed : Bool) (files : EmbedFiles) (net : Netlist) : Type 0 where
   pub component : Component
-  pub describes : Describes text component
+  pub describes : Describes packed files component
   pub name : component.name ≡ net.name
   pub inputs : component.inputs ≡ net.inputs
   pub outputs : component.outputs ≡ output_names net

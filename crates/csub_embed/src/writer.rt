@@ -1,6 +1,6 @@
 // The embedded text of a net, line by line. Running out of memory is the only error.
 
-ghost use Rattle.std.specs.Prelude.{◌≡◌, ◌+◌, ◌<◌, ◌≤◌, ◌++◌, OnOk};
+ghost use Rattle.std.specs.Prelude.{◌≡◌, ◌+◌, ◌<◌, ◌≤◌, ◌++◌, false, OnOk};
 ghost use Rattle.net_ir.specs.Gates.{operand_end};
 ghost use Rattle.net_ir.specs.Netlists.{net_count};
 ghost use Rattle.net_ir.specs.Runs.{netlist_of};
@@ -14,16 +14,20 @@ use net_ir::{Gate, Latch, Net, NetOut, Op};
 use net_writer::{Driver, driver_of, put_named};
 
 // A latch among the members of the state.
-pub fn put_state_member(text: &mut Vec<u8>, j: usize) -> Result<(), NoMemory>
-    ensures { OnOk result (text.new.items ≡ text.old.items ++ member_line (state_word j)) }
+pub fn put_state_member(text: &mut Vec<u8>, packed: bool, j: usize) -> Result<(), NoMemory>
+    ensures { OnOk result (text.new.items ≡ text.old.items ++ member_line packed (state_word j)) }
 {
     put_number(text, b"    bool state", j)?;
-    put(text, b";\n")
+    if packed {
+        put(text, b" : 1;\n")
+    } else {
+        put(text, b";\n")
+    }
 }
 
 // A signal among the members of the inputs or of the outputs.
 pub fn put_member(text: &mut Vec<u8>, name: &Text) -> Result<(), NoMemory>
-    ensures { OnOk result (text.new.items ≡ text.old.items ++ member_line name.now) }
+    ensures { OnOk result (text.new.items ≡ text.old.items ++ member_line false name.now) }
 {
     put_named(text, b"    bool ", name.bytes(), b";\n")
 }

@@ -16,12 +16,12 @@ use Rattle.run_over_traces.proofs.Exports.{Fits, fits-next}
 
 -- ---- digits
 
--- a number with so many noughts behind it
+-- a number with this number of noughts after it
 abbrev raised : ℕ → ℕ → ℕ
 raised zero n = n
 raised (suc k) n = raised k n * 10
 
--- the last so many digits of a number
+-- the last digits of a number, this number of them
 abbrev last_digits : ℕ → ℕ → List ℕ
 last_digits zero n = []
 last_digits (suc k) n = last_digits k (n / 10) ++ ((48 + n % 10) ∷ [])
@@ -81,7 +81,7 @@ parts-written (Ok u) before middle after first second high low some few below fr
 
 -- ---- room
 
--- so many counts have room on top of a number
+-- this number of counts has room on top of a number
 pub has-room : (before : ℕ) (calls : List Counted) (last : Option ℕ) → before + length calls * 2 ^ 128 < 2 ^ 64 * 10 ^ 38
     → Summed (Some before) calls last → (n : ℕ) × (last ≡ Some n)
 has-room before [] last room sums = (before, sums)

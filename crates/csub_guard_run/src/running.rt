@@ -92,7 +92,7 @@ fn run_over<O: Sink>(
     match run_trace(alloc, &mut machine, interface, trace, out) {
         Ok(()) => match machine.sum() {
             Some(total) => write_count(alloc, total, out),
-            // so many calls as a trace has cannot run more assignments than a counter holds
+            // as many calls as a trace has cannot run more assignments than a counter holds
             None => unreachable!(),
         },
         Err(fault) => Err(fault),

@@ -1,4 +1,4 @@
--- The length of a net's text: at most so many bytes for each gate and each latch, and for each name of the interface twice its length and so many more.
+-- The length of a net's text: at most a number of bytes for each gate and each latch, and for each name of the interface twice its length and a number more.
 use Rattle.std.proofs.Common.{◌≡◌, ℕ, ◌+◌, ◌*◌, ◌^◌, ◌<◌, ◌≤◌, suc, Bool, true, false, List, [], ◌∷◌, ◌++◌, length, map, get_or, Option, Some, None, sym, ap}
 use Rattle.std.proofs.Common.{◌∙◌, subst, arith, length-append, All}
 use Rattle.std.specs.Prelude.{IfSome, codes, decimal, flat_map}

@@ -84,9 +84,9 @@ pub(crate) fn cover_present(
     ensures points { OnOk result (points.new.items
         ≡ node_points points.old.items at (Present test.now yes.now no.now)) }
 {
-    let test = moved_test(alloc, portion, test)?;
     let yes = branch(alloc, portion, points, PointKind::Then, at, yes)?;
     let no = branch(alloc, portion, points, PointKind::Else, at, no)?;
+    let test = moved_test(alloc, portion, test)?;
     let span = at;
     let form = FlatForm::Present(test, yes, no);
     Ok(FlatStmt { span, form })
@@ -175,8 +175,8 @@ pub(crate) fn cover_every(
         ≡ node_covered portion points.old.items at (Every delay.now body.now)) }
     ensures points { OnOk result (points.new.items ≡ node_points points.old.items at (Every delay.now body.now)) }
 {
-    let delay = moved_delay(alloc, portion, delay)?;
     let body = inside(alloc, portion, points, body)?;
+    let delay = moved_delay(alloc, portion, delay)?;
     let span = at;
     let form = FlatForm::Every(delay, body);
     Ok(FlatStmt { span, form })
@@ -224,8 +224,8 @@ pub(crate) fn cover_abort(
         ≡ node_points points.old.items at (Abort body.now delay.now rest.now)) }
 {
     let body = inside(alloc, portion, points, body)?;
-    let delay = moved_delay(alloc, portion, delay)?;
     let rest = handler(alloc, portion, points, PointKind::Do, rest)?;
+    let delay = moved_delay(alloc, portion, delay)?;
     let span = at;
     let form = FlatForm::Abort(body, delay, rest);
     Ok(FlatStmt { span, form })

@@ -151,8 +151,8 @@ fn repeat(
     Ok(())
 }
 
-// In how many passes the nodes of a component with so many cuts are known, if every second pass has the order of the
-// cuts.
+// In how many passes the nodes of a component with this number of cuts are known, if every second pass has the order
+// of the cuts.
 fn passes_for(cuts: usize) -> usize {
     cuts.saturating_mul(2).max(1)
 }

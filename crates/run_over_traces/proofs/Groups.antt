@@ -61,7 +61,7 @@ wide-name wide inputs instant stage event name h =
     (one-of wide (has_resets inputs && is_same_name reset_name name) _ _ h
     (wide-input wide instant event name (position (is_same_name name) inputs) h))
 
--- a group that ends between these places, and whose event has so many values
+-- a group that ends between these places, and whose event has this number of values
 abbrev pub Fits : ℕ → ℕ → ℕ → TraceGroup → Type 0
 Fits low high wide End = Unit {0}
 Fits low high wide (Reset behind) = (low < behind) × (behind ≤ high)

@@ -1,19 +1,12 @@
 // A command over files and sinks in memory.
 
-ghost use Rattle.std.specs.Prelude.{◌≤◌, length};
-
 use crate::blocks::{Block, numbers_behind};
+use crate::forms::{form_of, text_of};
 use base_types::{
-    FileEntry, Limits, ListSink, MapFiles, NoMemory, SteadyFiles, SteadySink, Stop, Text,
-    write_pieces,
+    FileEntry, ListSink, MapFiles, NoMemory, SteadyFiles, SteadySink, Text, write_pieces,
 };
-use cec_commands::{
-    Refusal, blif_of, c_of, cec, cec_steadily, encoded_blif_of, guarded_c_of, verilog_of,
-};
+use cec_commands::{cec, cec_steadily};
 use cec_opt_commands::{cec_opt, cec_opt_steadily};
-use cec_opt_sources::{small_blif_of, small_c_of, small_verilog_of};
-use cec_opt_texts::{OptFault, optimized_blif, optimized_c, optimized_verilog};
-use grc_order::First;
 use std::alloc::Global;
 
 // The room of the sinks for what a command writes, and for the line of its outcome.
@@ -28,6 +21,21 @@ enum Program {
     CecOpt,
     // The library calls that give small texts of sources; no program of the repository.
     Small,
+}
+
+// What a block gives to its program.
+#[derive(Drop)]
+struct Given {
+    program: Program,
+    words: Vec<String>,
+    entries: Vec<FileEntry>,
+}
+
+// What a command writes to.
+#[derive(Drop)]
+struct Sinks {
+    out: ListSink,
+    err: ListSink,
 }
 
 // The status of a library call that refuses the source.
@@ -47,54 +55,65 @@ pub(crate) fn command_ended(
     block: Block<'_>,
     before: &[u8],
 ) -> Result<Ended, NoMemory> {
-    let mut ended = not_begun(alloc, block.settings)?;
-    let mut files = files_of(alloc, block, before)?;
-    let (program, words) = asked_of(alloc, block.words)?;
-    let (out, err) = (&mut ended.out, &mut ended.err);
-    ended.status = match program {
-        Program::Cec => cec(alloc, &words, &mut files, out, err).number(),
-        Program::CecOpt => cec_opt(alloc, &words, &mut files, out, err).number(),
-        Program::Small => small_written(alloc, block, out),
+    let given = given_by(alloc, block, before);
+    let failing = numbers_behind(alloc, block.settings, "files fail at");
+    match (given, sinks_of(alloc, block.settings), failing) {
+        (Ok(given), Ok(sinks), Ok(failing)) => Ok(end_of(alloc, block, given, sinks, failing)),
+        _ => Err(NoMemory),
+    }
+}
+
+fn end_of(alloc: Global, block: Block<'_>, given: Given, sinks: Sinks, failing: Vec<u64>) -> Ended {
+    let Sinks { mut out, mut err } = sinks;
+    let Given {
+        program,
+        words,
+        entries,
+    } = given;
+    let mut files = MapFiles::new(entries, failing);
+    let status = match program {
+        Program::Cec => cec(alloc, &words, &mut files, &mut out, &mut err).number(),
+        Program::CecOpt => cec_opt(alloc, &words, &mut files, &mut out, &mut err).number(),
+        Program::Small => small_written(alloc, block, &mut out),
     };
-    Ok(ended)
+    Ended { status, out, err }
 }
 
 // Writes the small text of a source in the form that the words ask for, and gives the status.
 fn small_written(alloc: Global, block: Block<'_>, out: &mut ListSink) -> u8 {
-    if block.source.len() as u64 > Limits::SOURCE_BYTES {
+    let Some(form) = form_of(block.words.trim()) else {
         return REFUSED;
-    }
-    match small_text(alloc, block.words, block.source) {
-        Ok(text) => {
+    };
+    match text_of(alloc, form, block.source) {
+        Some(text) => {
             let _ = write_pieces(out, &[&text]);
             0
         }
-        Err(_) => REFUSED,
+        None => REFUSED,
     }
 }
 
-// The small text of a source in the form that the words ask for.
-fn small_text(alloc: Global, words: &str, source: &[u8]) -> Result<Vec<u8>, Refusal>
-    requires { length source.now ≤ Limits.SOURCE_BYTES }
-{
-    if words.ends_with("blif m") {
-        small_blif_of(alloc, source, None, &mut First)
-    } else if words.ends_with("verilog m") {
-        small_verilog_of(alloc, source, None, &mut First)
-    } else {
-        small_c_of(alloc, source, None, &mut First)
+fn given_by(alloc: Global, block: Block<'_>, before: &[u8]) -> Result<Given, NoMemory> {
+    let (program, rest) = asked_of(block.words);
+    match (words_of(alloc, rest), entries_of(alloc, block, before)) {
+        (Ok(words), Ok(entries)) => Ok(Given {
+            program,
+            words,
+            entries,
+        }),
+        _ => Err(NoMemory),
     }
 }
 
 // The program that a line of words calls, and the words after its name; those of `cec` have no name before them.
-fn asked_of(alloc: Global, line: &str) -> Result<(Program, Vec<String>), NoMemory> {
+fn asked_of(line: &str) -> (Program, &str) {
     if let Some((_, rest)) = line.split_once("cec-opt") {
-        return Ok((Program::CecOpt, words_of(alloc, rest)?));
+        return (Program::CecOpt, rest);
     }
-    if let Some((_, rest)) = line.split_once("small ") {
-        return Ok((Program::Small, words_of(alloc, rest)?));
+    match line.split_once("small ") {
+        Some((_, rest)) => (Program::Small, rest),
+        None => (Program::Cec, line),
     }
-    Ok((Program::Cec, words_of(alloc, line)?))
 }
 
 /// Whether `cec_steadily`, or `cec_opt_steadily`, is done with a block's command and writes these bytes.
@@ -103,82 +122,42 @@ pub(crate) fn is_done_steadily(
     block: Block<'_>,
     before: &[u8],
     written: &[u8],
-) -> Result<bool, NoMemory> {
-    let (program, words) = asked_of(alloc, block.words)?;
-    let mut files = SteadyFiles::new(entries_of(alloc, block, before)?);
-    let mut out = SteadySink::new(alloc, OUT_ROOM)?;
-    let mut err = sink(alloc, ERR_ROOM, "", "none")?;
+) -> bool {
+    let out = SteadySink::new(alloc, OUT_ROOM);
+    match (given_by(alloc, block, before), out, sinks_of(alloc, "")) {
+        (Ok(given), Ok(out), Ok(sinks)) => is_same_steadily(alloc, given, out, sinks.err, written),
+        _ => false,
+    }
+}
+
+fn is_same_steadily(
+    alloc: Global,
+    given: Given,
+    mut out: SteadySink,
+    mut err: ListSink,
+    written: &[u8],
+) -> bool {
+    let Given {
+        program,
+        words,
+        entries,
+    } = given;
+    let mut files = SteadyFiles::new(entries);
     let status = match program {
         Program::Cec => cec_steadily(alloc, &words, &mut files, &mut out, &mut err).number(),
-        Program::CecOpt => {
-            cec_opt_steadily(alloc, &words, &mut files, &mut out, &mut err).number()
-        }
-        Program::Small => return Ok(true),
+        Program::CecOpt => cec_opt_steadily(alloc, &words, &mut files, &mut out, &mut err).number(),
+        Program::Small => return true,
     };
-    Ok(status == 0 && out.bytes() == written && err.bytes().is_empty())
+    status == 0 && out.bytes() == written && err.bytes().is_empty()
 }
 
-/// Whether a BLIF text has this optimized one, in the form that the words ask for, by the call that gives it whole.
-pub(crate) fn is_optimized_text(alloc: Global, words: &str, text: &[u8], written: &[u8]) -> bool {
-    if text.len() as u64 > Limits::TEXT_BYTES {
-        return false;
+// Sinks that have nothing.
+fn sinks_of(alloc: Global, settings: &str) -> Result<Sinks, NoMemory> {
+    let out = sink(alloc, OUT_ROOM, settings, "out fails at");
+    match (out, sink(alloc, ERR_ROOM, settings, "err fails at")) {
+        (Ok(out), Ok(err)) => Ok(Sinks { out, err }),
+        _ => Err(NoMemory),
     }
-    match optimized_text(alloc, words, text) {
-        Ok(small) => small.as_slice() == written,
-        Err(_) => false,
-    }
-}
-
-// The optimized text of a BLIF text in the form that the words ask for.
-fn optimized_text(alloc: Global, words: &str, text: &[u8]) -> Result<Vec<u8>, Stop<OptFault>>
-    requires { length text.now ≤ Limits.TEXT_BYTES }
-{
-    if words.ends_with("blif m") {
-        optimized_blif(alloc, text)
-    } else if words.ends_with("verilog m") {
-        optimized_verilog(alloc, text)
-    } else {
-        optimized_c(alloc, text)
-    }
-}
-
-/// Whether a source has this text, in the form that the words ask for, by the call that gives the text as a whole.
-pub(crate) fn is_text_of(alloc: Global, words: &str, source: &[u8], written: &[u8]) -> bool {
-    if source.len() as u64 > Limits::SOURCE_BYTES {
-        return false;
-    }
-    match text_of(alloc, words, source) {
-        Ok(text) => text.as_slice() == written,
-        Err(_) => false,
-    }
-}
-
-// The text of a source in the form that the words ask for.
-fn text_of(alloc: Global, words: &str, source: &[u8]) -> Result<Vec<u8>, Refusal>
-    requires { length source.now ≤ Limits.SOURCE_BYTES }
-{
-    if words.starts_with("blif --encode") {
-        encoded_blif_of(alloc, source, None, &mut First)
-    } else if words.starts_with("blif") {
-        blif_of(alloc, source, None, &mut First)
-    } else if words.starts_with("verilog") {
-        verilog_of(alloc, source, None, &mut First)
-    } else if words.starts_with("c --guard") {
-        guarded_c_of(alloc, source, None, &mut First)
-    } else {
-        c_of(alloc, source, None, &mut First)
-    }
-}
-
-// Before a command: sinks that have nothing.
-fn not_begun(alloc: Global, settings: &str) -> Result<Ended, NoMemory> {
-    let out = sink(alloc, OUT_ROOM, settings, "out fails at")?;
-    let err = sink(alloc, ERR_ROOM, settings, "err fails at")?;
-    Ok(Ended {
-        status: 0,
-        out,
-        err,
-    })
 }
 
 /// A sink with room for this many bytes, which fails at the calls whose numbers come after the mark.
@@ -199,29 +178,21 @@ fn words_of(alloc: Global, line: &str) -> Result<Vec<String>, NoMemory> {
     Ok(words)
 }
 
-fn files_of(alloc: Global, block: Block<'_>, before: &[u8]) -> Result<MapFiles, NoMemory> {
-    let failing = numbers_behind(alloc, block.settings, "files fail at")?;
-    Ok(MapFiles::new(entries_of(alloc, block, before)?, failing))
-}
-
 fn entries_of(alloc: Global, block: Block<'_>, before: &[u8]) -> Result<Vec<FileEntry>, NoMemory> {
     let mut entries = Vec::new(alloc);
-    push_file(alloc, &mut entries, "m", block.source)?;
-    push_file(alloc, &mut entries, "o", before)?;
+    for (name, bytes) in [("m", block.source), ("o", before)] {
+        entries.push(entry(alloc, name, bytes)?)?;
+    }
     if let Some(trace) = block.trace {
-        push_file(alloc, &mut entries, "t", trace.as_bytes())?;
+        entries.push(entry(alloc, "t", trace.as_bytes())?)?;
     }
     Ok(entries)
 }
 
-fn push_file(
-    alloc: Global,
-    entries: &mut Vec<FileEntry>,
-    name: &str,
-    bytes: &[u8],
-) -> Result<(), NoMemory> {
-    let name = Text::from_bytes(alloc, name.as_bytes())?;
-    let bytes = Text::from_bytes(alloc, bytes)?;
-    entries.push(FileEntry { name, bytes })?;
-    Ok(())
+fn entry(alloc: Global, name: &str, bytes: &[u8]) -> Result<FileEntry, NoMemory> {
+    let name = Text::from_bytes(alloc, name.as_bytes());
+    match (name, Text::from_bytes(alloc, bytes)) {
+        (Ok(name), Ok(bytes)) => Ok(FileEntry { name, bytes }),
+        _ => Err(NoMemory),
+    }
 }

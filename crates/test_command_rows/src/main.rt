@@ -35,24 +35,33 @@
 mod answers;
 mod blocks;
 mod calls;
+mod forms;
 
-use answers::answer_all;
-use base_types::WriterSink;
+use answers::put_answers;
+use base_types::{WriterSink, write_text};
 use std::io;
 use std::process::ExitCode;
+use test_page::Page;
 
-// The statuses where the blocks are not to be had, and where not every one is answered.
+// The statuses where the blocks are not to be had, where memory is wanting, and where the answers are not taken.
 const NO_BLOCKS: u8 = 1;
 
-const NO_ANSWER: u8 = 2;
+const NO_MEMORY: u8 = 2;
+
+const NOT_WRITTEN: u8 = 3;
 
 fn main(rt: HostRuntime) -> ExitCode {
     let Ok(text) = io::read_to_string(rt.alloc(), rt.stdin()) else {
         return ExitCode::from(NO_BLOCKS);
     };
+    let mut page = Page::new(rt.alloc());
+    put_answers(rt.alloc(), &mut page, text.as_str());
+    if !page.is_whole {
+        return ExitCode::from(NO_MEMORY);
+    }
     let mut out = WriterSink::new(rt.stdout());
-    match answer_all(rt.alloc(), text.as_str(), &mut out) {
+    match write_text(&mut out, &page.bytes) {
         Ok(()) => ExitCode::from(0),
-        Err(_) => ExitCode::from(NO_ANSWER),
+        Err(_) => ExitCode::from(NOT_WRITTEN),
     }
 }

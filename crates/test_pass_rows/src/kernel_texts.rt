@@ -1,68 +1,77 @@
 // Kernel statements as texts in prefix form.
 
 use est_kernel::{Kernel, Test};
-use std::alloc::AllocError;
+use test_page::Page;
 
 /// A statement.
-pub(crate) fn write_statement(text: &mut String, body: &Kernel) -> Result<(), AllocError> {
+pub(crate) fn put_statement(page: &mut Page, body: &Kernel) {
     match body {
-        Kernel::Nothing => write!(text, "N"),
-        Kernel::Pause => write!(text, "P"),
-        Kernel::Emit(signal) => write!(text, "E{}.", signal.0),
-        Kernel::Exit(code) => write!(text, "X{code}."),
+        Kernel::Nothing => page.put(b"N"),
+        Kernel::Pause => page.put(b"P"),
+        Kernel::Emit(signal) => put_mark(page, b"E", signal.0 as usize),
+        Kernel::Exit(code) => put_mark(page, b"X", *code as usize),
         Kernel::Present(test, yes, no) => {
-            write!(text, "?")?;
-            write_test(text, test)?;
-            write_statement(text, yes)?;
-            write_statement(text, no)
+            put_under_test(page, b"?", test);
+            put_statement(page, yes);
+            put_statement(page, no);
         }
         Kernel::Suspend(test, part) => {
-            write!(text, "U")?;
-            write_test(text, test)?;
-            write_statement(text, part)
+            put_under_test(page, b"U", test);
+            put_statement(page, part);
         }
         Kernel::Seq(first, second) => {
-            write!(text, ";")?;
-            write_statement(text, first)?;
-            write_statement(text, second)
+            page.put(b";");
+            put_statement(page, first);
+            put_statement(page, second);
         }
         Kernel::Loop(at, part) => {
-            write!(text, "L{}.", at.start)?;
-            write_statement(text, part)
+            put_mark(page, b"L", at.start as usize);
+            put_statement(page, part);
         }
         Kernel::Par(left, right) => {
-            write!(text, "|")?;
-            write_statement(text, left)?;
-            write_statement(text, right)
+            page.put(b"|");
+            put_statement(page, left);
+            put_statement(page, right);
         }
         Kernel::Trap(part) => {
-            write!(text, "T")?;
-            write_statement(text, part)
+            page.put(b"T");
+            put_statement(page, part);
         }
         Kernel::Local(signal, part) => {
-            write!(text, "G{}.", signal.0)?;
-            write_statement(text, part)
+            put_mark(page, b"G", signal.0 as usize);
+            put_statement(page, part);
         }
     }
 }
 
-fn write_test(text: &mut String, test: &Test) -> Result<(), AllocError> {
+// A mark, a number, and a point.
+fn put_mark(page: &mut Page, mark: &[u8], number: usize) {
+    page.put_number(mark, number);
+    page.put(b".");
+}
+
+fn put_under_test(page: &mut Page, mark: &[u8], test: &Test) {
+    page.put(mark);
+    put_test(page, test);
+}
+
+fn put_test(page: &mut Page, test: &Test) {
     match test {
-        Test::Tick => write!(text, "t"),
-        Test::Sig(signal) => write!(text, "s{}.", signal.0),
+        Test::Tick => page.put(b"t"),
+        Test::Sig(signal) => put_mark(page, b"s", signal.0 as usize),
         Test::Not(part) => {
-            write!(text, "!")?;
-            write_test(text, part)
+            page.put(b"!");
+            put_test(page, part);
         }
         Test::And(left, right) => {
-            write!(text, "&")?;
-            write_test(text, left)?;
-            write_test(text, right)
+            page.put(b"&");
+            put_test(page, left);
+            put_test(page, right);
         }
         Test::Or(left, right) => {
-            write!(text, "/")?;
-            write_test(text, left)?;
-            write_test(text, right)
+            page.put(b"/");
+            put_test(page, left);
+            put_test(page, right);
         }
     }
 }

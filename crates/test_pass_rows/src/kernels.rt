@@ -2,107 +2,95 @@
 
 ghost use Rattle.std.specs.Prelude.{◌≤◌, length};
 
-use crate::kernel_texts::write_statement;
-use crate::sets::write_set;
-use base_types::{CodeSet, Limits, NoMemory, SteadySink};
-use est_front::{Fault, SourceRefusal, Subject, analyse, front, put_fault};
+use crate::kernel_texts::put_statement;
+use crate::sets::put_codes;
+use base_types::{CodeSet, Limits, SteadySink};
+use est_front::{Fault, Quantity, SourceRefusal, Subject, analyse, front, put_fault};
 use est_kernel::{KernelProgram, height, size};
 use std::alloc::Global;
-use std::str;
+use test_page::Page;
 
-/// The numbers of signals and nodes, the height, and the body of a copy of a source's kernel program.
-pub(crate) fn put_kernel(alloc: Global, text: &mut String, source: &[u8]) -> Result<(), NoMemory>
+/// The numbers of signals and nodes of a source's kernel program, its height, and, where it is wanted, the body of a
+/// copy of it.
+pub(crate) fn put_kernel(alloc: Global, page: &mut Page, source: &[u8], wants_body: bool)
     requires { length source.now ≤ Limits.SOURCE_BYTES }
 {
     match front(alloc, source, None) {
-        Ok(program) => put_program(alloc, text, &program),
-        Err(refusal) => put_refused(alloc, text, source, &refusal),
+        Ok(program) => {
+            put_numbers(page, &program);
+            if wants_body {
+                put_body(alloc, page, &program);
+            }
+        }
+        Err(refusal) => put_refusal(alloc, page, source, &refusal),
     }
 }
 
-fn put_program(alloc: Global, text: &mut String, program: &KernelProgram) -> Result<(), NoMemory> {
-    put_numbers(text, program)?;
-    let copy = program.copy(alloc)?;
-    write_statement(text, &copy.body)?;
-    Ok(())
+fn put_numbers(page: &mut Page, program: &KernelProgram) {
+    page.put_number(b"", program.signals.len());
+    page.put_number(b" ", size(&program.body) as usize);
+    page.put_number(b" ", height(&program.body) as usize);
+    page.put(b" ");
 }
 
-fn put_numbers(text: &mut String, program: &KernelProgram) -> Result<(), NoMemory> {
-    write!(
-        text,
-        "{} {} {} ",
-        program.signals.len(),
-        size(&program.body),
-        height(&program.body)
-    )?;
-    Ok(())
-}
-
-/// The numbers alone.
-pub(crate) fn put_size(alloc: Global, text: &mut String, source: &[u8]) -> Result<(), NoMemory>
-    requires { length source.now ≤ Limits.SOURCE_BYTES }
-{
-    match front(alloc, source, None) {
-        Ok(program) => put_numbers(text, &program),
-        Err(refusal) => put_refused(alloc, text, source, &refusal),
+fn put_body(alloc: Global, page: &mut Page, program: &KernelProgram) {
+    match program.body.copy(alloc) {
+        Ok(body) => put_statement(page, &body),
+        Err(_) => page.fail(),
     }
 }
 
-// What is said of a refusal.
-fn put_refused(
-    alloc: Global,
-    text: &mut String,
-    source: &[u8],
-    refusal: &SourceRefusal,
-) -> Result<(), NoMemory>
+// The line about a refusal.
+fn put_refusal(alloc: Global, page: &mut Page, source: &[u8], refusal: &SourceRefusal)
     requires { length source.now ≤ Limits.SOURCE_BYTES }
 {
     match refusal {
-        SourceRefusal::Static(fault) => put_fault_line(alloc, text, source, fault),
-        SourceRefusal::Limit(quantity) => {
-            write!(text, "limit: {:?}", *quantity)?;
-            Ok(())
-        }
-        SourceRefusal::NoMemory => Err(NoMemory),
+        SourceRefusal::Static(fault) => put_fault_line(alloc, page, source, fault),
+        SourceRefusal::Limit(quantity) => put_limit(alloc, page, *quantity),
+        SourceRefusal::NoMemory => page.fail(),
+    }
+}
+
+fn put_limit(alloc: Global, page: &mut Page, quantity: Quantity) {
+    match format!(in alloc; "limit: {quantity:?}") {
+        Ok(line) => page.put(line.as_bytes()),
+        Err(_) => page.fail(),
     }
 }
 
 // The line about a fault.
-fn put_fault_line(
-    alloc: Global,
-    text: &mut String,
-    source: &[u8],
-    fault: &Fault,
-) -> Result<(), NoMemory>
+fn put_fault_line(alloc: Global, page: &mut Page, source: &[u8], fault: &Fault)
     requires { length source.now ≤ Limits.SOURCE_BYTES }
 {
-    let mut line = SteadySink::new(alloc, LINE_ROOM)?;
-    let subject = Subject { main: b"", source };
-    let _ = put_fault(&mut line, subject, fault);
-    text.push_str(str::from_utf8(line.bytes()).unwrap_or("").trim_end())?;
-    Ok(())
+    match SteadySink::new(alloc, LINE_ROOM) {
+        Ok(mut line) => {
+            let subject = Subject { main: b"", source };
+            let _ = put_fault(&mut line, subject, fault);
+            page.put(line.bytes().trim_ascii_end());
+        }
+        Err(_) => page.fail(),
+    }
 }
 
 const LINE_ROOM: u64 = 1_000;
 
 /// The static codes of each statement of a source's kernel body.
-pub(crate) fn put_codes(alloc: Global, text: &mut String, source: &[u8]) -> Result<(), NoMemory>
+pub(crate) fn put_codes_of(alloc: Global, page: &mut Page, source: &[u8])
     requires { length source.now ≤ Limits.SOURCE_BYTES }
 {
     match analyse(alloc, source, None) {
         Ok(analysed) => {
-            put_sets(text, &analysed.codes.started)?;
-            text.push_str("| ")?;
-            put_sets(text, &analysed.codes.resumed)
+            put_sets(page, &analysed.codes.started);
+            page.put(b"| ");
+            put_sets(page, &analysed.codes.resumed);
         }
-        Err(refusal) => put_refused(alloc, text, source, &refusal),
+        Err(refusal) => put_refusal(alloc, page, source, &refusal),
     }
 }
 
-fn put_sets(text: &mut String, sets: &[CodeSet]) -> Result<(), NoMemory> {
+fn put_sets(page: &mut Page, sets: &[CodeSet]) {
     for set in sets {
-        write_set(text, *set)?;
-        text.push_str(" ")?;
+        put_codes(page, *set);
+        page.put(b" ");
     }
-    Ok(())
 }

@@ -1,4 +1,5 @@
-//! Rows of single passes: each line of the standard input is a row, and so is each answer on the standard output.
+//! Rows of single passes and of reactions: each line of the standard input is a row, and so is each answer on the
+//! standard output.
 //!
 //! A row is the word of a kind and a text after one space, in which `~` stands for a line feed:
 //!
@@ -18,14 +19,32 @@
 //!   smaller; `net solves worked BITS`: whether these are the values of the nets of one of them; `net turns NUMBER`:
 //!   whether values that take turns solve a chain of this many negations; `net chain NUMBER`: the bytes of its BLIF
 //!   text, and the number of tables as which that is read back.
+//!
+//! The text of these has an argument in its first line, which may be empty, and a source in the others:
+//!
+//! - `react EVENTS`: the lines of the source's reactions by its graph, from the first instant on. Each event has the
+//!   names of the inputs that are present, and a `;` is between two. An answer says where the netlist does otherwise,
+//!   and where a wire is not found by its name.
+//! - `share`: the numbers of wires, of instances and of shared wires of the source's graph. Then those of equations,
+//!   instances and formulas of the next state of its shared graph, or `-` where the edges between shared wires have a
+//!   closed walk. The last number is that of the wires by which the source is compiled.
+//! - `walk NAME;NAME ..`: how often each of these wires is the least member of a shared wire on the closed walk, and
+//!   how many status wires are.
+//! - `starts NAME`: how many wires of the source's graph have names with this beginning, and how many of its shared
+//!   wires, which have the names of their least members.
+//! - `instances`: the number of live instances of the source's body, or `too many`.
+//!
+//! A line with another word is a comment.
 #![tactic(auto)]
 
 mod kernel_texts;
 mod kernels;
 mod memory;
 mod nets;
+mod reactions;
 mod rows;
 mod sets;
+mod sharing;
 mod tokens;
 mod traces;
 mod trees;
@@ -33,10 +52,11 @@ mod words;
 mod worked_nets;
 
 use base_types::{WriterSink, write_text};
-use rows::answers;
+use rows::put_answers;
 use std::alloc::Global;
 use std::io::{self, Read};
 use std::process::ExitCode;
+use test_page::Page;
 
 // The statuses where the rows are not to be had, where memory is wanting, and where the answers are not taken.
 const NO_ROWS: u8 = 1;
@@ -49,11 +69,13 @@ fn main(rt: HostRuntime) -> ExitCode {
     let Ok(lines) = all_bytes(rt.alloc(), rt.stdin()) else {
         return ExitCode::from(NO_ROWS);
     };
-    let Ok(text) = answers(rt.alloc(), &lines) else {
+    let mut page = Page::new(rt.alloc());
+    put_answers(rt.alloc(), &mut page, &lines);
+    if !page.is_whole {
         return ExitCode::from(NO_MEMORY);
-    };
+    }
     let mut out = WriterSink::new(rt.stdout());
-    match write_text(&mut out, text.as_bytes()) {
+    match write_text(&mut out, &page.bytes) {
         Ok(()) => ExitCode::from(0),
         Err(_) => ExitCode::from(NOT_WRITTEN),
     }

@@ -1,25 +1,39 @@
 // Sets of completion codes.
 
-use base_types::{CodeSet, NoMemory};
-use std::alloc::AllocError;
+use crate::rows::found;
+use base_types::CodeSet;
 use std::str;
+use test_page::Page;
 
-/// What an operation makes of one set or two.
-pub(crate) fn put_set(text: &mut String, rest: &[u8]) -> Result<(), NoMemory> {
-    let mut words = str::from_utf8(rest).unwrap_or("").split_whitespace();
-    let operation = words.next().unwrap_or("");
-    let left = words.next().unwrap_or("");
-    let right = words.next().unwrap_or("");
-    write_set(text, made(operation, set_of(left), right))?;
-    Ok(())
+#[derive(Clone, Copy)]
+enum Operation {
+    Max,
+    Union,
+    Lowered,
+    Without,
 }
 
-fn made(operation: &str, left: CodeSet, right: &str) -> CodeSet {
+const OPERATIONS: [(&str, Operation); 3] = [
+    ("max", Operation::Max),
+    ("union", Operation::Union),
+    ("lowered", Operation::Lowered),
+];
+
+/// What an operation makes of one set or two.
+pub(crate) fn put_set(page: &mut Page, rest: &[u8]) {
+    let mut words = str::from_utf8(rest).unwrap_or("").split_whitespace();
+    let operation = found(&OPERATIONS, words.next().unwrap_or(""), Operation::Without);
+    let left = set_of(words.next().unwrap_or(""));
+    let right = words.next().unwrap_or("");
+    put_codes(page, made(operation, left, right));
+}
+
+fn made(operation: Operation, left: CodeSet, right: &str) -> CodeSet {
     match operation {
-        "max" => left.max_of(set_of(right)),
-        "union" => left.union(set_of(right)),
-        "lowered" => left.lowered(),
-        _ => without_all(left, right),
+        Operation::Max => left.max_of(set_of(right)),
+        Operation::Union => left.union(set_of(right)),
+        Operation::Lowered => left.lowered(),
+        Operation::Without => without_all(left, right),
     }
 }
 
@@ -45,14 +59,15 @@ fn without_all(set: CodeSet, codes: &str) -> CodeSet {
 }
 
 /// The codes that a set has, with a comma between two; `-` where it has none.
-pub(crate) fn write_set(text: &mut String, set: CodeSet) -> Result<(), AllocError> {
-    let mut follows = false;
+pub(crate) fn put_codes(page: &mut Page, set: CodeSet) {
+    let mut mark: &[u8] = b"";
     for code in 0..=255u8 {
         if set.has(code) {
-            text.push_str(if follows { "," } else { "" })?;
-            write!(text, "{code}")?;
-            follows = true;
+            page.put_number(mark, code as usize);
+            mark = b",";
         }
     }
-    text.push_str(if follows { "" } else { "-" })
+    if mark.is_empty() {
+        page.put(b"-");
+    }
 }

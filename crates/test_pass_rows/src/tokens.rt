@@ -3,51 +3,52 @@
 ghost use Rattle.std.specs.Prelude.{◌≤◌, length};
 
 use crate::words::{sign_of, spelling_of};
-use base_types::{Limits, NoMemory};
+use base_types::Limits;
 use est_ast::{Kind, Token};
 use est_lex::{LexError, lex};
-use std::alloc::{AllocError, Global};
-use std::str;
+use std::alloc::Global;
+use test_page::Page;
 
-/// Each token of a text with its place, or the first fault.
-pub(crate) fn put_tokens(alloc: Global, text: &mut String, source: &[u8]) -> Result<(), NoMemory>
+/// The tokens of a text with their places, or the first fault.
+pub(crate) fn put_tokens(alloc: Global, page: &mut Page, source: &[u8])
     requires { length source.now ≤ Limits.SOURCE_BYTES }
 {
     match lex(alloc, source) {
-        Ok(tokens) => put_all(text, &tokens),
-        Err(fault) => put_fault(text, &fault),
+        Ok(tokens) => put_all(page, &tokens),
+        Err(fault) => put_fault(page, &fault),
     }
 }
 
-fn put_all(text: &mut String, tokens: &[Token]) -> Result<(), NoMemory> {
+fn put_all(page: &mut Page, tokens: &[Token]) {
     for token in tokens {
-        write!(text, "{}-{} ", token.span.start, token.span.end)?;
-        put_kind(text, &token.kind)?;
-        text.push_str(" ")?;
+        page.put_number(b"", token.span.start as usize);
+        page.put_number(b"-", token.span.end as usize);
+        page.put(b" ");
+        put_kind(page, &token.kind);
+        page.put(b" ");
     }
-    Ok(())
 }
 
-fn put_kind(text: &mut String, kind: &Kind) -> Result<(), AllocError> {
+fn put_kind(page: &mut Page, kind: &Kind) {
     match kind {
-        Kind::Reserved(word) => text.push_str(spelling_of(*word)),
-        Kind::Mark(mark) => text.push_str(sign_of(*mark)),
-        Kind::Ident(name) => put_name(text, name.bytes()),
-        Kind::Number(value) => write!(text, "number {value}"),
+        Kind::Reserved(word) => page.put(spelling_of(*word).as_bytes()),
+        Kind::Mark(mark) => page.put(sign_of(*mark).as_bytes()),
+        Kind::Ident(name) => {
+            page.put(b"name ");
+            page.put(name.bytes());
+        }
+        Kind::Number(value) => {
+            page.put(b"number ");
+            page.put_long_number(*value);
+        }
     }
 }
 
-fn put_name(text: &mut String, name: &[u8]) -> Result<(), AllocError> {
-    text.push_str("name ")?;
-    text.push_str(str::from_utf8(name).unwrap_or(""))
-}
-
-fn put_fault(text: &mut String, fault: &LexError) -> Result<(), NoMemory> {
+fn put_fault(page: &mut Page, fault: &LexError) {
     match fault {
-        LexError::BadByte(at) => write!(text, "bad byte {at}")?,
-        LexError::OpenComment(at) => write!(text, "open comment {at}")?,
-        LexError::BigNumber(at) => write!(text, "big number {at}")?,
-        LexError::NoMemory => return Err(NoMemory),
+        LexError::BadByte(at) => page.put_number(b"bad byte ", *at as usize),
+        LexError::OpenComment(at) => page.put_number(b"open comment ", *at as usize),
+        LexError::BigNumber(at) => page.put_number(b"big number ", *at as usize),
+        LexError::NoMemory => page.fail(),
     }
-    Ok(())
 }

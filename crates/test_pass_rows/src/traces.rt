@@ -1,57 +1,75 @@
 // A trace of one input, item by item.
 
+ghost use Rattle.std.specs.Prelude.{◌≡◌, ◌∷◌, [], codes, IfOk};
+
 use base_types::{NoMemory, Text};
 use run_trace_io::{Item, TraceError, TraceFault, TraceReader};
 use std::alloc::Global;
-use std::str;
+use test_page::Page;
 
 /// The first four answers of a reader, for the one input A.
-pub(crate) fn put_items(alloc: Global, text: &mut String, trace: &[u8]) -> Result<(), NoMemory> {
+pub(crate) fn put_items(alloc: Global, page: &mut Page, trace: &[u8]) {
+    match (inputs(alloc), Vec::from_slice(alloc, trace)) {
+        (Ok(inputs), Ok(trace)) => {
+            if trace.len() < 100 {
+                put_answers(
+                    page,
+                    TraceReader::new(alloc, trace, inputs, Vec::new(alloc)),
+                );
+            }
+        }
+        _ => page.fail(),
+    }
+}
+
+fn inputs(alloc: Global) -> Result<Vec<Text>, NoMemory>
+    ensures { IfOk result (λ i. i.items ≡ codes "A" ∷ []) }
+{
     let mut inputs = Vec::new(alloc);
     inputs.push(Text::from_bytes(alloc, b"A")?)?;
-    let trace = Vec::from_slice(alloc, trace)?;
-    if trace.len() < 100 && inputs.len() == 1 {
-        let mut reader = TraceReader::new(alloc, trace, inputs, Vec::new(alloc));
-        for _ in 0..4 {
-            put_item(text, &reader.next())?;
+    Ok(inputs)
+}
+
+fn put_answers(page: &mut Page, mut reader: TraceReader) {
+    for _ in 0..4 {
+        put_item(page, &reader.next());
+    }
+}
+
+fn put_item(page: &mut Page, item: &Result<Option<Item>, TraceError>) {
+    match item {
+        Ok(None) => page.put(b"end "),
+        Ok(Some(Item::Reset)) => page.put(b"reset "),
+        Ok(Some(Item::React(event))) => put_bits(page, event.bits()),
+        Err(TraceError::Fault(fault)) => put_fault(page, fault),
+        Err(TraceError::NoMemory) => page.fail(),
+    }
+}
+
+fn put_bits(page: &mut Page, bits: &[bool]) {
+    for bit in bits {
+        page.put(if *bit { "1" } else { "0" }.as_bytes());
+    }
+    page.put(b" ");
+}
+
+fn put_fault(page: &mut Page, fault: &TraceFault) {
+    match fault {
+        TraceFault::BadByte(place) => page.put_number(b"bad byte ", *place as usize),
+        TraceFault::UnknownInput(instant, name) => put_named(page, b"unknown ", *instant, name),
+        TraceFault::Repeated(instant, name) => put_named(page, b"repeated ", *instant, name),
+        TraceFault::BadReset(instant) => page.put_number(b"bad reset ", *instant as usize),
+        TraceFault::OpenInstant(instant) => page.put_number(b"open ", *instant as usize),
+        TraceFault::Breaks(instant, relation) => {
+            page.put_number(b"breaks ", *instant as usize);
+            page.put_number(b" ", *relation as usize);
         }
     }
-    Ok(())
+    page.put(b" ");
 }
 
-fn put_item(text: &mut String, item: &Result<Option<Item>, TraceError>) -> Result<(), NoMemory> {
-    match item {
-        Ok(None) => text.push_str("end ")?,
-        Ok(Some(Item::Reset)) => text.push_str("reset ")?,
-        Ok(Some(Item::React(event))) => put_bits(text, event.bits())?,
-        Err(TraceError::Fault(fault)) => put_fault(text, fault)?,
-        Err(TraceError::NoMemory) => return Err(NoMemory),
-    }
-    Ok(())
-}
-
-fn put_bits(text: &mut String, bits: &[bool]) -> Result<(), NoMemory> {
-    for bit in bits {
-        text.push_str(if *bit { "1" } else { "0" })?;
-    }
-    text.push_str(" ")?;
-    Ok(())
-}
-
-fn put_fault(text: &mut String, fault: &TraceFault) -> Result<(), NoMemory> {
-    match fault {
-        TraceFault::BadByte(place) => write!(text, "bad byte {place} ")?,
-        TraceFault::UnknownInput(instant, name) => put_named(text, "unknown", *instant, name)?,
-        TraceFault::Repeated(instant, name) => put_named(text, "repeated", *instant, name)?,
-        TraceFault::BadReset(instant) => write!(text, "bad reset {instant} ")?,
-        TraceFault::OpenInstant(instant) => write!(text, "open {instant} ")?,
-        TraceFault::Breaks(instant, relation) => write!(text, "breaks {instant} {relation} ")?,
-    }
-    Ok(())
-}
-
-fn put_named(text: &mut String, word: &str, instant: u32, name: &Text) -> Result<(), NoMemory> {
-    let name = str::from_utf8(name.bytes()).unwrap_or("");
-    write!(text, "{word} {instant} {name} ")?;
-    Ok(())
+fn put_named(page: &mut Page, word: &[u8], instant: u32, name: &Text) {
+    page.put_number(word, instant as usize);
+    page.put(b" ");
+    page.put(name.bytes());
 }

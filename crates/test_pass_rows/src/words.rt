@@ -60,8 +60,8 @@ const MARKS: [(&str, Mark); 12] = [
 
 /// The spelling of a reserved word.
 pub(crate) fn spelling_of(word: Reserved) -> &'static str {
-    for (spelling, reserved) in RESERVED {
-        if reserved == word {
+    for (spelling, reserved) in RESERVED.iter() {
+        if *reserved == word {
             return spelling;
         }
     }
@@ -70,8 +70,8 @@ pub(crate) fn spelling_of(word: Reserved) -> &'static str {
 
 /// The spelling of a mark.
 pub(crate) fn sign_of(mark: Mark) -> &'static str {
-    for (sign, other) in MARKS {
-        if other == mark {
+    for (sign, other) in MARKS.iter() {
+        if *other == mark {
             return sign;
         }
     }

@@ -32,7 +32,7 @@ use Rattle.vlog_text.proofs.NetSpelled.{describes-net}
 
 -- ---- the values of all driven names
 
-abbrev all_driven : Netlist → List (List ℕ)
+abbrev pub all_driven : Netlist → List (List ℕ)
 all_driven net = input_words net ++ (state_names net ++ (gate_names net ++ (output_words net ++ paused_name ∷ [])))
 
 driven-net : (net : Netlist) → driven_names (net_module net) ≡ all_driven net
@@ -41,7 +41,7 @@ driven-net net =
     (map-numbered (λ (r : Register). r.name) (net_register net) 0 net.latches)
     ∙ ap (λ l. input_words net ++ (state_names net ++ l)) (targets-are net)
 
-names-differ : (net : Netlist) → IsWritable net → all_differ is_same_name (all_driven net) ≡ true
+pub names-differ : (net : Netlist) → IsWritable net → all_differ is_same_name (all_driven net) ≡ true
 names-differ net is =
     let targets = gate_names net ++ net_outputs net in
     let kept = in-front (λ m. m == 115) (state_names net) targets (differ-states net is) (marks-states net (λ m. m == 115) refl)
@@ -123,7 +123,7 @@ Holds-from_values net latches inputs v l i same =
 -- ---- one instant
 
 -- over all values of the registers and inputs there is an instant
-instant_exists : (net : Netlist) → IsWritable net → (latches inputs : List Bool) → length latches ≡ length net.latches → length inputs ≡ length net.inputs
+pub instant_exists : (net : Netlist) → IsWritable net → (latches inputs : List Bool) → length latches ≡ length net.latches → length inputs ≡ length net.inputs
     → (v : List ℕ → Bool) × IsInstant (net_module net) latches inputs v
 instant_exists net is latches inputs l i =
     let names = all_driven net in
@@ -133,7 +133,7 @@ instant_exists net is latches inputs l i =
     (looked_up names values, instant-from_Holds net is latches inputs (looked_up names values) l i holds)
 
 -- what the registers get
-next_latches-module : (net : Netlist) → IsWritable net → (latches inputs : List Bool) (v : List ℕ → Bool) → Holds net latches inputs v
+pub next_latches-module : (net : Netlist) → IsWritable net → (latches inputs : List Bool) (v : List ℕ → Bool) → Holds net latches inputs v
     → map (λ (r : Register). v r.from) (net_module net).registers ≡ next_latches net (net_values net latches inputs)
 next_latches-module net is latches inputs v holds =
     map-numbered (λ (r : Register). v r.from) (net_register net) 0 net.latches
@@ -142,7 +142,7 @@ next_latches-module net is latches inputs v holds =
     (λ k d h. let n = (get_or net.latches k d).from.0 in sym (value-name net v n (is.is_net.latches_in_range k d h)) ∙ ap (λ w. value_in w n) holds.nets)
 
 -- what is shown
-shown-module : (net : Netlist) (latches inputs : List Bool) (v : List ℕ → Bool) → Holds net latches inputs v
+pub shown-module : (net : Netlist) (latches inputs : List Bool) (v : List ℕ → Bool) → Holds net latches inputs v
     → map v (net_outputs net) ≡ (shown net (net_values net latches inputs)).outputs ++ (shown net (net_values net latches inputs)).paused ∷ []
 shown-module net latches inputs v holds =
     map-append v (output_words net) (paused_name ∷ []) ∙ rw (holds.outputs, holds.paused) refl
@@ -152,7 +152,7 @@ net_names-numbers net = fill_by_all (net_name net) (net_names net) (net_count ne
 
 -- ---- runs
 
-initial-module : (net : Netlist) → initial_registers (net_module net) ≡ initial_latches net
+pub initial-module : (net : Netlist) → initial_registers (net_module net) ≡ initial_latches net
 initial-module net =
     map-numbered (λ (r : Register). r.init) (net_register net) 0 net.latches ∙ numbered-map (λ (x : Latch). x.init) 0 net.latches
 

@@ -1,19 +1,22 @@
 // The command that runs a generated source over drawn events, by its BLIF text and by its C text.
 
-ghost use Rattle.std.specs.Prelude.{◌≡◌, ◌+◌, ◌<◌, ◌≤◌, ◌^◌, length, count_by, Some, None, IfOk, IfErr};
+ghost use Rattle.std.specs.Prelude.{◌≡◌, ◌+◌, ◌<◌, ◌≤◌, ◌^◌, length, map, count_by, Some, None, IfOk, IfErr};
 ghost use Rattle.base_types.specs.SinkChanges.{change};
 ghost use Rattle.est_gen.specs.Sources.{source_text};
-ghost use Rattle.net_ir.specs.Runs.{netlist_of};
+ghost use Rattle.net_ir.specs.Runs.{net_run, netlist_of};
+ghost use Rattle.run_over_traces.specs.Languages.{shown_answer};
 ghost use Rattle.cec_text_io.specs.Contents.{Content};
 ghost use Rattle.cec_commands.specs.Jobs.{Load};
 ghost use Rattle.cec_commands.specs.JobViews.{AreBranches};
 ghost use Rattle.cec_commands.specs.Lines.{GainsErr};
 ghost use Rattle.cec_commands.specs.Loads.{IsSummary, drawn_items, state_behind};
-ghost use Rattle.cec_commands.specs.Loading.{CountsMachine, CountsMore, CountsNet, IsDrawn, counted_text, pause_of};
+ghost use Rattle.cec_commands.specs.Loading.{CountsMachine, CountsMore, CountsNet, IsDrawn, counted_text, pause_count};
+ghost use Rattle.cec_commands.specs.Loading.{pause_of, present_count};
 ghost use Rattle.cec_commands.specs.NetTexts.{TextsFit};
 ghost use Rattle.cec_commands.specs.Outcomes.{OutcomeLeavesText, MakesOn};
 ghost use Rattle.cec_compile.specs.Refusals.{IsRefused};
 
+use crate::answers::text_made;
 use crate::lines::{Subject, report, subject_of_none};
 use crate::outcome::Outcome;
 use crate::writing::write_whole;
@@ -109,10 +112,22 @@ fn summary(alloc: Global, source: &[u8], draw: Draw, instants: u32) -> Result<Ve
     ensures text { IfOk result (λ text. IsSummary source.now draw instants text.items) }
     ensures refuses { IfErr result (IsRefused source.now None) }
 {
-    let compiled = compile(alloc, source, None, &mut First)?;
-    let counts = run_both(alloc, &compiled.net, draw, instants)?;
-    let text = summary_text(alloc, instants, counts)?;
-    Ok(text)
+    match compile(alloc, source, None, &mut First) {
+        Ok(compiled) => text_made(net_summary(alloc, &compiled.net, draw, instants)),
+        Err(refusal) => Err(refusal),
+    }
+}
+
+// The same of a net.
+fn net_summary(alloc: Global, net: &Net, draw: Draw, instants: u32) -> Result<Vec<u8>, NoMemory>
+    requires inputs { length net.now.inputs.items ≡ 8 }
+    requires outputs { length net.now.outputs.items ≡ 8 }
+    requires fits { TextsFit (netlist_of net.now) }
+    ensures { let answers = map shown_answer (net_run (netlist_of net.now) (drawn_items instants draw)) in
+        IfOk result (λ text. text.items ≡ counted_text instants (present_count answers) (pause_count answers)) }
+{
+    let counts = run_both(alloc, net, draw, instants)?;
+    summary_text(alloc, instants, counts)
 }
 
 // The three lines.

@@ -26,9 +26,10 @@ use crate::jobs::{Job, TextTask};
 use crate::lines::report;
 use crate::outcome::{Outcome, Which};
 use crate::targets::Target;
-use base_types::{Draw, Files, Limits, NoMemory, Sink};
+use base_types::{Draw, Files, InputRelation, Limits, NoMemory, Sink};
 use cec_compile::{Limit, Made, Refusal, TextForm};
 use cec_words::Pick;
+use est_kernel::KernelProgram;
 use grc_order::{Drawn, First, Last};
 use run_over_traces::{RunFault, net_interface};
 use std::alloc::Global;
@@ -152,10 +153,17 @@ fn run_made<T: Target, O: Sink>(
         result }
 {
     let Made { program, net } = made;
-    let relations = program.relations;
+    let relations = relations_of(program);
     let interface = match net_interface(alloc, &net, relations) {
         Ok(interface) => interface,
         Err(NoMemory) => return Err(RunFault::NoMemory),
     };
     T::run_made::<O>(alloc, form, &net, text, interface, trace, out)
+}
+
+// The relations of a program, of which nothing else is kept.
+fn relations_of(program: KernelProgram) -> Vec<InputRelation>
+    ensures { result ≡ program.relations }
+{
+    program.relations
 }

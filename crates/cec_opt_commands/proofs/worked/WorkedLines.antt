@@ -1,5 +1,5 @@
 -- Worked depths, counts, lines and statuses, by hand, and what words ask for.
-use Rattle.std.proofs.Common.{◌≡◌, true, [], ◌∷◌, map, None, Some, codes, refl}
+use Rattle.std.proofs.Common.{◌≡◌, ℕ, true, false, List, [], ◌∷◌, map, None, Some, codes, refl}
 use Rattle.std.specs.Fmt.{digits}
 use Rattle.net_ir.specs.declared.netlist.Op.TheVariants.{Const, Copy, Not, And, Or}
 use Rattle.net_ir.specs.Netlists.{Netlist}
@@ -7,17 +7,19 @@ use Rattle.blif_net.specs.declared.fault.CircuitFault.TheVariants.{NoPause, Mode
 use Rattle.base_types.specs.declared.files.reading.FileFault.TheVariants as reading
 use Rattle.cec_compile.specs.declared.refusal.Limit.TheVariants as limits
 use Rattle.cec_compile.specs.declared.refusal.Refusal.TheVariants as refusing
+use Rattle.csub_embed.specs.declared.fault.EmbedFault.TheVariants.{NoName, TypeTaken, Reserved}
+use Rattle.csub_embed.specs.declared.layout.EmbedFile.TheVariants.{Header, Declarations, Definitions}
+use Rattle.csub_embed.specs.declared.layout.EmbedLayout.{EmbedLayout}
 use Rattle.cec_opt_texts.specs.declared.fault.OptFault.TheVariants.{Line, TwoDrivers, NoDriver, Circuit}
 use Rattle.cec_opt_commands.specs.Answers.{counts_line}
 use Rattle.blif_net.specs.Depths.{op_depth, net_depths, greatest, depth_of}
 use Rattle.cec_opt_commands.specs.Lines.{line_of, named, source_subject}
 use Rattle.cec_opt_commands.specs.Statuses.{refusal_outcome, source_unread_outcome, status_of, written_of, written_outcome}
-use Rattle.cec_opt_commands.specs.Words.{Make, Tell, misuse_of, request_by}
+use Rattle.cec_opt_commands.specs.Words.{Do, Make, Tell, Write, Embed, Check, misuse_of, request_by}
 use Rattle.cec_opt_commands.specs.declared.words.Form.TheVariants as forms
-use Rattle.cec_opt_commands.specs.declared.words.Task.TheVariants.{Check, Write}
 use Rattle.cec_opt_commands.specs.declared.words.About.TheVariants.{Commands, Version}
 use Rattle.cec_opt_commands.specs.declared.outcome.OptOutcome.TheVariants.{Done, Usage, FileFault, BadText, TooLong, Refused, WriteFault}
-use Rattle.cec_opt_commands.specs.declared.outcome.OptOutcome.TheVariants.{NoMemory}
+use Rattle.cec_opt_commands.specs.declared.outcome.OptOutcome.TheVariants.{BadComponent, NoMemory}
 use Rattle.cec_text_io.specs.declared.writing.Written.TheVariants as ends
 
 -- ---- depths and counts
@@ -57,7 +59,8 @@ counts = refl
 
 -- ---- lines and statuses
 
-statuses : map status_of (Done ∷ Usage ∷ FileFault ∷ BadText (Line 3) ∷ TooLong ∷ WriteFault ∷ NoMemory ∷ []) ≡ 0 ∷ 2 ∷ 3 ∷ 7 ∷ 8 ∷ 9 ∷ 10 ∷ []
+statuses : map status_of (Done ∷ Usage ∷ FileFault ∷ BadText (Line 3) ∷ BadComponent NoName ∷ TooLong ∷ WriteFault ∷ NoMemory ∷ [])
+    ≡ 0 ∷ 2 ∷ 3 ∷ 7 ∷ 14 ∷ 8 ∷ 9 ∷ 10 ∷ []
 statuses = refl
 
 lines : map (line_of (named (codes "p.blif"))) (Done ∷ Usage ∷ FileFault ∷ TooLong ∷ WriteFault ∷ NoMemory ∷ [])
@@ -73,6 +76,11 @@ lines_of_faults : map (λ fault. line_of (named []) (BadText fault)) (Line 12 �
     ∷ codes "cec-opt: output twice: a\n" ∷ []
 unfolding digits
 lines_of_faults = refl
+
+lines_of_components : map (λ fault. line_of (named []) (BadComponent fault)) (NoName ∷ TypeTaken ∷ Reserved (codes "int") ∷ [])
+    ≡ codes "cec-opt: the name after --embed is not a letter followed by letters, digits and _\n"
+    ∷ codes "cec-opt: the name after --embed, with _t, is a type of the library\n" ∷ codes "cec-opt: a signal is a word of C or C++: int\n" ∷ []
+lines_of_components = refl
 
 endings : map written_of (Done ∷ WriteFault ∷ NoMemory ∷ Usage ∷ FileFault ∷ TooLong ∷ [])
     ≡ Some ends.Done ∷ Some ends.WriteFault ∷ Some ends.NoMemory ∷ None ∷ None ∷ None ∷ []
@@ -103,6 +111,53 @@ sources : map request_by ((codes "check" ∷ codes "--source" ∷ codes "p" ∷ 
     ≡ Some (Make Check (codes "p") None) ∷ Some (Make (Write forms.C) (codes "p") (Some (codes "M")))
     ∷ Some (Make (Write forms.Blif) (codes "p") (Some (codes "M"))) ∷ None ∷ None ∷ None ∷ None ∷ None ∷ None ∷ []
 sources = refl
+
+abbrev plain : EmbedLayout
+plain = record { packed = false; file = Header }
+
+components : map request_by ((codes "c" ∷ codes "--embed" ∷ codes "lift" ∷ codes "p" ∷ [])
+    ∷ (codes "c" ∷ codes "--embed" ∷ codes "9" ∷ codes "--source" ∷ codes "p" ∷ [])
+    ∷ (codes "c" ∷ codes "--embed" ∷ codes "lift" ∷ codes "--main" ∷ codes "M" ∷ codes "--source" ∷ codes "p" ∷ [])
+    ∷ (codes "c" ∷ codes "--embed" ∷ []) ∷ (codes "c" ∷ codes "--embed" ∷ codes "lift" ∷ [])
+    ∷ (codes "c" ∷ codes "--embed" ∷ codes "-l" ∷ codes "p" ∷ []) ∷ (codes "c" ∷ codes "--source" ∷ codes "p" ∷ codes "--embed" ∷ codes "lift" ∷ [])
+    ∷ (codes "c" ∷ codes "--embed" ∷ codes "lift" ∷ codes "--embed" ∷ codes "lift" ∷ []) ∷ (codes "blif" ∷ codes "--embed" ∷ codes "lift" ∷ codes "p" ∷ [])
+    ∷ [])
+    ≡ Some (Do (Embed (codes "lift") plain) (codes "p")) ∷ Some (Make (Embed (codes "9") plain) (codes "p") None)
+    ∷ Some (Make (Embed (codes "lift") plain) (codes "p") (Some (codes "M"))) ∷ None ∷ None ∷ None ∷ None ∷ None ∷ None ∷ []
+components = refl
+
+misuses_of_components : map misuse_of ((codes "c" ∷ codes "--embed" ∷ []) ∷ (codes "c" ∷ codes "--embed" ∷ codes "lift" ∷ [])
+    ∷ (codes "c" ∷ codes "--embed" ∷ codes "-l" ∷ codes "p" ∷ []) ∷ (codes "c" ∷ codes "--embed" ∷ codes "lift" ∷ codes "p" ∷ codes "q" ∷ [])
+    ∷ (codes "c" ∷ codes "--embed" ∷ codes "lift" ∷ codes "--source" ∷ [])
+    ∷ (codes "c" ∷ codes "--source" ∷ codes "p" ∷ codes "--embed" ∷ codes "lift" ∷ [])
+    ∷ (codes "blif" ∷ codes "--embed" ∷ []) ∷ (codes "blif" ∷ codes "--embed" ∷ codes "lift" ∷ codes "p" ∷ []) ∷ [])
+    ≡ codes "no value after --embed" ∷ codes "no file after c" ∷ codes "bad option: --embed" ∷ codes "one word too many: q"
+    ∷ codes "no value after --source" ∷ codes "bad option: --embed" ∷ codes "not a file: --embed" ∷ codes "bad option: --embed" ∷ []
+misuses_of_components = refl
+
+-- the words after `c --embed lift`
+abbrev lift : List (List ℕ) → List (List ℕ)
+lift words = codes "c" ∷ codes "--embed" ∷ codes "lift" ∷ words
+
+layouts : map (λ words. request_by (lift words)) ((codes "--packed" ∷ codes "p" ∷ []) ∷ (codes "--header" ∷ codes "p" ∷ [])
+    ∷ (codes "--declarations" ∷ codes "--packed" ∷ codes "p" ∷ []) ∷ (codes "--packed" ∷ codes "--definitions" ∷ codes "--source" ∷ codes "p" ∷ [])
+    ∷ (codes "--packed" ∷ codes "--packed" ∷ codes "p" ∷ []) ∷ (codes "--header" ∷ codes "--header" ∷ codes "p" ∷ [])
+    ∷ (codes "--declarations" ∷ codes "--definitions" ∷ codes "p" ∷ []) ∷ (codes "--packed" ∷ codes "--header" ∷ codes "--packed" ∷ codes "p" ∷ [])
+    ∷ (codes "--packed" ∷ []) ∷ (codes "p" ∷ codes "--packed" ∷ []) ∷ [])
+    ≡ Some (Do (Embed (codes "lift") (record { packed = true; file = Header })) (codes "p")) ∷ Some (Do (Embed (codes "lift") plain) (codes "p"))
+    ∷ Some (Do (Embed (codes "lift") (record { packed = true; file = Declarations })) (codes "p"))
+    ∷ Some (Make (Embed (codes "lift") (record { packed = true; file = Definitions })) (codes "p") None)
+    ∷ None ∷ None ∷ None ∷ None ∷ None ∷ None ∷ []
+layouts = refl
+
+misuses_of_layouts : map (λ words. misuse_of (lift words)) ((codes "--packed" ∷ []) ∷ (codes "--packed" ∷ codes "--header" ∷ [])
+    ∷ (codes "--packed" ∷ codes "--packed" ∷ codes "p" ∷ []) ∷ (codes "--declarations" ∷ codes "--definitions" ∷ codes "p" ∷ [])
+    ∷ (codes "--packed" ∷ codes "--header" ∷ codes "--packed" ∷ []) ∷ (codes "--header" ∷ codes "--packed" ∷ codes "--packed" ∷ codes "p" ∷ [])
+    ∷ (codes "--packed" ∷ codes "p" ∷ codes "q" ∷ []) ∷ (codes "--packed" ∷ codes "--source" ∷ []) ∷ (codes "p" ∷ codes "--packed" ∷ []) ∷ [])
+    ≡ codes "no file after c" ∷ codes "no file after c" ∷ codes "bad option: --packed" ∷ codes "bad option: --definitions"
+    ∷ codes "not a file: --packed" ∷ codes "bad option: --packed" ∷ codes "one word too many: q" ∷ codes "no value after --source"
+    ∷ codes "one word too many: --packed" ∷ []
+misuses_of_layouts = refl
 
 misuses_of_options : map misuse_of ((codes "c" ∷ codes "--source" ∷ []) ∷ (codes "c" ∷ codes "--main" ∷ codes "M" ∷ [])
     ∷ (codes "c" ∷ codes "--mine" ∷ codes "M" ∷ []) ∷ (codes "c" ∷ codes "--source" ∷ codes "p" ∷ codes "q" ∷ [])

@@ -1,4 +1,4 @@
--- A worked component by hand: its net, its text, its tokens, and what calls on two instances show. And words and tokens.
+-- A worked component by hand: its net, its texts, their tokens, and what calls on two instances show. And words and tokens.
 use Rattle.std.proofs.Common.{◌≡◌, ℕ, Bool, true, false, List, [], ◌∷◌, ◌++◌, map, refl, None, codes}
 use Rattle.base_types.specs.Items.{Item, Event, Reset}
 use Rattle.net_ir.specs.declared.netlist.Op.TheVariants as ops
@@ -6,9 +6,18 @@ use Rattle.net_ir.specs.Netlists.{Netlist}
 use Rattle.csub_embed.specs.Grammar.{component_kinds}
 use Rattle.csub_embed.specs.Machine.{Frame, Call, SeenOf, run_calls, own_seen, own_items}
 use Rattle.csub_embed.specs.Names.{is_reserved, is_type, is_identifier}
-use Rattle.csub_embed.specs.Tokens.{Word, Mark, Bad, kinds}
+use Rattle.csub_embed.specs.Tokens.{Word, Number, Mark, Bad, kinds}
 use Rattle.csub_embed.specs.Trees.{State, Given, Local, Const, Copy, Not, And, Or, Component}
 use Rattle.csub_embed.specs.Written.{body_text, component_text, gate_word, net_component, net_ignored, next_word, state_word}
+use Rattle.csub_embed.specs.declared.layout.EmbedFile.{EmbedFile}
+use Rattle.csub_embed.specs.declared.layout.EmbedFile.TheVariants.{Header, Declarations, Definitions}
+use Rattle.csub_embed.specs.declared.layout.EmbedLayout.{EmbedLayout}
+
+abbrev plain : EmbedFile → EmbedLayout
+plain file = record { packed = false; file = file }
+
+abbrev packed : EmbedFile → EmbedLayout
+packed file = record { packed = true; file = file }
 
 -- the component, where the names of the states, of the gates and of the next values are these
 abbrev two_of : (s0 s1 g0 g1 g2 n0 n1 : List ℕ) → Component
@@ -46,7 +55,7 @@ the-net : net_component two_net
 unfolding two_net
 the-net = refl
 
-the-text : component_text two ≡ codes "#ifndef two_H\n#define two_H\n\n#include <stdbool.h>\n#include <stdint.h>\n\n"
+the-text : component_text (plain Header) two ≡ codes "#ifndef two_H\n#define two_H\n\n#include <stdbool.h>\n#include <stdint.h>\n\n"
     ++ codes "/* two, by cec-opt 0.1.0: cec-opt c --embed. Any number of instances.\n"
     ++ codes " * Reset an instance before its first call of react; react returns whether it is still running. */\n\ntypedef struct {\n"
     ++ codes "    bool state0;\n    bool state1;\n} two_t;\n\ntypedef struct {\n    bool A;\n    bool B;\n} two_inputs_t;\n\n"
@@ -58,8 +67,57 @@ the-text : component_text two ≡ codes "#ifndef two_H\n#define two_H\n\n#includ
     ++ codes "    out->O = g2;\n    self->state0 = next0;\n    self->state1 = next1;\n    return running;\n}\n\n#endif\n"
 the-text = refl
 
-the-tokens : kinds (body_text two) ≡ component_kinds two
+the-tokens : kinds (body_text (plain Header) two) ≡ component_kinds (plain Header) two
 the-tokens = refl
+
+-- one bit for each latch
+abbrev packed-structures : List ℕ
+packed-structures =
+    codes "/* two, by cec-opt 0.1.0: cec-opt c --embed. Any number of instances.\n"
+    ++ codes " * Reset an instance before its first call of react; react returns whether it is still running. */\n\ntypedef struct {\n"
+    ++ codes "    bool state0 : 1;\n    bool state1 : 1;\n} two_t;\n\ntypedef struct {\n    bool A;\n    bool B;\n} two_inputs_t;\n\n"
+    ++ codes "typedef struct {\n    bool O;\n} two_outputs_t;\n\n"
+
+packed-text : component_text (packed Header) two ≡ codes "#ifndef two_H\n#define two_H\n\n#include <stdbool.h>\n#include <stdint.h>\n\n"
+    ++ packed-structures ++ codes "static inline void two_reset(two_t *self)\n{\n"
+    ++ codes "    self->state0 = true;\n    self->state1 = false;\n}\n\n"
+    ++ codes "static inline bool two_react(two_t *self, const two_inputs_t *in, two_outputs_t *out)\n{\n"
+    ++ codes "    const bool g0 = self->state0 || in->A;\n    const bool g1 = !g0;\n    const bool g2 = g1 && in->B;\n"
+    ++ codes "    const bool next0 = g2;\n    const bool next1 = self->state0;\n    const bool running = self->state1;\n"
+    ++ codes "    out->O = g2;\n    self->state0 = next0;\n    self->state1 = next1;\n    return running;\n}\n\n#endif\n"
+packed-text = refl
+
+packed-tokens : kinds (body_text (packed Header) two) ≡ component_kinds (packed Header) two
+packed-tokens = refl
+
+-- in two files
+declarations-text : component_text (packed Declarations) two
+    ≡ codes "#ifndef two_H\n#define two_H\n\n#include <stdbool.h>\n#include <stdint.h>\n\n"
+    ++ codes "#ifdef __cplusplus\nextern \"C\" {\n#endif\n\n" ++ packed-structures
+    ++ codes "void two_reset(two_t *self);\n"
+    ++ codes "bool two_react(two_t *self, const two_inputs_t *in, two_outputs_t *out);\n\n"
+    ++ codes "#ifdef __cplusplus\n}\n#endif\n\n#endif\n"
+declarations-text = refl
+
+declarations-tokens : kinds (body_text (packed Declarations) two) ≡ component_kinds (packed Declarations) two
+declarations-tokens = refl
+
+definitions-text : component_text (packed Definitions) two ≡ codes "#include \"two.h\"\n\n"
+    ++ codes "/* two, by cec-opt 0.1.0: cec-opt c --embed. Any number of instances.\n"
+    ++ codes " * Reset an instance before its first call of react; react returns whether it is still running. */\n\n"
+    ++ codes "void two_reset(two_t *self)\n{\n    self->state0 = true;\n    self->state1 = false;\n}\n\n"
+    ++ codes "bool two_react(two_t *self, const two_inputs_t *in, two_outputs_t *out)\n{\n"
+    ++ codes "    const bool g0 = self->state0 || in->A;\n    const bool g1 = !g0;\n    const bool g2 = g1 && in->B;\n"
+    ++ codes "    const bool next0 = g2;\n    const bool next1 = self->state0;\n    const bool running = self->state1;\n"
+    ++ codes "    out->O = g2;\n    self->state0 = next0;\n    self->state1 = next1;\n    return running;\n}\n"
+definitions-text = refl
+
+definitions-tokens : kinds (body_text (packed Definitions) two) ≡ component_kinds (packed Definitions) two
+definitions-tokens = refl
+
+-- the definitions are the same for both
+same-definitions : component_text (plain Definitions) two ≡ component_text (packed Definitions) two
+same-definitions = refl
 
 -- ---- calls
 
@@ -126,7 +184,7 @@ none-net : net_component none ≡ none_of (gate_word 0)
 unfolding none
 none-net = refl
 
-no-members : body_text (none_of (codes "g0")) ≡ codes "\n/* none, by cec-opt 0.1.0: cec-opt c --embed. Any number of instances.\n"
+no-members : body_text (packed Header) (none_of (codes "g0")) ≡ codes "\n/* none, by cec-opt 0.1.0: cec-opt c --embed. Any number of instances.\n"
     ++ codes " * Reset an instance before its first call of react; react returns whether it is still running. */\n\ntypedef struct {\n"
     ++ codes "    uint8_t unused;\n} none_t;\n\ntypedef struct {\n    bool I;\n} none_inputs_t;\n\ntypedef struct {\n"
     ++ codes "    uint8_t unused;\n} none_outputs_t;\n\nstatic inline void none_reset(none_t *self)\n{\n    (void)self;\n}\n\n"
@@ -134,15 +192,15 @@ no-members : body_text (none_of (codes "g0")) ≡ codes "\n/* none, by cec-opt 0
     ++ codes "    (void)in;\n    (void)out;\n    const bool g0 = false;\n    const bool running = g0;\n    return running;\n}\n"
 no-members = refl
 
-none-tokens : kinds (body_text (none_of (codes "g0"))) ≡ component_kinds (none_of (codes "g0"))
+none-tokens : kinds (body_text (packed Header) (none_of (codes "g0"))) ≡ component_kinds (packed Header) (none_of (codes "g0"))
 none-tokens = refl
 
 -- ---- tokens
 
-spaced : kinds (codes "a->b /* x*y */\n&& !(c_1)||{};=*,")
+spaced : kinds (codes "a->b /* x*y */\n&& !(c_1)||{};=*,:1")
     ≡ Word (codes "a") ∷ Mark (codes "->") ∷ Word (codes "b") ∷ Mark (codes "&&") ∷ Mark (codes "!") ∷ Mark (codes "(") ∷ Word (codes "c_1")
     ∷ Mark (codes ")") ∷ Mark (codes "||") ∷ Mark (codes "{") ∷ Mark (codes "}") ∷ Mark (codes ";") ∷ Mark (codes "=") ∷ Mark (codes "*")
-    ∷ Mark (codes ",") ∷ []
+    ∷ Mark (codes ",") ∷ Mark (codes ":") ∷ Number (codes "1") ∷ []
 spaced = refl
 
 half-arrow : kinds (codes "a- >b") ≡ Word (codes "a") ∷ Bad ∷ []
@@ -157,7 +215,8 @@ half-or = refl
 no-comment : kinds (codes "a /* b") ≡ Word (codes "a") ∷ Bad ∷ []
 no-comment = refl
 
-number : kinds (codes "a 1") ≡ Word (codes "a") ∷ Bad ∷ []
+-- a number is as long as it can be
+number : kinds (codes "a 1 1x_2") ≡ Word (codes "a") ∷ Number (codes "1") ∷ Number (codes "1x_2") ∷ []
 number = refl
 
 -- ---- words

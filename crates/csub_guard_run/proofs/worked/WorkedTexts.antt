@@ -62,7 +62,7 @@ Writes items text = text ≡ 1 ∷ []
 abbrev last : List Item → List ℕ
 last items = 2 ∷ []
 
--- a sink of nothing that gains these bytes, and counts so many faults more
+-- a sink of nothing that gains these bytes, and counts this number of faults more
 abbrev gains : List ℕ → ℕ → SinkChange
 gains bytes faults = record { before = Some []; after = Some bytes; faults_before = 0; faults_now = faults }
 

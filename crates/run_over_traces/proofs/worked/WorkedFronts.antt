@@ -30,7 +30,7 @@ behind_a_reset = (2, refl, none_kept (true ∷ []), (9, refl, (10, refl, none_ke
 abbrev Writes : List Item → List ℕ → Type 0
 Writes items text = text ≡ 1 ∷ []
 
--- a sink of nothing that gains these bytes, and counts so many faults more
+-- a sink of nothing that gains these bytes, and counts this number of faults more
 abbrev gains : List ℕ → ℕ → SinkChange
 gains bytes faults = record { before = Some []; after = Some bytes; faults_before = 0; faults_now = faults }
 

@@ -6,6 +6,12 @@ returns-in-Usage g c = rw (c.in-Usage.is, ← c.as_bytes.ensures.value) c.put_sa
 pub returns-in-FileFault : goal.returns-in-FileFault
 returns-in-FileFault g c = rw (c.in-FileFault.is, ← c.as_bytes-in-FileFault.ensures.value) c.put_said-in-FileFault.ensures
 
+pub returns-in-BadComponent : goal.returns-in-BadComponent
+returns-in-BadComponent g c = rw c.in-BadComponent.is c.put_component_fault.ensures
+
+pub returns-in-BadModule : goal.returns-in-BadModule
+returns-in-BadModule g c = rw c.in-BadModule.is c.put_module_fault.ensures
+
 pub returns-in-TooLong : goal.returns-in-TooLong
 returns-in-TooLong g c = rw c.in-TooLong.is c.put_said-in-TooLong.ensures
 

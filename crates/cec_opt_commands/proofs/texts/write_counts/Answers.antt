@@ -2,7 +2,7 @@ use Rattle.std.proofs.Common.{◌≡◌, ◌∙◌, sym, subst}
 use Rattle.base_types.specs.SinkChanges.{change}
 use Rattle.base_types.proofs.Exports.{appends-nothing}
 use Rattle.cec_opt_commands.specs.Answers.{IsAnswer, TellsText}
-use Rattle.cec_opt_commands.specs.declared.words.Task.TheVariants.{Check}
+use Rattle.cec_opt_commands.specs.Words.{Check}
 use Rattle.cec_opt_commands.proofs.Outcomes.{written_says, written_text, stop_says, stop_leaves}
 use Rattle.cec_opt_commands.proofs.texts.write_counts.Goals as goal
 
@@ -10,7 +10,7 @@ pub returns-in-Ok-clause-says : goal.returns-in-Ok-clause-says
 returns-in-Ok-clause-says g c =
     let tells = c.in-Ok.ensures.lines in
     rw c.from.ensures
-    (written_says c.write_whole.result c.args.text.now (record { short = c.requires; net = tells.net; of_text = tells.of_text }))
+    (written_says Check c.write_whole.result c.args.text.now (record { short = c.requires; net = tells.net; of_text = tells.of_text }))
 
 pub returns-in-Ok-clause-out : goal.returns-in-Ok-clause-out
 returns-in-Ok-clause-out g c =
@@ -20,7 +20,7 @@ returns-in-Ok-clause-out g c =
     (λ written is. subst (TellsText c.args.text.now) (sym (is ∙ c.deref.ensures.value)) c.in-Ok.ensures.lines) c.write_whole.ensures)
 
 pub returns-in-Err-clause-says : goal.returns-in-Err-clause-says
-returns-in-Err-clause-says g c = rw c.from-in-Err.ensures (stop_says c.in-Err.stop c.args.text.now c.requires c.in-Err.ensures.fault)
+returns-in-Err-clause-says g c = rw c.from-in-Err.ensures (stop_says Check c.in-Err.stop c.args.text.now c.requires c.in-Err.ensures.fault)
 
 pub returns-in-Err-clause-out : goal.returns-in-Err-clause-out
 returns-in-Err-clause-out g c =

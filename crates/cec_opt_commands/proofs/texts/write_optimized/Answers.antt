@@ -3,7 +3,7 @@ use Rattle.base_types.proofs.Exports.{appends-nothing}
 use Rattle.net_ir.specs.Runs.{netlist_of}
 use Rattle.cec_opt_commands.specs.Answers.{IsAnswer}
 use Rattle.cec_opt_commands.specs.NetTexts.{IsWritten}
-use Rattle.cec_opt_commands.specs.declared.words.Task.TheVariants.{Write}
+use Rattle.cec_opt_commands.specs.Words.{Write}
 use Rattle.cec_opt_commands.proofs.Answers.{small_answers, text_net}
 use Rattle.cec_opt_commands.proofs.Outcomes.{written_says, written_pieces, stop_says, stop_leaves}
 use Rattle.cec_opt_commands.proofs.texts.write_optimized.Goals as goal
@@ -13,7 +13,8 @@ returns-in-Ok-clause-says g c =
     let text = c.args.text.now in
     let small = c.in-Ok.ensures.small in
     rw c.from.ensures
-    (written_says c.write_net.result text (record { short = c.requires; net = small.small.made; of_text = text_net text (netlist_of c.in-Ok.net) small }))
+    (written_says (Write c.args.form) c.write_net.result text
+    (record { short = c.requires; net = small.small.made; of_text = text_net text (netlist_of c.in-Ok.net) small }))
 
 pub returns-in-Ok-clause-out : goal.returns-in-Ok-clause-out
 returns-in-Ok-clause-out g c =
@@ -25,7 +26,7 @@ returns-in-Ok-clause-out g c =
     (λ written is. small_answers c.args.form text written net c.in-Ok.ensures.small is) c.write_net.ensures)
 
 pub returns-in-Err-clause-says : goal.returns-in-Err-clause-says
-returns-in-Err-clause-says g c = rw c.from-in-Err.ensures (stop_says c.in-Err.stop c.args.text.now c.requires c.in-Err.ensures.fault)
+returns-in-Err-clause-says g c = rw c.from-in-Err.ensures (stop_says (Write c.args.form) c.in-Err.stop c.args.text.now c.requires c.in-Err.ensures.fault)
 
 pub returns-in-Err-clause-out : goal.returns-in-Err-clause-out
 returns-in-Err-clause-out g c =

@@ -4,8 +4,5 @@ use Rattle.cec_opt_embed.proofs.texts.optimized_embedded.Goals as goal
 
 pub returns-clause-keeps : goal.returns-clause-keeps
 returns-clause-keeps c =
-    text-keeps c.args.text.now c.args.name.now c.in_ok-written.written.items (netlist_of c.in_ok-net.net) c.in_ok-net.ensures.small
-    c.in_ok-written.ensures.means
-
-pub returns-clause-small : goal.returns-clause-small
-returns-clause-small c = record { net = netlist_of c.in_ok-net.net; is = c.in_ok-net.ensures.small; spelled = c.in_ok-written.ensures.text }
+    text-keeps c.args.text.now c.args.name.now c.args.layout c.in_ok-written.written.items (netlist_of c.in_ok-net.net) c.in_ok-net.ensures.small
+    c.in_ok-written.ensures.text c.in_ok-written.ensures.means

@@ -63,3 +63,21 @@ returns-in-SecondBadText g c = rw c.in-SecondBadText.is c.put_second_fault.ensur
 
 pub returns-in-SecondTooLong : goal.returns-in-SecondTooLong
 returns-in-SecondTooLong g c = rw c.in-SecondTooLong.is c.put_second_limit.ensures
+
+pub returns-in-NotConstructive : goal.returns-in-NotConstructive
+returns-in-NotConstructive g c = rw c.in-NotConstructive.is c.put_stuck.ensures
+
+pub returns-in-SecondNotConstructive : goal.returns-in-SecondNotConstructive
+returns-in-SecondNotConstructive g c = rw c.in-SecondNotConstructive.is c.put_second_stuck.ensures
+
+pub returns-in-UndecidedCycle : goal.returns-in-UndecidedCycle
+returns-in-UndecidedCycle g c = rw (c.in-UndecidedCycle.is, ← c.deref.ensures.value) c.put_said-in-UndecidedCycle.ensures
+
+pub returns-in-SecondUndecidedCycle : goal.returns-in-SecondUndecidedCycle
+returns-in-SecondUndecidedCycle g c = rw c.in-SecondUndecidedCycle.is c.put_second_cycle.ensures
+
+pub returns-in-TooManyNets : goal.returns-in-TooManyNets
+returns-in-TooManyNets g c = rw (c.in-TooManyNets.is, ← c.deref-in-TooManyNets.ensures.value) c.put_said-in-TooManyNets.ensures
+
+pub returns-in-SecondTooManyNets : goal.returns-in-SecondTooManyNets
+returns-in-SecondTooManyNets g c = rw c.in-SecondTooManyNets.is c.put_second_cycle-in-SecondTooManyNets.ensures

@@ -1,14 +1,11 @@
-use Rattle.std.proofs.Common.{ℕ, List, sym, subst}
+use Rattle.std.proofs.Common.{subst}
 use Rattle.base_types.specs.SinkChanges.{change}
 use Rattle.base_types.proofs.Exports.{appends-nothing}
-use Rattle.cec_text_io.specs.Writings.{LeavesText}
-use Rattle.cec_prove_commands.specs.Answers.{IsAnswer, IsWrittenBy, SaysOfTexts}
-use Rattle.cec_prove_commands.specs.Statuses.{written_of}
+use Rattle.cec_prove_commands.specs.Answers.{IsAnswer}
 use Rattle.cec_prove_commands.specs.declared.answers.Answer.{Answer}
-use Rattle.cec_prove_commands.specs.declared.outcome.ProveOutcome.{ProveOutcome}
-use Rattle.cec_prove_commands.proofs.Answering.{bad_text_says, no_memory_says, second_bad_text_says}
-use Rattle.cec_prove_commands.proofs.Answering.{asked_out, asked_says, compared_out, compared_says, covered_out, covered_says, refusal_leaves}
-use Rattle.cec_prove_commands.proofs.Answering.{refused_says, second_leaves, second_refused_says, surveyed_out, surveyed_says}
+use Rattle.cec_prove_commands.proofs.Answering.{asked_out, asked_says, bad_text_says, compared_out, compared_says, covered_out, covered_says}
+use Rattle.cec_prove_commands.proofs.Answering.{no_memory_says, second_bad_text_says, surveyed_out, surveyed_says}
+use Rattle.cec_prove_commands.proofs.Refused.{refused_out, refused_says, second_refused_out, second_refused_says}
 use Rattle.cec_prove_commands.proofs.writing.answer_outcome.Goals as goal
 
 pub returns-in-Asked-clause-says : goal.returns-in-Asked-clause-says
@@ -60,25 +57,23 @@ returns-in-Compared-clause-out g c = λ task job first second h.
 
 pub returns-in-Refused-clause-says : goal.returns-in-Refused-clause-says
 returns-in-Refused-clause-says g c = λ task job first second h.
-    subst (λ (o : ProveOutcome). SaysOfTexts task o job first second) (sym c.refusal_outcome.ensures)
-    (refused_says c.in-Refused.refusal task job first second (subst (λ (a : Answer). IsAnswer a task job first second) c.in-Refused.is h))
+    refused_says c.in-Refused.refusal (change g.O.Sink.told g.O.Sink.faults c.args.out.now c.refused.new.out) c.refused.result task job first second
+    c.refused.ensures (subst (λ (a : Answer). IsAnswer a task job first second) c.in-Refused.is h)
 
 pub returns-in-Refused-clause-out : goal.returns-in-Refused-clause-out
 returns-in-Refused-clause-out g c = λ task job first second h.
-    let s = change g.O.Sink.told g.O.Sink.faults c.args.out.now c.args.out.now in
-    subst (λ (o : ProveOutcome). LeavesText (IsWrittenBy task o job first second) s (written_of o)) (sym c.refusal_outcome.ensures)
-    (refusal_leaves c.in-Refused.refusal _ s (appends-nothing _ _))
+    refused_out c.in-Refused.refusal (change g.O.Sink.told g.O.Sink.faults c.args.out.now c.refused.new.out) c.refused.result task job first second
+    c.refused.ensures (subst (λ (a : Answer). IsAnswer a task job first second) c.in-Refused.is h)
 
 pub returns-in-SecondRefused-clause-says : goal.returns-in-SecondRefused-clause-says
 returns-in-SecondRefused-clause-says g c = λ task job first second h.
-    subst (λ (o : ProveOutcome). SaysOfTexts task o job first second) (sym c.second_refusal_outcome.ensures)
-    (second_refused_says c.in-SecondRefused.refusal task job first second (subst (λ (a : Answer). IsAnswer a task job first second) c.in-SecondRefused.is h))
+    second_refused_says c.in-SecondRefused.refusal (change g.O.Sink.told g.O.Sink.faults c.args.out.now c.second_refused.new.out) c.second_refused.result
+    task job first second c.second_refused.ensures (subst (λ (a : Answer). IsAnswer a task job first second) c.in-SecondRefused.is h)
 
 pub returns-in-SecondRefused-clause-out : goal.returns-in-SecondRefused-clause-out
 returns-in-SecondRefused-clause-out g c = λ task job first second h.
-    let s = change g.O.Sink.told g.O.Sink.faults c.args.out.now c.args.out.now in
-    subst (λ (o : ProveOutcome). LeavesText (IsWrittenBy task o job first second) s (written_of o)) (sym c.second_refusal_outcome.ensures)
-    (second_leaves c.in-SecondRefused.refusal _ s (appends-nothing _ _))
+    second_refused_out c.in-SecondRefused.refusal (change g.O.Sink.told g.O.Sink.faults c.args.out.now c.second_refused.new.out) c.second_refused.result
+    task job first second c.second_refused.ensures (subst (λ (a : Answer). IsAnswer a task job first second) c.in-SecondRefused.is h)
 
 pub returns-in-BadText-clause-says : goal.returns-in-BadText-clause-says
 returns-in-BadText-clause-says g c = λ task job first second h.

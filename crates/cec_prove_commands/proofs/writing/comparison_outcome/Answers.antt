@@ -1,4 +1,4 @@
-use Rattle.std.proofs.Common.{◌≡◌, sym, subst}
+use Rattle.std.proofs.Common.{◌≡◌, inl, refl, sym, subst}
 use Rattle.std.specs.Prelude.{◌≢◌}
 use Rattle.base_types.specs.SinkChanges.{change}
 use Rattle.base_types.proofs.Exports.{appends-nothing}
@@ -6,12 +6,12 @@ use Rattle.est_kernel.specs.Plain.{given_names, outgoing_names}
 use Rattle.cec_text_io.specs.Writings.{LeavesText}
 use Rattle.cec_prove_sources.specs.Sameness.{AreDifferent, AreSame, SharesInterface}
 use Rattle.cec_prove_texts.specs.Sameness.{AreDifferentDevices, AreSameDevices, SharesNames}
-use Rattle.cec_prove_commands.specs.Outcomes.{ComparisonSays, IsDistinction}
+use Rattle.cec_prove_commands.specs.Outcomes.{ComparisonSays, IsDistinction, IsDistinctionBy}
 use Rattle.cec_prove_commands.specs.Statuses.{written_of}
 use Rattle.cec_prove_commands.specs.TextOutcomes.{IsTextDistinction, TextComparisonSays}
 use Rattle.cec_prove_commands.specs.declared.outcome.ProveOutcome.{ProveOutcome}
 use Rattle.cec_prove_commands.specs.declared.outcome.ProveOutcome.TheVariants.{Refuted}
-use Rattle.cec_prove_commands.proofs.Answering.{as_written, comparison_says, comparison_writes, text_comparison_says, trace_left}
+use Rattle.cec_prove_commands.proofs.Answering.{as_written, comparison_says, comparison_writes, lines_left, text_comparison_says, trace_left}
 use Rattle.cec_prove_commands.proofs.writing.comparison_outcome.Goals as goal
 
 pub returns-in-Same-clause-says : goal.returns-in-Same-clause-says
@@ -58,9 +58,10 @@ pub returns-in-Different-clause-out : goal.returns-in-Different-clause-out
 returns-in-Different-clause-out g c = λ first second job h.
     let trace = c.in-Different.trace.items in
     let s = change g.O.Sink.told g.O.Sink.faults c.args.out.now c.write_whole.new.out in
-    subst (λ (o : ProveOutcome). LeavesText (IsDistinction job first second) s (written_of o)) (sym c.written_outcome.ensures)
-    (trace_left (IsDistinction job first second) _ trace s c.write_whole.result
-    (comparison_says first second job _ _ (λ p q. AreDifferent p q trace) h c.in-Different.is (λ p q is. is))
+    let apart : IsDistinction job first second trace =
+    comparison_says first second job _ _ (λ p q. AreDifferent p q trace) h c.in-Different.is (λ p q is. is) in
+    subst (λ (o : ProveOutcome). LeavesText (IsDistinctionBy o job first second) s (written_of o)) (sym c.written_outcome.ensures)
+    (lines_left Refuted (λ o. IsDistinctionBy o job first second) _ trace s c.write_whole.result refl apart (inl apart)
     c.deref.ensures.value c.write_whole.ensures)
 
 pub returns-in-Same-clause-says_of_texts : goal.returns-in-Same-clause-says_of_texts

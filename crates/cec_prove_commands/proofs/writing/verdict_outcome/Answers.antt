@@ -1,4 +1,4 @@
-use Rattle.std.proofs.Common.{◌≡◌, sym, subst}
+use Rattle.std.proofs.Common.{◌≡◌, inl, refl, sym, subst}
 use Rattle.std.specs.Prelude.{false}
 use Rattle.base_types.specs.SinkChanges.{change}
 use Rattle.base_types.proofs.Exports.{appends-nothing}
@@ -8,12 +8,12 @@ use Rattle.cec_text_io.specs.Writings.{LeavesText}
 use Rattle.cec_prove_sources.specs.Verdicts.{AnswersBroken, AnswersHolds, HasSignals, IsNone}
 use Rattle.cec_prove_sources.specs.declared.questions.Layout.TheVariants.{LinePerInstant}
 use Rattle.cec_prove_texts.specs.Verdicts.{AnswersDeviceBroken, AnswersDeviceHolds, DeviceHasSignals, IsNoOutput}
-use Rattle.cec_prove_commands.specs.Outcomes.{ClaimSays, IsRefutation}
+use Rattle.cec_prove_commands.specs.Outcomes.{ClaimSays, IsClaimTraceBy, IsRefutation}
 use Rattle.cec_prove_commands.specs.Statuses.{written_of}
 use Rattle.cec_prove_commands.specs.TextOutcomes.{IsTextRefutation, TextClaimSays}
 use Rattle.cec_prove_commands.specs.declared.outcome.ProveOutcome.{ProveOutcome}
 use Rattle.cec_prove_commands.specs.declared.outcome.ProveOutcome.TheVariants.{Refuted}
-use Rattle.cec_prove_commands.proofs.Answering.{as_written, claim_writes, text_verdict_says, trace_left, verdict_says}
+use Rattle.cec_prove_commands.proofs.Answering.{as_written, claim_writes, lines_left, text_verdict_says, trace_left, verdict_says}
 use Rattle.cec_prove_commands.proofs.writing.verdict_outcome.Goals as goal
 
 pub returns-in-Holds-clause-says : goal.returns-in-Holds-clause-says
@@ -52,9 +52,9 @@ pub returns-in-Broken-clause-out : goal.returns-in-Broken-clause-out
 returns-in-Broken-clause-out g c = λ q job text h.
     let trace = c.in-Broken.trace.items in
     let s = change g.O.Sink.told g.O.Sink.faults c.args.out.now c.write_whole.new.out in
-    subst (λ (o : ProveOutcome). LeavesText (IsRefutation q job text) s (written_of o)) (sym c.written_outcome.ensures)
-    (trace_left (IsRefutation q job text) _ trace s c.write_whole.result
-    (verdict_says text job q _ _ (λ p. AnswersBroken LinePerInstant p q trace) h c.in-Broken.is (λ p is. is))
+    let broken : IsRefutation q job text trace = verdict_says text job q _ _ (λ p. AnswersBroken LinePerInstant p q trace) h c.in-Broken.is (λ p is. is) in
+    subst (λ (o : ProveOutcome). LeavesText (IsClaimTraceBy q o job text) s (written_of o)) (sym c.written_outcome.ensures)
+    (lines_left Refuted (λ o. IsClaimTraceBy q o job text) _ trace s c.write_whole.result refl broken (inl broken)
     c.deref.ensures.value c.write_whole.ensures)
 
 pub returns-in-Holds-clause-says_of_text : goal.returns-in-Holds-clause-says_of_text

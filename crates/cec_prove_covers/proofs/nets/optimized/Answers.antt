@@ -8,6 +8,6 @@ use Rattle.cec_prove_covers.proofs.nets.optimized.Goals as goal
 pub returns : goal.returns
 returns c = λ flat p made covered. record {
   program = subst (IsCoveredProgram flat) (sym made.program) covered;
-  keeps = subst (NetKeeps (netlist_of c.in_ok-small.small)) (sym made.program)
-      (replaced-keeps (netlist_of c.args.compiled.net) (netlist_of c.in_ok-small.small) p made.formed made.keeps c.in_ok-small.ensures.optimizes);
+  keeps = subst (NetKeeps (netlist_of c.in_ok-net.net)) (sym made.program)
+      (replaced-keeps (netlist_of c.args.compiled.net) (netlist_of c.in_ok-net.net) p made.formed made.keeps c.in_ok-net.ensures.optimizes);
 }

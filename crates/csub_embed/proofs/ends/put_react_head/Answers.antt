@@ -1,15 +1,17 @@
 use Rattle.std.proofs.Common.{◌++◌, ap, ◌∙◌}
-use Rattle.std.specs.Prelude.{flat_map}
+use Rattle.std.specs.Prelude.{codes}
 use Rattle.std.proofs.lemmas.Result.{on_ok_weaker}
-use Rattle.net_ir.specs.Runs.{netlist_of}
-use Rattle.csub_embed.specs.Written.{untouched_line, react_head, ignored_line, net_ignored}
-use Rattle.csub_embed.proofs.Appends.{front-pieces}
+use Rattle.csub_embed.specs.Written.{linkage_text}
+use Rattle.csub_embed.proofs.Appends.{react-pieces}
 use Rattle.csub_embed.proofs.ends.put_react_head.Goals as goal
 
 pub returns : goal.returns
 returns c =
-    let net = netlist_of c.args.net.now in
-    let lines = flat_map ignored_line (net_ignored net) in
-    on_ok_weaker c.put_ignored_lines.result
-    (λ e. e ∙ ap (λ t. t ++ lines) c.in_ok-put_react_front.ensures
-    ∙ front-pieces c.args.text.now.items (untouched_line net.latches) (react_head net.name) lines) c.put_ignored_lines.ensures
+    let n = c.args.name.now in
+    let text = c.args.text.now.items in
+    on_ok_weaker c.put_named-3.result
+    (λ e. e ∙ ap (λ t. t ++ (codes "_inputs_t *in, " ++ (n ++ codes "_outputs_t *out)")))
+    (c.in_ok-put_named-2.ensures ∙ ap (λ t. t ++ (n ++ (codes "_t *self, const " ++ n))) (c.in_ok-put_named.ensures
+    ∙ ap (λ t. t ++ (codes "bool " ++ (n ++ codes "_react("))) (c.in_ok-put.ensures ∙ ap (λ l. text ++ l) c.linkage.ensures)))
+    ∙ react-pieces text (linkage_text c.args.file) (codes "bool ") n (codes "_react") (codes "(") (codes "_t") (codes " *self, const ")
+    (codes "_inputs_t") (codes " *in, ") (codes "_outputs_t") (codes " *out)")) c.put_named-3.ensures

@@ -4,7 +4,7 @@ use Rattle.csub_embed.proofs.NetMeans.{Means-written}
 use Rattle.csub_embed.proofs.parts.EmbedWriterNetText.look_at.Goals as goal
 
 pub returns-clause-whole : goal.returns-clause-whole
-returns-clause-whole c = written-joined (netlist_of c.args.net.now)
+returns-clause-whole g c = written-joined g.L.FixedLayout.layout (netlist_of c.args.net.now)
 
 pub returns-clause-means : goal.returns-clause-means
-returns-clause-means c = Means-written (netlist_of c.args.net.now) c.look_at_wires.ensures
+returns-clause-means g c = Means-written g.L.FixedLayout.layout (netlist_of c.args.net.now) c.look_at_wires.ensures

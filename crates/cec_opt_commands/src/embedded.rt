@@ -1,0 +1,70 @@
+// Embedded C of a text, and of a source.
+
+ghost use Rattle.std.specs.Prelude.{◌≤◌, length, option_map};
+ghost use Rattle.base_types.specs.SinkChanges.{change};
+ghost use Rattle.cec_opt_commands.specs.Answers.{IsAnswer};
+ghost use Rattle.cec_opt_commands.specs.Outcomes.{LeavesAnswer, LeavesSourceAnswer, SaysOf, SourceSays};
+ghost use Rattle.cec_opt_commands.specs.Stopping.{IsEmbedStopOutcome};
+ghost use Rattle.cec_opt_commands.specs.Words.{Embed};
+
+use crate::outcome::OptOutcome;
+use crate::sources::{EFFORT, refused};
+use base_types::{Limits, Sink, Stop};
+use cec_opt_embed::{SourceEmbedFault, embedded_c_of, optimized_embedded};
+use cec_text_io::write_whole;
+use csub_embed::EmbedLayout;
+use grc_order::First;
+use std::alloc::Global;
+
+/// Writes the optimized circuit of a text as embedded C, as a component of this name and in this layout, and says how
+/// it ended.
+pub(crate) fn embed_text<O: Sink>(
+    alloc: Global,
+    component: &[u8],
+    layout: EmbedLayout,
+    text: &[u8],
+    out: &mut O,
+) -> OptOutcome
+    requires { length text.now ≤ Limits.TEXT_BYTES }
+    ensures says { SaysOf (Embed component.now layout) result text.now }
+    ensures out { LeavesAnswer (Embed component.now layout) (IsAnswer (Embed component.now layout) text.now)
+        (change O.told O.faults out.old out.new) result }
+{
+    match optimized_embedded(alloc, text, component, layout) {
+        Ok(written) => OptOutcome::from(write_whole(&written, out)),
+        Err(stop) => OptOutcome::from(stop),
+    }
+}
+
+/// Writes the circuit of a source as embedded C, as a component of this name and in this layout, and says how it
+/// ended.
+pub(crate) fn embed_source<O: Sink>(
+    alloc: Global,
+    component: &[u8],
+    layout: EmbedLayout,
+    source: &[u8],
+    main: Option<&[u8]>,
+    out: &mut O,
+) -> OptOutcome
+    requires { length source.now ≤ Limits.SOURCE_BYTES }
+    ensures says { SourceSays (Embed component.now layout) (option_map (λ m. m.now) main.entry) result source.now }
+    ensures out { LeavesSourceAnswer (Embed component.now layout) source.now (option_map (λ m. m.now) main.entry)
+        (change O.told O.faults out.old out.new) result }
+{
+    match embedded_c_of(alloc, source, main, &mut First, EFFORT, component, layout) {
+        Ok(written) => OptOutcome::from(write_whole(&written, out)),
+        Err(stop) => unembedded(stop, out),
+    }
+}
+
+// The outcome of a source that has no embedded C text under a name. Of one that is not constructive the trace is
+// written.
+fn unembedded<O: Sink>(stop: Stop<SourceEmbedFault>, out: &mut O) -> OptOutcome
+    ensures { IsEmbedStopOutcome stop (change O.told O.faults out.old out.new) result }
+{
+    match stop {
+        Stop::Fault(SourceEmbedFault::Source(refusal)) => refused(refusal, out),
+        Stop::Fault(SourceEmbedFault::Component(fault)) => OptOutcome::BadComponent(fault),
+        Stop::NoMemory => OptOutcome::NoMemory,
+    }
+}

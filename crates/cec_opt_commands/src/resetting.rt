@@ -1,0 +1,67 @@
+// Verilog with a reset of a text, and of a source.
+
+ghost use Rattle.std.specs.Prelude.{◌≤◌, length, option_map};
+ghost use Rattle.base_types.specs.SinkChanges.{change};
+ghost use Rattle.vlog_reset.specs.Views.{options_of};
+ghost use Rattle.cec_opt_commands.specs.Answers.{IsAnswer};
+ghost use Rattle.cec_opt_commands.specs.Outcomes.{LeavesAnswer, LeavesSourceAnswer, SaysOf, SourceSays};
+ghost use Rattle.cec_opt_commands.specs.Stopping.{IsResetStopOutcome};
+ghost use Rattle.cec_opt_commands.specs.Words.{Reset};
+
+use crate::outcome::OptOutcome;
+use crate::sources::{EFFORT, refused};
+use base_types::{Limits, Sink, Stop};
+use cec_opt_reset::{SourceResetFault, optimized_reset, reset_verilog_of};
+use cec_text_io::write_whole;
+use grc_order::First;
+use std::alloc::Global;
+use vlog_reset::ResetOptions;
+
+/// Writes the optimized circuit of a text as Verilog with a reset, and says how it ended.
+pub(crate) fn reset_text<O: Sink>(
+    alloc: Global,
+    options: ResetOptions<'_>,
+    text: &[u8],
+    out: &mut O,
+) -> OptOutcome
+    requires { length text.now ≤ Limits.TEXT_BYTES }
+    ensures says { SaysOf (Reset (options_of options.entry)) result text.now }
+    ensures out { LeavesAnswer (Reset (options_of options.entry)) (IsAnswer (Reset (options_of options.entry)) text.now)
+        (change O.told O.faults out.old out.new) result }
+{
+    match optimized_reset(alloc, text, options) {
+        Ok(written) => OptOutcome::from(write_whole(&written, out)),
+        Err(stop) => OptOutcome::from(stop),
+    }
+}
+
+/// Writes the circuit of a source as Verilog with a reset, and says how it ended.
+pub(crate) fn reset_source<O: Sink>(
+    alloc: Global,
+    options: ResetOptions<'_>,
+    source: &[u8],
+    main: Option<&[u8]>,
+    out: &mut O,
+) -> OptOutcome
+    requires { length source.now ≤ Limits.SOURCE_BYTES }
+    ensures says { SourceSays (Reset (options_of options.entry)) (option_map (λ m. m.now) main.entry) result
+        source.now }
+    ensures out { LeavesSourceAnswer (Reset (options_of options.entry)) source.now (option_map (λ m. m.now) main.entry)
+        (change O.told O.faults out.old out.new) result }
+{
+    match reset_verilog_of(alloc, source, main, &mut First, EFFORT, options) {
+        Ok(written) => OptOutcome::from(write_whole(&written, out)),
+        Err(stop) => unreset(stop, out),
+    }
+}
+
+// The outcome of a source that has no Verilog with a reset. Of one that is not constructive the trace is written.
+fn unreset<O: Sink>(stop: Stop<SourceResetFault>, out: &mut O) -> OptOutcome
+    ensures { IsResetStopOutcome stop (change O.told O.faults out.old out.new) result }
+{
+    match stop {
+        Stop::Fault(SourceResetFault::Source(refusal)) => refused(refusal, out),
+        Stop::Fault(SourceResetFault::Module(fault)) => OptOutcome::BadModule(fault),
+        Stop::NoMemory => OptOutcome::NoMemory,
+    }
+}

@@ -1,0 +1,2 @@
+mod SourceTexts
+mod CircuitTexts

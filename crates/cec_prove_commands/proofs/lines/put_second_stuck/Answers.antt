@@ -1,0 +1,13 @@
+use Rattle.std.proofs.Common.{◌++◌, codes}
+use Rattle.base_types.proofs.Exports.{wrote-behind, stops-early}
+use Rattle.cec_prove_commands.specs.Lines.{stuck_text}
+use Rattle.cec_prove_commands.proofs.lines.put_second_stuck.Goals as goal
+
+pub returns-in-Err : goal.returns-in-Err
+returns-in-Err g c =
+    stops-early _ _ _ _ (codes "cec-prove: " ++ (c.args.subject.other.now ++ codes ": ")) (stuck_text c.args.stuck.now ++ codes "\n") c.in-Err.ensures
+
+pub returns : goal.returns
+returns g c =
+    wrote-behind _ _ _ _ _ _ (codes "cec-prove: " ++ (c.args.subject.other.now ++ codes ": ")) (stuck_text c.args.stuck.now ++ codes "\n") c.put_stuck.result
+    c.in_default.ensures c.put_stuck.ensures

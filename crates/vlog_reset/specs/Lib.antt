@@ -1,0 +1,12 @@
+pub mod Trees
+pub mod Tokens
+pub mod Grammar
+pub mod Names
+pub mod Texts
+pub mod Machine
+pub mod Options
+pub mod Written
+pub mod Faults
+pub mod Views
+pub mod Parts
+pub mod NameChecks
