@@ -16,7 +16,7 @@ use Rattle.est_ast.specs.declared.flat.FlatForm.TheVariants as forms
 use Rattle.est_ast.specs.declared.flat.FlatStmt.{FlatStmt}
 use Rattle.est_ast.specs.FlatTrees as trees
 use Rattle.est_ast.specs.FlatTrees.{At, Expr, Stmt, Part, Missing, Written, stmts, cases}
-use Rattle.est_ast.specs.FlatViews.{flat_case_of, flat_stmt_of}
+use Rattle.est_ast.specs.FlatViews.{flat_case_of, flat_form_of, flat_part_of, flat_stmt_of}
 use Rattle.est_ast.proofs.Exports.{flat_form-Seq, flat_form-Par, flat_form-AwaitCase, flat_form-PresentCase, flat_form-AbortCase}
 use Rattle.est_cover.specs.declared.points.Point.{Point}
 use Rattle.est_cover.specs.declared.points.PointKind.{PointKind}
@@ -249,6 +249,16 @@ covers-PresentCase w before at v q =
     ∙ ap (λ l. At at (trees.PresentCase l (part_covered w kinds.Else at (cases_points at before (cases (map flat_case_of v.items))) q)))
     (choices-covered w at before v.items)
     ∙ ap (λ ps. At at (trees.PresentCase (cases (choices_covered w at before v.items)) (part_covered w kinds.Else at ps q))) (choice-points at before v.items)
+
+-- the whole statement of made parts
+pub covers-present_case : (w : Portion) (before after : List Point) (at : Span) (l : List FlatCase) (v made : Vec FlatCase Global) (q rest : Option (Box FlatStmt Global))
+    → l ≡ v.items → map flat_case_of made.items ≡ choices_covered w at before l → after ≡ choice_points at before l
+    → flat_part_of rest ≡ part_covered w kinds.Else at after q → At at (flat_form_of (forms.PresentCase made rest)) ≡ node_covered w before at (forms.PresentCase v q)
+covers-present_case w before after at l v made q rest is choices points part =
+    ap (At at) (flat_form-PresentCase made rest)
+    ∙ ap (λ m. At at (trees.PresentCase (cases m) (flat_part_of rest))) (choices ∙ ap (choices_covered w at before) is)
+    ∙ ap (λ b. At at (trees.PresentCase (cases (choices_covered w at before v.items)) b))
+    (part ∙ ap (λ ps. part_covered w kinds.Else at ps q) (points ∙ ap (choice_points at before) is)) ∙ sym (covers-PresentCase w before at v q)
 
 pub covers-Loop : (w : Portion) (before : List Point) (at : Span) (p : Box FlatStmt Global) → node_covered w before at (forms.Loop p)
     ≡ At at (trees.Loop (stmt_covered w before p.value))
@@ -512,65 +522,51 @@ pub ruleset part_rows = (empty-in, empty-out)
 
 pub ruleset mark_rows = (mark-in, mark-out, flat_form-Seq)
 
--- all of them
-pub ruleset rows = (
-  points-stmt,
-  points-Nothing,
-  points-Exit,
-  points-Pause,
-  points-Halt,
-  points-Emit,
-  points-Sustain,
-  points-Await,
-  points-AwaitCase,
-  points-Present,
-  points-PresentCase,
-  points-Loop,
-  points-LoopEach,
-  points-Every,
-  points-Repeat,
-  points-Abort,
-  points-AbortCase,
-  points-WeakAbort,
-  points-Suspend,
-  points-Trap,
-  points-Signal,
-  points-Seq,
-  points-Par,
-  points-part_missing,
-  points-part_written,
-  points-rest_missing,
-  points-rest_written,
-  covers-stmt,
-  covers-Nothing,
-  covers-Exit,
-  covers-Pause,
-  covers-Halt,
-  covers-Emit,
-  covers-Sustain,
-  covers-Await,
-  covers-AwaitCase,
-  covers-Present,
-  covers-PresentCase,
-  covers-Loop,
-  covers-LoopEach,
-  covers-Every,
-  covers-Repeat,
-  covers-Abort,
-  covers-AbortCase,
-  covers-WeakAbort,
-  covers-Suspend,
-  covers-Trap,
-  covers-Signal,
-  covers-Seq,
-  covers-Par,
-  covers-part_missing,
-  covers-part_written,
-  covers-rest_missing,
-  covers-rest_written,
-  flat_form-Seq,
-  flat_form-Par,
-  flat_form-AwaitCase,
-  flat_form-PresentCase,
-  flat_form-AbortCase,
-)
+-- the rows of a form, each for the function of that form
+pub ruleset stmt_rows = (points-stmt, covers-stmt)
+
+pub ruleset bare_rows = (points-Nothing, points-Exit, covers-Nothing, covers-Exit)
+
+pub ruleset pause_rows = (points-Pause, covers-Pause)
+
+pub ruleset halt_rows = (points-Halt, covers-Halt)
+
+pub ruleset emit_rows = (points-Emit, covers-Emit)
+
+pub ruleset sustain_rows = (points-Sustain, covers-Sustain)
+
+pub ruleset await_rows = (points-Await, covers-Await)
+
+pub ruleset await_case_rows = (points-AwaitCase, covers-AwaitCase, flat_form-AwaitCase)
+
+pub ruleset present_rows = (points-Present, covers-Present)
+
+pub ruleset present_case_rows = (points-PresentCase, covers-PresentCase, flat_form-PresentCase)
+
+pub ruleset loop_rows = (points-Loop, covers-Loop)
+
+pub ruleset loop_each_rows = (points-LoopEach, covers-LoopEach)
+
+pub ruleset every_rows = (points-Every, covers-Every)
+
+pub ruleset repeat_rows = (points-Repeat, covers-Repeat)
+
+pub ruleset abort_rows = (points-Abort, covers-Abort)
+
+pub ruleset abort_case_rows = (points-AbortCase, covers-AbortCase, flat_form-AbortCase)
+
+pub ruleset weak_abort_rows = (points-WeakAbort, covers-WeakAbort)
+
+pub ruleset suspend_rows = (points-Suspend, covers-Suspend)
+
+pub ruleset trap_rows = (points-Trap, covers-Trap)
+
+pub ruleset signal_rows = (points-Signal, covers-Signal)
+
+pub ruleset seq_rows = (points-Seq, covers-Seq, flat_form-Seq)
+
+pub ruleset par_rows = (points-Par, covers-Par, flat_form-Par)
+
+pub ruleset branch_rows = (points-part_missing, points-part_written, covers-part_missing, covers-part_written)
+
+pub ruleset handler_rows = (points-rest_missing, points-rest_written, covers-rest_missing, covers-rest_written)

@@ -29,7 +29,7 @@ pub(crate) fn start(points: &mut Vec<Point>, kind: PointKind, at: Span) -> Resul
 
 /// The covered statement. The points of the statement come after the others.
 #[cycle(covering)]
-#[tactic(auto, using(crate::proofs::Rows::rows))]
+#[tactic(auto, using(crate::proofs::Rows::stmt_rows))]
 pub(crate) fn cover(
     alloc: Global,
     portion: Portion,
@@ -44,7 +44,7 @@ pub(crate) fn cover(
 
 // That of a statement of this form.
 #[cycle(covering)]
-#[tactic(auto, using(crate::proofs::Rows::rows))]
+#[tactic(auto, using(crate::proofs::Rows::bare_rows))]
 fn cover_form(
     alloc: Global,
     portion: Portion,
@@ -147,7 +147,7 @@ fn begun(
 /// A branch of a test. Where it is not written, it has a point nevertheless.
 #[cycle(covering)]
 #[inline(never)]
-#[tactic(auto, using(crate::proofs::Rows::rows))]
+#[tactic(auto, using(crate::proofs::Rows::branch_rows))]
 pub(crate) fn branch(
     alloc: Global,
     portion: Portion,
@@ -192,7 +192,7 @@ fn empty_branch(
 /// What comes after a wait, an abortion or a trap, where it is written.
 #[cycle(covering)]
 #[inline(never)]
-#[tactic(auto, using(crate::proofs::Rows::rows))]
+#[tactic(auto, using(crate::proofs::Rows::handler_rows))]
 pub(crate) fn handler(
     alloc: Global,
     portion: Portion,

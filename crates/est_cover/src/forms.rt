@@ -21,7 +21,7 @@ use std::alloc::Global;
 /// `await d`, and what comes after it.
 #[cycle(covering)]
 #[inline(never)]
-#[tactic(auto, using(crate::proofs::Rows::rows))]
+#[tactic(auto, using(crate::proofs::Rows::await_rows))]
 pub(crate) fn cover_await(
     alloc: Global,
     portion: Portion,
@@ -46,7 +46,7 @@ pub(crate) fn cover_await(
 /// `await` of cases.
 #[cycle(covering)]
 #[inline(never)]
-#[tactic(auto, using(crate::proofs::Rows::rows))]
+#[tactic(auto, using(crate::proofs::Rows::await_case_rows))]
 pub(crate) fn cover_await_case(
     alloc: Global,
     portion: Portion,
@@ -69,7 +69,7 @@ pub(crate) fn cover_await_case(
 /// `present e`, and its two parts.
 #[cycle(covering)]
 #[inline(never)]
-#[tactic(auto, using(crate::proofs::Rows::rows))]
+#[tactic(auto, using(crate::proofs::Rows::present_rows))]
 pub(crate) fn cover_present(
     alloc: Global,
     portion: Portion,
@@ -95,7 +95,7 @@ pub(crate) fn cover_present(
 /// `present` of cases, and the part after `else`.
 #[cycle(covering)]
 #[inline(never)]
-#[tactic(auto, using(crate::proofs::Rows::rows))]
+#[tactic(auto, using(crate::proofs::Rows::present_case_rows))]
 pub(crate) fn cover_present_case(
     alloc: Global,
     portion: Portion,
@@ -118,7 +118,7 @@ pub(crate) fn cover_present_case(
 /// `loop p end`.
 #[cycle(covering)]
 #[inline(never)]
-#[tactic(auto, using(crate::proofs::Rows::rows))]
+#[tactic(auto, using(crate::proofs::Rows::loop_rows))]
 pub(crate) fn cover_loop(
     alloc: Global,
     portion: Portion,
@@ -139,7 +139,7 @@ pub(crate) fn cover_loop(
 /// `loop p each d`.
 #[cycle(covering)]
 #[inline(never)]
-#[tactic(auto, using(crate::proofs::Rows::rows))]
+#[tactic(auto, using(crate::proofs::Rows::loop_each_rows))]
 pub(crate) fn cover_loop_each(
     alloc: Global,
     portion: Portion,
@@ -162,7 +162,7 @@ pub(crate) fn cover_loop_each(
 /// `every d do p end`.
 #[cycle(covering)]
 #[inline(never)]
-#[tactic(auto, using(crate::proofs::Rows::rows))]
+#[tactic(auto, using(crate::proofs::Rows::every_rows))]
 pub(crate) fn cover_every(
     alloc: Global,
     portion: Portion,
@@ -185,7 +185,7 @@ pub(crate) fn cover_every(
 /// `repeat n times p end`.
 #[cycle(covering)]
 #[inline(never)]
-#[tactic(auto, using(crate::proofs::Rows::rows))]
+#[tactic(auto, using(crate::proofs::Rows::repeat_rows))]
 pub(crate) fn cover_repeat(
     alloc: Global,
     portion: Portion,
@@ -208,7 +208,7 @@ pub(crate) fn cover_repeat(
 /// `abort p when d`, and what comes after it.
 #[cycle(covering)]
 #[inline(never)]
-#[tactic(auto, using(crate::proofs::Rows::rows))]
+#[tactic(auto, using(crate::proofs::Rows::abort_rows))]
 pub(crate) fn cover_abort(
     alloc: Global,
     portion: Portion,
@@ -234,7 +234,7 @@ pub(crate) fn cover_abort(
 /// `abort p when` one of these cases.
 #[cycle(covering)]
 #[inline(never)]
-#[tactic(auto, using(crate::proofs::Rows::rows))]
+#[tactic(auto, using(crate::proofs::Rows::abort_case_rows))]
 pub(crate) fn cover_abort_case(
     alloc: Global,
     portion: Portion,
@@ -257,7 +257,7 @@ pub(crate) fn cover_abort_case(
 /// `weak abort p when d`.
 #[cycle(covering)]
 #[inline(never)]
-#[tactic(auto, using(crate::proofs::Rows::rows))]
+#[tactic(auto, using(crate::proofs::Rows::weak_abort_rows))]
 pub(crate) fn cover_weak_abort(
     alloc: Global,
     portion: Portion,
@@ -280,7 +280,7 @@ pub(crate) fn cover_weak_abort(
 /// `suspend p when d`.
 #[cycle(covering)]
 #[inline(never)]
-#[tactic(auto, using(crate::proofs::Rows::rows))]
+#[tactic(auto, using(crate::proofs::Rows::suspend_rows))]
 pub(crate) fn cover_suspend(
     alloc: Global,
     portion: Portion,
@@ -303,7 +303,7 @@ pub(crate) fn cover_suspend(
 /// `trap T in p`, and its handler.
 #[cycle(covering)]
 #[inline(never)]
-#[tactic(auto, using(crate::proofs::Rows::rows))]
+#[tactic(auto, using(crate::proofs::Rows::trap_rows))]
 pub(crate) fn cover_trap(
     alloc: Global,
     portion: Portion,
@@ -326,7 +326,7 @@ pub(crate) fn cover_trap(
 /// `signal S in p end`.
 #[cycle(covering)]
 #[inline(never)]
-#[tactic(auto, using(crate::proofs::Rows::rows))]
+#[tactic(auto, using(crate::proofs::Rows::signal_rows))]
 pub(crate) fn cover_signal(
     alloc: Global,
     portion: Portion,
@@ -349,7 +349,7 @@ pub(crate) fn cover_signal(
 /// Statements one after another.
 #[cycle(covering)]
 #[inline(never)]
-#[tactic(auto, using(crate::proofs::Rows::rows))]
+#[tactic(auto, using(crate::proofs::Rows::seq_rows))]
 pub(crate) fn cover_seq(
     alloc: Global,
     portion: Portion,
@@ -370,7 +370,7 @@ pub(crate) fn cover_seq(
 /// Statements beside one another.
 #[cycle(covering)]
 #[inline(never)]
-#[tactic(auto, using(crate::proofs::Rows::rows))]
+#[tactic(auto, using(crate::proofs::Rows::par_rows))]
 pub(crate) fn cover_par(
     alloc: Global,
     portion: Portion,

@@ -14,7 +14,7 @@ use est_ast::{FlatForm, FlatStmt};
 use std::alloc::Global;
 
 /// `pause`.
-#[tactic(auto, using(crate::proofs::Rows::rows))]
+#[tactic(auto, using(crate::proofs::Rows::pause_rows))]
 pub(crate) fn cover_pause(
     alloc: Global,
     portion: Portion,
@@ -31,7 +31,7 @@ pub(crate) fn cover_pause(
 }
 
 /// `halt`.
-#[tactic(auto, using(crate::proofs::Rows::rows))]
+#[tactic(auto, using(crate::proofs::Rows::halt_rows))]
 pub(crate) fn cover_halt(
     alloc: Global,
     portion: Portion,
@@ -48,7 +48,7 @@ pub(crate) fn cover_halt(
 }
 
 /// `emit S`.
-#[tactic(auto, using(crate::proofs::Rows::rows))]
+#[tactic(auto, using(crate::proofs::Rows::emit_rows))]
 pub(crate) fn cover_emit(
     alloc: Global,
     portion: Portion,
@@ -66,7 +66,7 @@ pub(crate) fn cover_emit(
 }
 
 /// `sustain S`.
-#[tactic(auto, using(crate::proofs::Rows::rows))]
+#[tactic(auto, using(crate::proofs::Rows::sustain_rows))]
 pub(crate) fn cover_sustain(
     alloc: Global,
     portion: Portion,

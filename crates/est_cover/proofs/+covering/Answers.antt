@@ -1,7 +1,7 @@
 use Rattle.std.proofs.Common.{◌≡◌, ◌+◌, ◌*◌, ◌<◌, map, ap, ◌∙◌, arith}
 use Rattle.std.proofs.lemmas.List.{map-append}
 use Rattle.est_ast.specs.FlatViews.{flat_stmt_of, flat_case_of}
-use Rattle.est_cover.proofs.Rows.{list-step, list-points_step, list-end, list-points_end, choices-step, choice-points_step, choices-end, choice-points_end}
+use Rattle.est_cover.proofs.Rows.{list-step, list-points_step, list-end, list-points_end, choices-step, choice-points_step, choices-end, choice-points_end, covers-present_case}
 use denote.Param.Weighed.{most}
 use Rattle.est_ast.proofs.flat.FlatCase.TheLaws.{the_size as case_size}
 use Rattle.est_ast.proofs.flat.FlatForm.TheLaws.{the_size as form_size}
@@ -34,6 +34,13 @@ covering::case_of-begun-requires t c =
     let x = c.args.case.now in let p = c.in-Some.body in
     let d : 8 * case_size x + 2 ≡ t = c.decreases in
     let f : 8 * the_size p + 1 < t = omega (arith, d, case-falls x p c.in-Some.is) in (f, tt)
+
+-- ---- made parts
+
+pub forms::cover_present_case-returns-clause-covers : goal.forms::cover_present_case-returns-clause-covers
+forms::cover_present_case-returns-clause-covers t c =
+    covers-present_case c.args.portion c.args.points.now.items c.cases_of.new.points.items c.args.at _ c.args.cases.now c.in_ok-cases.cases
+    c.args.no.now c.in_ok-no.no c.as_slice.ensures.value c.in_ok-cases.ensures.covers c.in_ok-cases.ensures.points c.in_ok-no.ensures.covers
 
 -- ---- lists
 
