@@ -3,9 +3,9 @@
 use crate::blocks::{Block, Change, block_of, change_of, changed};
 use crate::calls::{Ended, command_ended, is_done_steadily, sink};
 use crate::forms::{form_of, is_made};
+use crate::page::Page;
 use base_types::ListSink;
 use std::alloc::Global;
-use test_page::Page;
 
 /// Adds the answers to the blocks of a text, one after another.
 pub(crate) fn put_answers(alloc: Global, page: &mut Page, text: &str) {

@@ -19,8 +19,8 @@ const ERR_ROOM: u64 = 4_096;
 enum Program {
     Cec,
     CecOpt,
-    // The library calls that give small texts of sources; no program of the repository.
-    Small,
+    // A library call; no program of the repository.
+    Library,
 }
 
 // What a block gives to its program.
@@ -74,13 +74,13 @@ fn end_of(alloc: Global, block: Block<'_>, given: Given, sinks: Sinks, failing: 
     let status = match program {
         Program::Cec => cec(alloc, &words, &mut files, &mut out, &mut err).number(),
         Program::CecOpt => cec_opt(alloc, &words, &mut files, &mut out, &mut err).number(),
-        Program::Small => small_written(alloc, block, &mut out),
+        Program::Library => call_written(alloc, block, &mut out),
     };
     Ended { status, out, err }
 }
 
-// Writes the small text of a source in the form that the words ask for, and gives the status.
-fn small_written(alloc: Global, block: Block<'_>, out: &mut ListSink) -> u8 {
+// Writes what the call of the words gives, and gives the status.
+fn call_written(alloc: Global, block: Block<'_>, out: &mut ListSink) -> u8 {
     let Some(form) = form_of(block.words.trim()) else {
         return REFUSED;
     };
@@ -110,8 +110,8 @@ fn asked_of(line: &str) -> (Program, &str) {
     if let Some((_, rest)) = line.split_once("cec-opt") {
         return (Program::CecOpt, rest);
     }
-    match line.split_once("small ") {
-        Some((_, rest)) => (Program::Small, rest),
+    match line.split_once("call ") {
+        Some((_, rest)) => (Program::Library, rest),
         None => (Program::Cec, line),
     }
 }
@@ -146,7 +146,7 @@ fn is_same_steadily(
     let status = match program {
         Program::Cec => cec_steadily(alloc, &words, &mut files, &mut out, &mut err).number(),
         Program::CecOpt => cec_opt_steadily(alloc, &words, &mut files, &mut out, &mut err).number(),
-        Program::Small => return true,
+        Program::Library => return true,
     };
     status == 0 && out.bytes() == written && err.bytes().is_empty()
 }

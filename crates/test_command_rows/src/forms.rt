@@ -2,6 +2,7 @@
 
 ghost use Rattle.std.specs.Prelude.{◌≤◌, length};
 
+use crate::passes::{kernel_text, reaction_text};
 use base_types::Limits;
 use cec_commands::{blif_of, c_of, encoded_blif_of, guarded_c_of, verilog_of};
 use cec_opt_sources::{small_blif_of, small_c_of, small_verilog_of};
@@ -23,9 +24,11 @@ pub(crate) enum Form {
     SmallBlif,
     SmallC,
     SmallVerilog,
+    Kernel,
+    Reaction,
 }
 
-const FORMS: [(&str, Form); 11] = [
+const FORMS: [(&str, Form); 13] = [
     ("blif m", Form::Blif),
     ("blif --encode m", Form::EncodedBlif),
     ("c m", Form::C),
@@ -34,9 +37,11 @@ const FORMS: [(&str, Form); 11] = [
     ("cec-opt blif m", Form::OptimizedBlif),
     ("cec-opt c m", Form::OptimizedC),
     ("cec-opt verilog m", Form::OptimizedVerilog),
-    ("small blif m", Form::SmallBlif),
-    ("small c m", Form::SmallC),
-    ("small verilog m", Form::SmallVerilog),
+    ("call small_blif_of m", Form::SmallBlif),
+    ("call small_c_of m", Form::SmallC),
+    ("call small_verilog_of m", Form::SmallVerilog),
+    ("call front m", Form::Kernel),
+    ("call react m", Form::Reaction),
 ];
 
 /// The text that some words ask for, if one call gives it.
@@ -57,7 +62,7 @@ pub(crate) fn is_made(alloc: Global, form: Form, source: &[u8], written: &[u8]) 
     }
 }
 
-/// The text of a source, or the optimized text of a BLIF text; none where it is refused.
+/// The text of a source, or the optimized text of a BLIF text, or what a pass answers; none where it is refused.
 pub(crate) fn text_of(alloc: Global, form: Form, source: &[u8]) -> Option<Vec<u8>> {
     if source.len() as u64 > Limits::SOURCE_BYTES {
         return None;
@@ -74,5 +79,7 @@ pub(crate) fn text_of(alloc: Global, form: Form, source: &[u8]) -> Option<Vec<u8
         Form::SmallBlif => small_blif_of(alloc, source, None, &mut First).ok(),
         Form::SmallC => small_c_of(alloc, source, None, &mut First).ok(),
         Form::SmallVerilog => small_verilog_of(alloc, source, None, &mut First).ok(),
+        Form::Kernel => kernel_text(alloc, source),
+        Form::Reaction => reaction_text(alloc, source),
     }
 }

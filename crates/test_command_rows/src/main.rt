@@ -24,9 +24,12 @@
 //! answer is the number and words, and for each place a line with the place, the status, and the line in `err`.
 //!
 //! The answer to a block is else its number and words, a line with the status and the numbers of bytes, and the
-//! bytes of `out` and `err`. Words after `cec-opt` are those of the optimizer; `small blif m`, `small c m` and
-//! `small verilog m` call `small_blif_of`, `small_c_of` and `small_verilog_of`; all others are words of the
-//! compiler. Where `out` is to fail, the command runs once more without that, and the answer says whether `out` is
+//! bytes of `out` and `err`. Words after `cec-opt` are those of the optimizer. `call NAME m` calls a function that no
+//! command shows: `small_blif_of`, `small_c_of` or `small_verilog_of`; `front`, with the numbers of signals and nodes
+//! of the kernel program and its height; or `react`, with the value of each wire in the first instant, where no input
+//! is present, and the completion code. All others are words of the compiler.
+//!
+//! Where `out` is to fail, the command runs once more without that, and the answer says whether `out` is
 //! a beginning of what it has then. Where it is done, it runs once more by `cec_steadily`, and a text of `blif m`,
 //! `blif --encode m`, `c m`, `c --guard m` or `verilog m` is made once more by `blif_of`, `encoded_blif_of`,
 //! `c_of`, `guarded_c_of` or `verilog_of`: the answer says where those write anything else.
@@ -36,12 +39,14 @@ mod answers;
 mod blocks;
 mod calls;
 mod forms;
+mod page;
+mod passes;
 
 use answers::put_answers;
 use base_types::{WriterSink, write_text};
+use page::Page;
 use std::io;
 use std::process::ExitCode;
-use test_page::Page;
 
 // The statuses where the blocks are not to be had, where memory is wanting, and where the answers are not taken.
 const NO_BLOCKS: u8 = 1;

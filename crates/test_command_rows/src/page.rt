@@ -3,21 +3,20 @@
 ghost use Rattle.std.specs.Prelude.{◌≡◌, ◌++◌, IsTrue, true, false, [], codes, decimal};
 
 use base_types::{put, put_number};
-use itoa::Buffer;
 use std::alloc::Global;
 
 /// A text to which answers are added. A call that adds to it has no error: if it runs out of memory, the page is no
 /// longer whole, and stays so. So a program looks at that once, at its end, and a row has no early return, whose proof
 /// costs most.
 #[derive(Drop)]
-pub struct Page {
+pub(crate) struct Page {
     pub bytes: Vec<u8>,
     pub is_whole: bool,
 }
 
 impl Page {
     /// A page with no answers.
-    pub fn new(alloc: Global) -> Page
+    pub(crate) fn new(alloc: Global) -> Page
         ensures empty { result.bytes.items ≡ [] }
         ensures whole { result.is_whole ≡ true }
     {
@@ -28,7 +27,7 @@ impl Page {
     }
 
     /// Adds some bytes.
-    pub fn put(&mut self, bytes: &[u8])
+    pub(crate) fn put(&mut self, bytes: &[u8])
         ensures adds { IsTrue self.new.is_whole → self.new.bytes.items ≡ self.old.bytes.items ++ bytes.now }
         ensures stays { IsTrue self.new.is_whole → IsTrue self.old.is_whole }
     {
@@ -38,7 +37,7 @@ impl Page {
     }
 
     /// Adds a mark and a number.
-    pub fn put_number(&mut self, mark: &[u8], number: usize)
+    pub(crate) fn put_number(&mut self, mark: &[u8], number: usize)
         ensures adds { IsTrue self.new.is_whole
             → self.new.bytes.items ≡ self.old.bytes.items ++ (mark.now ++ decimal number) }
         ensures stays { IsTrue self.new.is_whole → IsTrue self.old.is_whole }
@@ -48,16 +47,8 @@ impl Page {
         }
     }
 
-    /// Adds a number of up to 128 bits.
-    pub fn put_long_number(&mut self, number: u128)
-        ensures adds { IsTrue self.new.is_whole → self.new.bytes.items ≡ self.old.bytes.items ++ decimal number }
-        ensures stays { IsTrue self.new.is_whole → IsTrue self.old.is_whole }
-    {
-        self.put(Buffer::new().format(number).as_bytes());
-    }
-
     /// Says that what would be added is not there, since a pass ran out of memory.
-    pub fn fail(&mut self)
+    pub(crate) fn fail(&mut self)
         ensures broken { self.new.is_whole ≡ false }
     {
         self.is_whole = false;
