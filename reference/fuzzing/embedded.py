@@ -122,7 +122,7 @@ def net_of_component(component: Component) -> Net:
     def op_of(value: Any) -> Any:
         if isinstance(value, bool):
             return ("const", value)
-        kind = {"": "copy", "!": "not", "&&": "and", "||": "or"}[value[0]]
+        kind = {"": "copy", "!": "not", "&": "and", "|": "or"}[value[0]]
         return (kind, *(numbers[place] for place in value[1:]))
 
     read = [numbers[value[1]] for _, value in kept]

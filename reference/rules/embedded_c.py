@@ -11,7 +11,7 @@ from typing import Any, Optional, Sequence
 
 from rules.netlist import Net
 
-TOKEN = re.compile(rb"[ \t\n\f\r]+|/\*.*?\*/|([A-Za-z0-9_]+|->|&&|\|\||[(){};:=*,!])", re.DOTALL)
+TOKEN = re.compile(rb"[ \t\n\f\r]+|/\*.*?\*/|([A-Za-z0-9_]+|->|[(){};:=*,!&|])", re.DOTALL)
 
 RESERVED = set(
     b"""alignas alignof and and_eq asm auto bitand bitor bool break case catch char char16_t char32_t char8_t class co_await
@@ -76,7 +76,7 @@ def value_text(net: Net, op: Any) -> bytes:
         return place_text(net, op[1])
     if op[0] == "not":
         return b"!" + place_text(net, op[1])
-    return place_text(net, op[1]) + (b" && " if op[0] == "and" else b" || ") + place_text(net, op[2])
+    return place_text(net, op[1]) + (b" & " if op[0] == "and" else b" | ") + place_text(net, op[2])
 
 
 def lines_before(name: bytes, file: str) -> list[bytes]:
@@ -224,7 +224,7 @@ class Reader:
             self.take(b"!")
             return ("!", self.place())
         first = self.place()
-        if self.next() in (b"&&", b"||"):
+        if self.next() in (b"&", b"|"):
             return (self.any().decode(), first, self.place())
         return ("", first)
 
@@ -336,9 +336,9 @@ def react(c: Component, state: dict[bytes, bool], inputs: Sequence[bool]) -> tup
             local[name] = value
         elif value[0] == "!":
             local[name] = not at(value[1])
-        elif value[0] == "&&":
+        elif value[0] == "&":
             local[name] = at(value[1]) and at(value[2])
-        elif value[0] == "||":
+        elif value[0] == "|":
             local[name] = at(value[1]) or at(value[2])
         else:
             local[name] = at(value[1])

@@ -67,7 +67,7 @@ class Texts(unittest.TestCase):
         net = worked_net()
         text, written = write_blif(net), write_embedded(net, b"lift")
         check_embedded(text, b"lift", written)
-        for old, new in ((b"self->state0 = ", b"self->state0 = !"), (b" && ", b" || "), (b"lift_H", b"left_H")):
+        for old, new in ((b"self->state0 = ", b"self->state0 = !"), (b" & ", b" | "), (b"lift_H", b"left_H")):
             with self.assertRaises(Difference):
                 check_embedded(text, b"lift", written.replace(old, new, 1))
 
@@ -77,7 +77,7 @@ class Texts(unittest.TestCase):
         wrong = {
             HEADER: [(b" : 1;", b" : 2;"), (b" : 1;", b";"), (b"static inline ", b"")],
             DECLARATIONS: [(b" : 1;", b" : 2;"), (b"lift_react", b"lift_step"), (b'extern "C"', b"extern")],
-            DEFINITIONS: [(b'"lift.h"', b'"left.h"'), (b"void ", b"static void "), (b" && ", b" || ")],
+            DEFINITIONS: [(b'"lift.h"', b'"left.h"'), (b"void ", b"static void "), (b" & ", b" | ")],
         }
         for file, changes in wrong.items():
             written = write_embedded(net, b"lift", Layout(True, file))

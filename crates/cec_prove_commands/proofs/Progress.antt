@@ -1,19 +1,11 @@
 -- The lines that are written during a search, and the line after them.
-use Rattle.std.proofs.Common.{◌≡◌, ℕ, ◌+◌, Bool, List, [], ◌++◌, Option, Result, inl, inr, ⊎_elim, subst, arith}
-use Rattle.std.proofs.Common.{append-nil, suc}
+use Rattle.std.proofs.Common.{◌≡◌, ℕ, ◌+◌, Bool, List, ◌++◌, Option, Result, subst, suc, arith}
 use Rattle.base_types.specs.SinkChanges.{SinkChange}
-use Rattle.base_types.specs.Writing.{Appends, Stops, Wrote}
+use Rattle.base_types.specs.Writing.{Wrote}
 use Rattle.base_types.specs.declared.sinks.writing.SinkFault.{SinkFault}
-use Rattle.base_types.proofs.Exports.{appends-twice, stops-behind}
 use Rattle.cec_text_io.specs.ErrorLines.{GainsLine}
 use Rattle.cec_prove_commands.specs.Answers.{GainsAll, HasTold}
 use Rattle.cec_prove_commands.specs.Lines.{progress_line, progress_lines}
-
--- after lines that were appended comes a line, or a prefix of it
-pub line-behind : (a b c : Option (List ℕ)) (f g h : ℕ) (x y : List ℕ) → Appends a b f g x → GainsLine b c g h y → GainsLine a c f h (x ++ y)
-line-behind a b c f g h x y p q =
-    ⊎_elim (λ w. inl (appends-twice a b c f g h x y p w))
-    (λ w. inr (subst (λ t. Stops a c f h (x ++ t)) (append-nil y) (stops-behind a b c f g h x y [] p w))) q
 
 -- what was told before a further try
 pub one-further : (n : ℕ) (a b : Option (List ℕ)) (f g : ℕ) (told : Result (Unit {0}) SinkFault)

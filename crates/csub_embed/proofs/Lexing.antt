@@ -201,11 +201,11 @@ says-const = record { on = λ at rest. (at + 1 + 1 + 1 + 1 + 1 + 1 + 1 + 1 + 1 +
 pub says-not : Says (codes "!") (Mark (codes "!") ∷ [])
 says-not = record { on = λ at rest. (at + 1, refl) }
 
-pub says-and : Says (codes " && ") (Mark (codes "&&") ∷ [])
-says-and = record { on = λ at rest. (at + 1 + 1 + 1 + 1, refl) }
+pub says-and : Says (codes " & ") (Mark (codes "&") ∷ [])
+says-and = record { on = λ at rest. (at + 1 + 1 + 1, refl) }
 
-pub says-or : Says (codes " || ") (Mark (codes "||") ∷ [])
-says-or = record { on = λ at rest. (at + 1 + 1 + 1 + 1, refl) }
+pub says-or : Says (codes " | ") (Mark (codes "|") ∷ [])
+says-or = record { on = λ at rest. (at + 1 + 1 + 1, refl) }
 
 pub says-self : Says (codes "self->") (Word self_word ∷ arrow ∷ [])
 says-self = record { on = λ at rest. (at + 1 + 1 + 1 + 1 + 1 + 1, refl) }

@@ -90,9 +90,9 @@ says-value (Copy place) d ds ks is stops says = says-place place d ds ks is stop
 says-value (Not place) d ds ks is stops says =
     says-then (codes "!") (written_place place ++ d ∷ ds) (Mark (codes "!") ∷ []) (place_kinds place ++ ks) says-not (says-place place d ds ks is stops says)
 says-value (And p q) d ds ks is stops says =
-    says-pair p q (codes " && ") (Mark (codes "&&")) 32 (codes "&& ") d ds ks refl refl says-and is.0 is.1 stops says
+    says-pair p q (codes " & ") (Mark (codes "&")) 32 (codes "& ") d ds ks refl refl says-and is.0 is.1 stops says
 says-value (Or p q) d ds ks is stops says =
-    says-pair p q (codes " || ") (Mark (codes "||")) 32 (codes "|| ") d ds ks refl refl says-or is.0 is.1 stops says
+    says-pair p q (codes " | ") (Mark (codes "|")) 32 (codes "| ") d ds ks refl refl says-or is.0 is.1 stops says
 
 -- ---- lines
 

@@ -17,7 +17,7 @@
 --   react_head = [ "static" "inline" ] "bool" NAME_react
 --                "(" NAME_t "*" "self" "," "const" NAME_inputs_t "*" "in" "," NAME_outputs_t "*" "out" ")"
 --   local      = "const" "bool" LOCAL "=" value ";"
---   value      = bit | place | "!" place | place "&&" place | place "||" place
+--   value      = bit | place | "!" place | place "&" place | place "|" place
 --   place      = "self" "->" MEMBER | "in" "->" MEMBER | LOCAL
 --   bit        = "true" | "false"
 -- ```
@@ -72,8 +72,8 @@ abbrev pub value_kinds : Value → List Kind
 value_kinds (Const value) = bit_kind value ∷ []
 value_kinds (Copy place) = place_kinds place
 value_kinds (Not place) = Mark (codes "!") ∷ place_kinds place
-value_kinds (And first second) = place_kinds first ++ Mark (codes "&&") ∷ place_kinds second
-value_kinds (Or first second) = place_kinds first ++ Mark (codes "||") ∷ place_kinds second
+value_kinds (And first second) = place_kinds first ++ Mark (codes "&") ∷ place_kinds second
+value_kinds (Or first second) = place_kinds first ++ Mark (codes "|") ∷ place_kinds second
 
 -- ---- structures
 

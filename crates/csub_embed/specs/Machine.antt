@@ -22,6 +22,8 @@ place_value f (State name) = f.state name
 place_value f (Given name) = f.given name
 place_value f (Local name) = f.local name
 
+-- In C99 `&` and `|` of two bools are their and and or. The bools become the ints 0 and 1 (6.3.1.1), whose bits are
+-- combined (6.5.10, 6.5.12), and the 0 or 1 that this gives is the bool of the result (6.3.1.2).
 abbrev pub value_at : Frame → Value → Bool
 value_at f (Const value) = value
 value_at f (Copy place) = place_value f place

@@ -1,5 +1,5 @@
 -- To believe: the tokens of an embedded text, each as long as it can be: words, numbers, and marks of one or two bytes.
--- Spaces and comments are none.
+-- Spaces and comments are none. C has longer marks too, like `&&`. No component has two marks in a row that C joins.
 use Rattle.std.specs.Prelude.{ℕ, ◌+◌, ◌==◌, Bool, ◌||◌, List, [], ◌∷◌, take, map}
 use Rattle.std.specs.Prelude.{Option, Some, None, if◌then◌else◌}
 use Rattle.std.specs.List.{prefix_len}
@@ -23,24 +23,21 @@ abbrev pub slash_front : List ℕ → Front Kind
 slash_front [] = Wrong
 slash_front (c ∷ cs) = if c == 42 then comment_front (closed_after cs) else Wrong
 
--- a mark of two bytes, where the second one is this
-abbrev pub pair_front : ℕ → ℕ → List ℕ → Front Kind
-pair_front first second [] = Wrong
-pair_front first second (c ∷ cs) = if c == second then Lexeme 1 (Mark (first ∷ second ∷ [])) else Wrong
+abbrev pub arrow_front : List ℕ → Front Kind
+arrow_front [] = Wrong
+arrow_front (c ∷ cs) = if c == 62 then Lexeme 1 (Mark (45 ∷ 62 ∷ [])) else Wrong
 
--- ( ) { } ; : = * , !
+-- ( ) { } ; : = * , ! & |
 abbrev pub is_single_mark : ℕ → Bool
 is_single_mark c =
     c == 40 || (c == 41 || (c == 123 || (c == 125 || (c == 59 || (c == 58 || (c == 61 || (c == 42
-    || (c == 44 || c == 33))))))))
+    || (c == 44 || (c == 33 || (c == 38 || c == 124))))))))))
 
--- and `->`, `&&`, `||`
+-- and `->`
 abbrev pub longest_mark : ℕ → List ℕ → Front Kind
 longest_mark c cs =
     if is_single_mark c then Lexeme 0 (Mark (c ∷ []))
-    else (if c == 45 then pair_front 45 62 cs
-    else (if c == 38 then pair_front 38 38 cs
-    else (if c == 124 then pair_front 124 124 cs else Wrong)))
+    else (if c == 45 then arrow_front cs else Wrong)
 
 -- what a byte and those after it begin with; a number goes on like a word
 abbrev pub front : ℕ → List ℕ → Front Kind

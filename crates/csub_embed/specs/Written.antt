@@ -132,8 +132,8 @@ abbrev pub value_text : Value → List ℕ
 value_text (Const value) = bit_text value
 value_text (Copy place) = written_place place
 value_text (Not place) = codes "!" ++ written_place place
-value_text (And first second) = written_place first ++ (codes " && " ++ written_place second)
-value_text (Or first second) = written_place first ++ (codes " || " ++ written_place second)
+value_text (And first second) = written_place first ++ (codes " & " ++ written_place second)
+value_text (Or first second) = written_place first ++ (codes " | " ++ written_place second)
 
 -- the end of a line
 abbrev pub line_end : List ℕ

@@ -70,8 +70,8 @@ fn put_value(text: &mut Vec<u8>, net: &Net, op: Op) -> Result<(), NoMemory>
             put(text, b"!")?;
             put_place(text, net, a)
         }
-        Op::And(a, b) => put_pair(text, net, a, b" && ", b),
-        Op::Or(a, b) => put_pair(text, net, a, b" || ", b),
+        Op::And(a, b) => put_pair(text, net, a, b" & ", b),
+        Op::Or(a, b) => put_pair(text, net, a, b" | ", b),
     }
 }
 

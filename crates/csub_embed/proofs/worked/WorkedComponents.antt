@@ -62,7 +62,7 @@ the-text : component_text (plain Header) two ≡ codes "#ifndef two_H\n#define t
     ++ codes "typedef struct {\n    bool O;\n} two_outputs_t;\n\nstatic inline void two_reset(two_t *self)\n{\n"
     ++ codes "    self->state0 = true;\n    self->state1 = false;\n}\n\n"
     ++ codes "static inline bool two_react(two_t *self, const two_inputs_t *in, two_outputs_t *out)\n{\n"
-    ++ codes "    const bool g0 = self->state0 || in->A;\n    const bool g1 = !g0;\n    const bool g2 = g1 && in->B;\n"
+    ++ codes "    const bool g0 = self->state0 | in->A;\n    const bool g1 = !g0;\n    const bool g2 = g1 & in->B;\n"
     ++ codes "    const bool next0 = g2;\n    const bool next1 = self->state0;\n    const bool running = self->state1;\n"
     ++ codes "    out->O = g2;\n    self->state0 = next0;\n    self->state1 = next1;\n    return running;\n}\n\n#endif\n"
 the-text = refl
@@ -82,7 +82,7 @@ packed-text : component_text (packed Header) two ≡ codes "#ifndef two_H\n#defi
     ++ packed-structures ++ codes "static inline void two_reset(two_t *self)\n{\n"
     ++ codes "    self->state0 = true;\n    self->state1 = false;\n}\n\n"
     ++ codes "static inline bool two_react(two_t *self, const two_inputs_t *in, two_outputs_t *out)\n{\n"
-    ++ codes "    const bool g0 = self->state0 || in->A;\n    const bool g1 = !g0;\n    const bool g2 = g1 && in->B;\n"
+    ++ codes "    const bool g0 = self->state0 | in->A;\n    const bool g1 = !g0;\n    const bool g2 = g1 & in->B;\n"
     ++ codes "    const bool next0 = g2;\n    const bool next1 = self->state0;\n    const bool running = self->state1;\n"
     ++ codes "    out->O = g2;\n    self->state0 = next0;\n    self->state1 = next1;\n    return running;\n}\n\n#endif\n"
 packed-text = refl
@@ -107,7 +107,7 @@ definitions-text : component_text (packed Definitions) two ≡ codes "#include \
     ++ codes " * Reset an instance before its first call of react; react returns whether it is still running. */\n\n"
     ++ codes "void two_reset(two_t *self)\n{\n    self->state0 = true;\n    self->state1 = false;\n}\n\n"
     ++ codes "bool two_react(two_t *self, const two_inputs_t *in, two_outputs_t *out)\n{\n"
-    ++ codes "    const bool g0 = self->state0 || in->A;\n    const bool g1 = !g0;\n    const bool g2 = g1 && in->B;\n"
+    ++ codes "    const bool g0 = self->state0 | in->A;\n    const bool g1 = !g0;\n    const bool g2 = g1 & in->B;\n"
     ++ codes "    const bool next0 = g2;\n    const bool next1 = self->state0;\n    const bool running = self->state1;\n"
     ++ codes "    out->O = g2;\n    self->state0 = next0;\n    self->state1 = next1;\n    return running;\n}\n"
 definitions-text = refl
@@ -197,20 +197,18 @@ none-tokens = refl
 
 -- ---- tokens
 
-spaced : kinds (codes "a->b /* x*y */\n&& !(c_1)||{};=*,:1")
-    ≡ Word (codes "a") ∷ Mark (codes "->") ∷ Word (codes "b") ∷ Mark (codes "&&") ∷ Mark (codes "!") ∷ Mark (codes "(") ∷ Word (codes "c_1")
-    ∷ Mark (codes ")") ∷ Mark (codes "||") ∷ Mark (codes "{") ∷ Mark (codes "}") ∷ Mark (codes ";") ∷ Mark (codes "=") ∷ Mark (codes "*")
+spaced : kinds (codes "a->b /* x*y */\n& !(c_1)|{};=*,:1")
+    ≡ Word (codes "a") ∷ Mark (codes "->") ∷ Word (codes "b") ∷ Mark (codes "&") ∷ Mark (codes "!") ∷ Mark (codes "(") ∷ Word (codes "c_1")
+    ∷ Mark (codes ")") ∷ Mark (codes "|") ∷ Mark (codes "{") ∷ Mark (codes "}") ∷ Mark (codes ";") ∷ Mark (codes "=") ∷ Mark (codes "*")
     ∷ Mark (codes ",") ∷ Mark (codes ":") ∷ Number (codes "1") ∷ []
 spaced = refl
 
 half-arrow : kinds (codes "a- >b") ≡ Word (codes "a") ∷ Bad ∷ []
 half-arrow = refl
 
-half-and : kinds (codes "a & b") ≡ Word (codes "a") ∷ Bad ∷ []
-half-and = refl
-
-half-or : kinds (codes "a|") ≡ Word (codes "a") ∷ Bad ∷ []
-half-or = refl
+-- two marks, which no component has in a row
+doubled : kinds (codes "a && b||") ≡ Word (codes "a") ∷ Mark (codes "&") ∷ Mark (codes "&") ∷ Word (codes "b") ∷ Mark (codes "|") ∷ Mark (codes "|") ∷ []
+doubled = refl
 
 no-comment : kinds (codes "a /* b") ≡ Word (codes "a") ∷ Bad ∷ []
 no-comment = refl

@@ -1,12 +1,12 @@
 use Rattle.std.proofs.Common.{inr, subst}
 use Rattle.base_types.specs.Writing.{Wrote}
 use Rattle.base_types.proofs.Exports.{stops-early}
-use Rattle.cec_prove_commands.proofs.Progress.{line-behind}
+use Rattle.cec_text_io.proofs.Exports.{line_after}
 use Rattle.cec_prove_commands.proofs.lines.report_after.Goals as goal
 
 pub returns-in-Ok : goal.returns-in-Ok
 returns-in-Ok g c = λ before faults lines w.
-    line-behind before _ _ faults _ _ lines _
+    line_after before _ _ faults _ _ lines _
     (subst (Wrote before (g.E.Sink.told c.args.err.now) faults (g.E.Sink.faults c.args.err.now) lines) c.in-Ok.is w) c.report.ensures
 
 pub returns-in-Err : goal.returns-in-Err
