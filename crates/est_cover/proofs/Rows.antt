@@ -252,8 +252,8 @@ covers-PresentCase w before at v q =
 
 -- the whole statement of made parts
 pub covers-present_case : (w : Portion) (before after : List Point) (at : Span) (l : List FlatCase) (v made : Vec FlatCase Global)
-    (q rest : Option (Box FlatStmt Global)) → l ≡ v.items → map flat_case_of made.items ≡ choices_covered w at before l
-    → after ≡ choice_points at before l → flat_part_of rest ≡ part_covered w kinds.Else at after q
+    (q rest : Option (Box FlatStmt Global)) → l ≡ v.items → map flat_case_of made.items ≡ choices_covered w at before l → after ≡ choice_points at before l
+    → flat_part_of rest ≡ part_covered w kinds.Else at after q
     → At at (flat_form_of (forms.PresentCase made rest)) ≡ node_covered w before at (forms.PresentCase v q)
 covers-present_case w before after at l v made q rest is choices points part =
     ap (At at) (flat_form-PresentCase made rest)

@@ -1,8 +1,8 @@
 use Rattle.std.proofs.Common.{◌≡◌, ◌+◌, ◌*◌, ◌<◌, map, ap, ◌∙◌, arith}
 use Rattle.std.proofs.lemmas.List.{map-append}
 use Rattle.est_ast.specs.FlatViews.{flat_stmt_of, flat_case_of}
-use Rattle.est_cover.proofs.Rows.{list-step, list-points_step, list-end, list-points_end, choices-step, choice-points_step, choices-end, choice-points_end}
-use Rattle.est_cover.proofs.Rows.{covers-present_case}
+use Rattle.est_cover.proofs.Rows.{list-step, list-points_step, list-end, list-points_end}
+use Rattle.est_cover.proofs.Rows.{choices-step, choice-points_step, choices-end, choice-points_end, covers-present_case}
 use denote.Param.Weighed.{most}
 use Rattle.est_ast.proofs.flat.FlatCase.TheLaws.{the_size as case_size}
 use Rattle.est_ast.proofs.flat.FlatForm.TheLaws.{the_size as form_size}
