@@ -5,6 +5,7 @@
 use base_types::{DiskFiles, WriterSink, write_pieces};
 use cec_opt_commands::cec_opt;
 use std::env;
+use std::io::IsTerminal;
 use std::process::ExitCode;
 use std::rt::Env;
 
@@ -22,7 +23,8 @@ fn main(rt: HostRuntime) -> ExitCode {
     };
     let mut files = DiskFiles::new(&rt);
     let mut out = WriterSink::new(rt.stdout());
-    let outcome = cec_opt(rt.alloc(), &words, &mut files, &mut out, &mut err);
+    let progress = rt.stderr().is_terminal();
+    let outcome = cec_opt(rt.alloc(), &words, &mut files, &mut out, &mut err, progress);
     ExitCode::from(outcome.number())
 }
 

@@ -1,5 +1,6 @@
 -- What the answers of the steps say of the whole call.
-use Rattle.std.proofs.Common.{◌≡◌, ℕ, ◌≤◌, List, [], length, Option, Some, None, Err, inl, inr, refl, sym, subst}
+use Rattle.std.proofs.Common.{◌≡◌, ℕ, ◌≤◌, Bool, false, List, [], length, Option, Some, None, Err, inl, inr, refl, sym, subst}
+use Rattle.std.proofs.lemmas.Bool.{false≢true}
 use Rattle.base_types.specs.declared.bounds.TheConstants.Limits.{SOURCE_BYTES, TEXT_BYTES}
 use Rattle.base_types.specs.declared.files.reading.FileFault as unread
 use Rattle.base_types.specs.declared.files.reading.FileFault.TheVariants as reading
@@ -37,7 +38,7 @@ use Rattle.cec_text_io.specs.Writings.{LeavesText, LeavesPieces}
 use Rattle.cec_text_io.specs.declared.writing.Written.{Written}
 use Rattle.cec_text_io.specs.declared.writing.Written.TheVariants as ends
 use Rattle.cec_opt_commands.specs.Answers.{IsAnswer, IsSourceAnswer}
-use Rattle.cec_opt_commands.specs.Lines.{GainsSourceErr, SpeaksOf, line_of, source_subject}
+use Rattle.cec_opt_commands.specs.Lines.{GainsAfter, GainsSourceErr, SpeaksOf, line_of, source_subject}
 use Rattle.cec_opt_commands.specs.Outcomes.{HasNet, SaysOf, IsConstructible, SourceSays, AgreesOnFile, IsWriting, IsOptOutcomeOf}
 use Rattle.cec_opt_commands.specs.Outcomes.{CountsFiles, LeavesAnswer, LeavesSourceAnswer, IsTextOf, IsSourceTextBy, IsSourceTextOf, GainsOut}
 use Rattle.cec_opt_commands.specs.Stopping.{IsEmbedStopOutcome, IsRefusedOutcome, IsResetStopOutcome}
@@ -370,11 +371,16 @@ source_speaks content name (TooManyNets cycle) source held = tt
 source_speaks content name WriteFault source held = tt
 source_speaks content name NoMemory source held = tt
 
-pub source_err : (content : Content) (name : List ℕ) (main : Option (List ℕ)) (outcome : OptOutcome) (source : List ℕ) (old new : Option (List ℕ))
-    (before now : ℕ) → IsHeld content name source → GainsLine old new before now (line_of (source_subject name main source) outcome)
-    → GainsSourceErr name main content outcome old new before now
-source_err content name main outcome source old new before now held gains =
+pub source_err : (progress : Bool) (content : Content) (name : List ℕ) (main : Option (List ℕ)) (outcome : OptOutcome) (source : List ℕ) (s : SinkChange)
+    → IsHeld content name source → GainsAfter progress s (line_of (source_subject name main source) outcome)
+    → GainsSourceErr progress name main content outcome s
+source_err progress content name main outcome source s held gains =
     record { source = source; held = source_speaks content name outcome source held; gains = gains }
+
+-- where nothing is optimized, nobody waits
+pub none_waits : (progress : Bool) (s : SinkChange) (line : List ℕ) → GainsLine s.before s.after s.faults_before s.faults_now line
+    → GainsAfter progress s line
+none_waits progress s line gains = record { waits = false; wanted = λ waits. absurd (false≢true waits); gains = gains }
 
 -- ---- a file that was not read
 
@@ -434,12 +440,12 @@ source_unread_out content Check name main reading.Failed s a = a
 source_unread_out content Check name main reading.TooLong s a = a
 source_unread_out content Check name main reading.NoMemory s a = a
 
-pub source_unread_err : (content : Content) (name : List ℕ) (main : Option (List ℕ)) (fault : unread.FileFault) (old new : Option (List ℕ)) (before now : ℕ)
-    → GainsLine old new before now (line_of (source_subject name main []) (source_unread_outcome fault))
-    → GainsSourceErr name main content (source_unread_outcome fault) old new before now
-source_unread_err content name main reading.Failed old new before now gains = record { source = []; held = tt; gains = gains }
-source_unread_err content name main reading.TooLong old new before now gains = record { source = []; held = tt; gains = gains }
-source_unread_err content name main reading.NoMemory old new before now gains = record { source = []; held = tt; gains = gains }
+pub source_unread_err : (progress : Bool) (content : Content) (name : List ℕ) (main : Option (List ℕ)) (fault : unread.FileFault) (s : SinkChange)
+    → GainsLine s.before s.after s.faults_before s.faults_now (line_of (source_subject name main []) (source_unread_outcome fault))
+    → GainsSourceErr progress name main content (source_unread_outcome fault) s
+source_unread_err progress content name main reading.Failed s gains = record { source = []; held = tt; gains = none_waits progress s _ gains }
+source_unread_err progress content name main reading.TooLong s gains = record { source = []; held = tt; gains = none_waits progress s _ gains }
+source_unread_err progress content name main reading.NoMemory s gains = record { source = []; held = tt; gains = none_waits progress s _ gains }
 
 -- no request ends as words without a meaning do
 pub no_usage : (request : Request) (content : Content) → IsOptOutcomeOf (Some request) content Usage → ⊥

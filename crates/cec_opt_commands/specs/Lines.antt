@@ -1,5 +1,7 @@
 -- To believe: the line that is written about an outcome.
-use Rattle.std.specs.Prelude.{⊤, ℕ, List, [], ◌++◌, Option, Some, None, codes, decimal, unwrap_or}
+use Rattle.std.specs.Prelude.{⊤, ℕ, Bool, true, false, IsTrue, List, [], ◌++◌, Option, Some, None, codes, decimal}
+use Rattle.std.specs.Prelude.{unwrap_or}
+use Rattle.base_types.specs.SinkChanges.{SinkChange}
 use Rattle.blif_net.specs.declared.fault.CircuitFault.{CircuitFault}
 use Rattle.blif_net.specs.declared.fault.CircuitFault.TheVariants.{NoPause, Model, Input, Output, Again, Loop}
 use Rattle.blif_net.specs.declared.fault.CircuitFault.TheVariants.{TooManyNets}
@@ -92,27 +94,40 @@ line_of s (TooManyNets cycle) = own_line (codes "limit: nets: " ++ cycle.text.it
 line_of s WriteFault = own_line (codes "cannot write")
 line_of s NoMemory = own_line (codes "out of memory")
 
+-- what a person who waits reads before much is optimized
+abbrev pub told_first : (waits : Bool) → List ℕ
+told_first true = own_line (codes "optimizing, which can take a minute")
+told_first false = []
+
+-- What `err` gained: the line of an outcome, and before it the one for a person who waits, if that is wanted. Where its
+-- count of faults rose it is a prefix of both.
+pub record GainsAfter (progress : Bool) (s : SinkChange) (line : List ℕ) : Type 0 where
+  pub waits : Bool
+  pub wanted : IsTrue waits → IsTrue progress
+  pub gains : GainsLine s.before s.after s.faults_before s.faults_now (told_first waits ++ line)
+
 -- a line about a static fault speaks of the source that the file holds
 abbrev pub SpeaksOf : Content → (name : List ℕ) → OptOutcome → List ℕ → Type 0
 SpeaksOf content name (Refused (refusing.Static fault)) source = IsHeld content name source
 SpeaksOf content name others source = ⊤
 
--- What `err` gained about a source: the whole line, or a prefix of it where its count of faults rose. A source of which
--- the line speaks is the one that the file holds.
-pub record GainsSourceErr (name : List ℕ) (main : Option (List ℕ)) (content : Content) (outcome : OptOutcome)
-    (old new : Option (List ℕ)) (before now : ℕ) : Type 0 where
+-- What `err` gained about a source. A source of which the line speaks is the one that the file holds.
+pub record GainsSourceErr (progress : Bool) (name : List ℕ) (main : Option (List ℕ)) (content : Content)
+    (outcome : OptOutcome) (s : SinkChange) : Type 0 where
   pub source : List ℕ
   pub held : SpeaksOf content name outcome source
-  pub gains : GainsLine old new before now (line_of (source_subject name main source) outcome)
+  pub gains : GainsAfter progress s (line_of (source_subject name main source) outcome)
 
 -- the same about a request; of words without a meaning the line says what is wrong with them
-abbrev pub GainsErr : List (List ℕ) → Option Request → Content → OptOutcome → (old new : Option (List ℕ))
-    → (before now : ℕ) → Type 0
-GainsErr words None content outcome old new before now =
+abbrev pub GainsErr : (progress : Bool) → List (List ℕ) → Option Request → Content → OptOutcome
+    → (old new : Option (List ℕ)) → (before now : ℕ) → Type 0
+GainsErr progress words None content outcome old new before now =
     GainsLine old new before now (line_of (named (misuse_of words)) outcome)
-GainsErr words (Some (Tell about)) content outcome old new before now =
+GainsErr progress words (Some (Tell about)) content outcome old new before now =
     GainsLine old new before now (line_of (named []) outcome)
-GainsErr words (Some (Do task name)) content outcome old new before now =
-    GainsLine old new before now (line_of (named name) outcome)
-GainsErr words (Some (Make task name main)) content outcome old new before now =
-    GainsSourceErr name main content outcome old new before now
+GainsErr progress words (Some (Do task name)) content outcome old new before now =
+    GainsAfter progress (record { before = old; after = new; faults_before = before; faults_now = now })
+    (line_of (named name) outcome)
+GainsErr progress words (Some (Make task name main)) content outcome old new before now =
+    GainsSourceErr progress name main content outcome
+    (record { before = old; after = new; faults_before = before; faults_now = now })

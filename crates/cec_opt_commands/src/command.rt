@@ -4,14 +4,15 @@ ghost use Rattle.std.specs.Prelude.{◌≡◌, ◌≤◌, ◌↔◌, [], length,
 ghost use Rattle.std.specs.String.{string_bytes};
 ghost use Rattle.base_types.specs.SinkChanges.{change};
 ghost use Rattle.cec_text_io.specs.ErrorLines.{GainsLine};
+ghost use Rattle.cec_opt_commands.specs.Answers.{IsAnswer};
 ghost use Rattle.cec_opt_commands.specs.HelpTexts.{own_text};
-ghost use Rattle.cec_opt_commands.specs.Lines.{GainsErr, GainsSourceErr, line_of, named, source_subject};
-ghost use Rattle.cec_opt_commands.specs.Outcomes.{IsOptOutcomeOf, CountsFiles, GainsOut, LeavesSourceAnswer};
-ghost use Rattle.cec_opt_commands.specs.Outcomes.{SourceSays};
+ghost use Rattle.cec_opt_commands.specs.Lines.{GainsAfter, GainsErr, GainsSourceErr, line_of, named, source_subject};
+ghost use Rattle.cec_opt_commands.specs.Outcomes.{IsOptOutcomeOf, CountsFiles, GainsOut, LeavesAnswer};
+ghost use Rattle.cec_opt_commands.specs.Outcomes.{LeavesSourceAnswer, SaysOf, SourceSays};
 ghost use Rattle.cec_opt_commands.specs.Views.{plain_request, plain_task, subject_is};
 ghost use Rattle.cec_opt_commands.specs.Words.{request_by, Do, Make, Tell};
 
-use crate::lines::{Subject, named, report, report_misuse};
+use crate::lines::{Subject, named, put_waiting, report, report_after, report_misuse};
 use crate::outcome::{OptOutcome, source_unread_outcome};
 use crate::sources::do_source_task;
 use crate::texts::do_task;
@@ -47,6 +48,11 @@ cec-opt --version      writes the program's name and version
 ";
 
 const VERSION: &[u8] = b"cec-opt 0.1.0\n";
+
+// To optimize a text or a source of more bytes can take seconds.
+const LARGE_TEXT: usize = 400_000;
+
+const LARGE_SOURCE: usize = 10_000;
 
 /// Does what the words after the program's name ask for, and says how it ended.
 ///
@@ -89,6 +95,7 @@ pub fn cec_opt<F: Files, O: Sink, E: Sink>(
     files: &mut F,
     out: &mut O,
     err: &mut E,
+    progress: bool,
 ) -> OptOutcome
     ensures usage { (result ≡ OptOutcome.Usage) ↔ (request_by (map string_bytes words.now) ≡ None) }
     ensures agrees { IsOptOutcomeOf (request_by (map string_bytes words.now)) (F.content files.old) result }
@@ -97,14 +104,14 @@ pub fn cec_opt<F: Files, O: Sink, E: Sink>(
     ensures files_stay { F.content files.new ≡ F.content files.old }
     ensures out { GainsOut (request_by (map string_bytes words.now)) (F.content files.old) result
         (change O.told O.faults out.old out.new) }
-    ensures err { GainsErr (map string_bytes words.now) (request_by (map string_bytes words.now))
+    ensures err { GainsErr progress (map string_bytes words.now) (request_by (map string_bytes words.now))
         (F.content files.old) result
         (E.told err.old) (E.told err.new) (E.faults err.old) (E.faults err.new) }
 {
     match request_by(words) {
-        Some(Request::Do(task, name)) => do_file(alloc, task, name, files, out, err),
+        Some(Request::Do(task, name)) => do_file(alloc, task, name, files, progress, out, err),
         Some(Request::Make(task, name, main)) => {
-            do_source(alloc, task, name, main, files, out, err)
+            do_source(alloc, task, name, main, files, progress, out, err)
         }
         Some(Request::Tell(about)) => tell(about, out, err),
         None => {
@@ -141,6 +148,7 @@ fn do_file<F: Files, O: Sink, E: Sink>(
     task: Task<'_>,
     name: &str,
     files: &mut F,
+    progress: bool,
     out: &mut O,
     err: &mut E,
 ) -> OptOutcome
@@ -150,21 +158,38 @@ fn do_file<F: Files, O: Sink, E: Sink>(
     ensures files_stay { F.content files.new ≡ F.content files.old }
     ensures out { GainsOut (Some (Do (plain_task task.entry) name.now)) (F.content files.old) result
         (change O.told O.faults out.old out.new) }
-    ensures err { GainsLine (E.told err.old) (E.told err.new) (E.faults err.old) (E.faults err.new)
-        (line_of (named name.now) result) }
+    ensures err { GainsAfter progress (change E.told E.faults err.old err.new) (line_of (named name.now) result) }
 {
     match files.read(alloc, name, Limits::TEXT_BYTES) {
-        Ok(text) => {
-            let outcome = do_task(alloc, task, &text, out);
-            report(err, named(name), &outcome);
-            outcome
-        }
+        Ok(text) => told_text(alloc, task, name, &text, progress, out, err),
         Err(fault) => {
             let outcome = OptOutcome::from(fault);
             report(err, named(name), &outcome);
             outcome
         }
     }
+}
+
+// Does a task on a text that was read, and writes the line of the outcome.
+fn told_text<O: Sink, E: Sink>(
+    alloc: Global,
+    task: Task<'_>,
+    name: &str,
+    text: &[u8],
+    progress: bool,
+    out: &mut O,
+    err: &mut E,
+) -> OptOutcome
+    requires { length text.now ≤ Limits.TEXT_BYTES }
+    ensures says { SaysOf (plain_task task.entry) result text.now }
+    ensures out { LeavesAnswer (plain_task task.entry) (IsAnswer (plain_task task.entry) text.now)
+        (change O.told O.faults out.old out.new) result }
+    ensures err { GainsAfter progress (change E.told E.faults err.old err.new) (line_of (named name.now) result) }
+{
+    let told = put_waiting(err, progress && text.len() > LARGE_TEXT);
+    let outcome = do_task(alloc, task, text, out);
+    report_after(err, told, named(name), &outcome);
+    outcome
 }
 
 // Does a task on the source in a file.
@@ -174,6 +199,7 @@ fn do_source<F: Files, O: Sink, E: Sink>(
     name: &str,
     main: Option<&[u8]>,
     files: &mut F,
+    progress: bool,
     out: &mut O,
     err: &mut E,
 ) -> OptOutcome
@@ -185,11 +211,11 @@ fn do_source<F: Files, O: Sink, E: Sink>(
     ensures files_stay { F.content files.new ≡ F.content files.old }
     ensures out { GainsOut (Some (Make (plain_task task.entry) name.now (option_map (λ m. m.now) main.entry)))
         (F.content files.old) result (change O.told O.faults out.old out.new) }
-    ensures err { GainsSourceErr name.now (option_map (λ m. m.now) main.entry) (F.content files.old) result
-        (E.told err.old) (E.told err.new) (E.faults err.old) (E.faults err.new) }
+    ensures err { GainsSourceErr progress name.now (option_map (λ m. m.now) main.entry) (F.content files.old) result
+        (change E.told E.faults err.old err.new) }
 {
     match files.read(alloc, name, Limits::SOURCE_BYTES) {
-        Ok(source) => told_source(alloc, task, name, main, &source, out, err),
+        Ok(source) => told_source(alloc, task, name, main, &source, progress, out, err),
         Err(fault) => {
             let outcome = source_unread_outcome(fault);
             report(err, source_subject(name, main, b""), &outcome);
@@ -205,6 +231,7 @@ fn told_source<O: Sink, E: Sink>(
     name: &str,
     main: Option<&[u8]>,
     source: &[u8],
+    progress: bool,
     out: &mut O,
     err: &mut E,
 ) -> OptOutcome
@@ -212,11 +239,12 @@ fn told_source<O: Sink, E: Sink>(
     ensures says { SourceSays (plain_task task.entry) (option_map (λ m. m.now) main.entry) result source.now }
     ensures out { LeavesSourceAnswer (plain_task task.entry) source.now (option_map (λ m. m.now) main.entry)
         (change O.told O.faults out.old out.new) result }
-    ensures err { GainsLine (E.told err.old) (E.told err.new) (E.faults err.old) (E.faults err.new)
+    ensures err { GainsAfter progress (change E.told E.faults err.old err.new)
         (line_of (source_subject name.now (option_map (λ m. m.now) main.entry) source.now) result) }
 {
+    let told = put_waiting(err, progress && source.len() > LARGE_SOURCE);
     let outcome = do_source_task(alloc, task, source, main, out);
-    report(err, source_subject(name, main, source), &outcome);
+    report_after(err, told, source_subject(name, main, source), &outcome);
     outcome
 }
 

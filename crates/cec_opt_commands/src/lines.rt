@@ -1,12 +1,12 @@
 // The line about an outcome.
 
-ghost use Rattle.std.specs.Prelude.{◌≡◌, ◌≤◌, ◌++◌, codes, length, map};
+ghost use Rattle.std.specs.Prelude.{◌≡◌, ◌≤◌, ◌++◌, ℕ, List, Option, codes, length, map};
 ghost use Rattle.std.specs.String.{string_bytes};
 ghost use Rattle.base_types.specs.Writing.{Wrote};
 ghost use Rattle.cec_text_io.specs.ErrorLines.{GainsLine};
 ghost use Rattle.cec_refusals.specs.Views.{refused_is};
 ghost use Rattle.cec_opt_commands.specs.Lines.{circuit_line_text, component_fault_text, fault_text, line_of, named};
-ghost use Rattle.cec_opt_commands.specs.Lines.{reset_fault_text, own_line, refused_of, stuck_text};
+ghost use Rattle.cec_opt_commands.specs.Lines.{reset_fault_text, own_line, refused_of, stuck_text, told_first};
 ghost use Rattle.cec_opt_commands.specs.Views.{subject_is};
 ghost use Rattle.cec_opt_commands.specs.Words.{misuse_of};
 
@@ -49,6 +49,37 @@ pub(crate) fn report<E: Sink>(err: &mut E, subject: Subject<'_>, outcome: &OptOu
         (line_of (subject_is subject.entry) outcome.now) }
 {
     let _ = put_line(err, subject, outcome);
+}
+
+/// The same after another line, whose writing ended so. Where the sink failed on that, nothing is written.
+pub(crate) fn report_after<E: Sink>(
+    err: &mut E,
+    told: Result<(), SinkFault>,
+    subject: Subject<'_>,
+    outcome: &OptOutcome,
+)
+    requires { length subject.source.now ≤ Limits.SOURCE_BYTES }
+    ensures { (before : Option (List ℕ)) (faults : ℕ) (line : List ℕ)
+        → Wrote before (E.told err.old) faults (E.faults err.old) line told
+        → GainsLine before (E.told err.new) faults (E.faults err.new)
+        (line ++ line_of (subject_is subject.entry) outcome.now) }
+{
+    match told {
+        Ok(()) => report(err, subject, outcome),
+        Err(_) => (),
+    }
+}
+
+/// Writes the line for a person who waits, if one does; a prefix of it was appended where the sink failed.
+pub(crate) fn put_waiting<E: Sink>(err: &mut E, waits: bool) -> Result<(), SinkFault>
+    ensures { Wrote (E.told err.old) (E.told err.new) (E.faults err.old) (E.faults err.new)
+        (told_first waits) result }
+{
+    if waits {
+        put_said(err, b"optimizing, which can take a minute", b"")
+    } else {
+        Ok(())
+    }
 }
 
 /// Writes the line about words that have no meaning; a sink that fails changes nothing.

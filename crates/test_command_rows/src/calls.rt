@@ -73,7 +73,7 @@ fn end_of(alloc: Global, block: Block<'_>, given: Given, sinks: Sinks, failing: 
     let mut files = MapFiles::new(entries, failing);
     let status = match program {
         Program::Cec => cec(alloc, &words, &mut files, &mut out, &mut err).number(),
-        Program::CecOpt => cec_opt(alloc, &words, &mut files, &mut out, &mut err).number(),
+        Program::CecOpt => cec_opt(alloc, &words, &mut files, &mut out, &mut err, false).number(),
         Program::Library => call_written(alloc, block, &mut out),
     };
     Ended { status, out, err }
