@@ -1,6 +1,6 @@
 """The tables of two trials: would induction over more instants, or the relations of the inputs, leave less of a text of `cec-opt`?
 
-Berkeley-abc stands in for what `cec-opt` lacks. It gets the text that `cec-opt blif` writes for each source of the corpus, plain and
+Berkeley-abc does here what `cec-opt` lacks. It gets the text that `cec-opt blif` writes for each source of the corpus, plain and
 encoded, and merges nets that are equal by induction over one, two and four instants (`scorr -F`). For sources with relations it gets the
 relations as constraints too (`constr`, `scorr -c`), so that it may merge nets that are equal where the relations hold. Each time `dc2`
 follows. The rows are sums of latches and AND gates over each half of the corpus."""
