@@ -242,7 +242,8 @@ def functions_have_callers():
     """Each public function that computes something is called by another crate that is no test, or is listed in
     checks/uncalled.txt with a reason, which must still be needed. (A law is a function without parameters that computes
     nothing: its caller is the reader.)"""
-    code = {name: "\n".join(it.read_text() for it in (TOP / "crates" / name / "src").rglob("*.rt")) for name in crates()}
+    code = {name: "\n".join(re.sub(r"//.*", "", it.read_text()) for it in (TOP / "crates" / name / "src").rglob("*.rt"))
+            for name in crates()}
     listed = {}
     for line in (TOP / "checks" / "uncalled.txt").read_text().splitlines():
         if not line.startswith("#"):
@@ -406,9 +407,8 @@ PROOF_NAMES = re.compile(r"^(?:pub )?use Rattle\.(\w+)\.proofs\.([A-Z]\w*)\.\{(.
 PROOF_RULES = re.compile(r"\busing\((?:[^()]*\b)?(\w+)::proofs::(\w+)::(\w+)")
 
 
-# Lemmas that no other crate uses: what callers of `grc_react::react_over` need of a compiled graph, and builders of netlists
-# whose gates carry wires in order.
-LEMMAS_FOR_CALLERS = {("cec_compile", "compiled_differ"), ("net_ir", "all_differ-rising")}
+# A lemma that no other crate uses: what callers of `grc_react::react_over` need of a compiled graph.
+LEMMAS_FOR_CALLERS = {("cec_compile", "compiled_differ")}
 
 
 def exports_are_listed():

@@ -244,6 +244,8 @@ OWN_PATTERNS += ["blif --embed lift f", "c --packed f", "c --embed lift --packed
 OWN_PATTERNS += ["c --embed lift --packed --packed f", "c --embed lift --header --definitions f"]
 OWN_PATTERNS += ["c --embed lift --packed --header --declarations f", "c --embed lift --header"]
 OWN_PATTERNS += ["c --embed lift f --packed", "c --embed lift --packed f f"]
+OWN_PATTERNS += ["c --never f", "c --never A f", "c --never A,,B f", "c --implies A,B,C f", "c --never A,B", "c f --never A,B"]
+OWN_PATTERNS += ["c --embed lift --never A,B f", "c --implies A,B --source f", "check --never A,B --implies", "blif --never"]
 # Words about Verilog with a reset that have no meaning.
 RESET_PATTERNS = ["", "-x f", "rst", "rst --async f --async", "rst --low f", "rst f f", "rst --module"]
 RESET_PATTERNS += ["rst --source f f", "rst f --source f", "rst --main M", "rst --module -x f", "rst --module M --module M f"]
@@ -297,7 +299,20 @@ def opt_case(rng: random.Random) -> Drawn:
         text = mutate_bytes(text, rng)
     if more and rng.random() < 0.2:
         text = with_reserved(rng, text)
-    return [command, *more, b"f"], {b"f": text}
+    given = relation_words(rng, text) if rng.random() < 0.3 else []
+    return [command, *given, *more, b"f"], {b"f": text}
+
+
+def relation_words(rng: random.Random, text: bytes) -> list[bytes]:
+    """Words that give relations of the inputs of a BLIF text, rarely of a name that is none."""
+    inputs = re.findall(rb"^\.inputs (.*)$", text, re.M)
+    names = inputs[0].split() if inputs else []
+    words: list[bytes] = []
+    while len(names) > 1 and rng.random() < 0.6:
+        size = 2 if rng.random() < 0.7 else min(3, len(names))
+        chosen = rng.sample([*names, b"none"] if rng.random() < 0.05 else names, size)
+        words += [b"--implies" if size == 2 and rng.random() < 0.5 else b"--never", b",".join(chosen)]
+    return words
 
 
 def cycle_case(rng: random.Random) -> Drawn:

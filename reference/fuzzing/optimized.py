@@ -6,7 +6,7 @@ from __future__ import annotations
 
 import random
 import re
-from typing import Optional
+from typing import Optional, Sequence
 
 from fuzzing.cases import Case
 from fuzzing.constructive import check_answer
@@ -29,12 +29,14 @@ from rules.optimizer import (
     circuit_of,
     component_line,
     gates_at_most,
+    numbered_relations,
     plain_outputs,
 )
 from rules.outcomes import Outcome
 from rules.simplification import simplified_violations
 from rules.text_faults import is_loop
 from rules.texts import open_text
+from rules.traces import Relation
 
 EVENTS = 40
 # What a latch weighs in gates where the lighter one of two circuits of a source is written.
@@ -90,17 +92,24 @@ def need_small(blif: Blif, net: Net, is_source: bool) -> None:
 
 
 def check_embedded(
-    text: bytes, component: bytes, written: bytes, is_source: bool = False, layout: Layout = Layout()
+    text: bytes,
+    component: bytes,
+    written: bytes,
+    is_source: bool = False,
+    layout: Layout = Layout(),
+    relations: Sequence[Relation] = (),
 ) -> None:
     """Raises Difference where a written embedded text is none that may stand for the text."""
     blif, _ = circuit_of(text)
     net = net_of_embedded(written, component, layout, blif.inputs, plain_outputs(blif))
     if net is not None:
         need_small(blif, net, is_source)
-        check_calls(written, net, component, layout, [circuit_of(text)[1] for _ in range(2)])
+        check_calls(written, net, component, layout, [circuit_of(text)[1] for _ in range(2)], relations)
 
 
-def check_text(kind: str, text: bytes, written: bytes, seed: int = 1, is_source: bool = False) -> None:
+def check_text(
+    kind: str, text: bytes, written: bytes, seed: int = 1, is_source: bool = False, relations: Sequence[Relation] = ()
+) -> None:
     """Raises Difference where a written text is none that may stand for the text."""
     blif, runner = circuit_of(text)
     net = net_of_text(kind, written, blif.name)
@@ -110,7 +119,7 @@ def check_text(kind: str, text: bytes, written: bytes, seed: int = 1, is_source:
     other = open_text(kind, written)
     rng = random.Random(seed)
     instant = 0
-    for item in event_items(rng, EVENTS, (), len(blif.inputs)):
+    for item in event_items(rng, EVENTS, relations, len(blif.inputs)):
         if isinstance(item, str):
             runner.reset()
             other.reset()
@@ -157,6 +166,7 @@ def judge(case: Case, got: Answer) -> tuple[str, Optional[str]]:
             told = (ABOUT[asked.command], b"", 0)
             return "Done", None if got == told else "what it writes about itself"
         text = text_asked(case, asked)
+        relations = numbered_relations(circuit_of(text)[0], asked) if asked.given else []
         if asked.component is not None:
             need_component(asked.component, text)
     except Refused as refused:
@@ -169,11 +179,11 @@ def judge(case: Case, got: Answer) -> tuple[str, Optional[str]]:
         return "Done", "status %r, err %r" % (status, err)
     try:
         if asked.component is not None:
-            check_embedded(text, asked.component, out, asked.is_source, asked.layout)
+            check_embedded(text, asked.component, out, asked.is_source, asked.layout, relations)
         elif asked.command == b"check":
             check_counts(text, out, asked.is_source)
         else:
-            check_text(asked.command.decode(), text, out, is_source=asked.is_source)
+            check_text(asked.command.decode(), text, out, is_source=asked.is_source, relations=relations)
     except Difference as difference:
         return "Done", "text: %s" % difference
     return "Done", None

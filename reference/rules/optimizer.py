@@ -7,13 +7,14 @@ Stands for `Words`, `Lines` and `Statuses` (crates/cec_opt_commands/specs/), `In
 from __future__ import annotations
 
 import re
-from dataclasses import dataclass
+from dataclasses import dataclass, replace
 from typing import Optional, Sequence
 
 from rules.blif import Blif, NetRunner, read_blif
 from rules.embedded_c import DECLARATIONS, DEFINITIONS, HEADER, Layout, name_fault
 from rules.outcomes import text_line
 from rules.text_faults import TextFault
+from rules.traces import Relation
 
 COMMANDS = (b"blif", b"c", b"verilog", b"check")
 HELP = b"""cec-opt blif TEXT      writes the optimized circuit of TEXT, a BLIF file, as BLIF
@@ -32,7 +33,11 @@ cec-opt verilog --reset NAME TEXT
     --initial          after NAME: the registers have their first values at power-up too
     --module M         after NAME: the name of the module, in place of the circuit's
     --prefix           after NAME: inputs are i_X and outputs o_X, where X is the signal
+    --encode           after NAME and with --source: the circuit with its state in a code, not the lighter one
 cec-opt check TEXT     writes the sizes of the circuit and of the optimized one
+    --never A,B[,..]   right after the command: at most one of these inputs of TEXT is ever present
+    --implies A,B      right after the command: the input B of TEXT is present whenever A is
+                       any number of both; events that break one of them do not count
     --source FILE      in place of TEXT: compiles the source FILE, with its state plain and in a code,
                        and takes the lighter circuit; a latch weighs as much as four gates
                        its dependencies may have a cycle, if it is constructive for every event
@@ -45,7 +50,8 @@ ABOUT = {b"--help": HELP, b"--version": b"cec-opt 0.1.0\n"}
 NAME = re.compile(rb"[A-Za-z][A-Za-z0-9_]*\Z")
 SOURCE, MAIN = OPTIONS = (b"--source", b"--main")
 EMBED, PACKED = b"--embed", b"--packed"
-RESET, MODULE = b"--reset", b"--module"
+RESET, MODULE, ENCODE = b"--reset", b"--module", b"--encode"
+NEVER, IMPLIES = RELATIONS = (b"--never", b"--implies")
 # The words after `verilog --reset NAME` that have no value.
 FLAGS = (b"--async", b"--active-low", b"--initial", b"--prefix")
 # The words for the file of embedded C.
@@ -84,6 +90,9 @@ class Asked:
     reset: Optional[bytes] = None
     flags: tuple[bytes, ...] = ()
     module: Optional[bytes] = None
+    is_encoded: bool = False
+    # The relations of the inputs of a text: the word of each, and its names.
+    given: tuple[tuple[bytes, tuple[bytes, ...]], ...] = ()
 
 
 def misuse(line: bytes) -> Refused:
@@ -106,6 +115,28 @@ def asked_of(words: Sequence[bytes]) -> Asked:
         return Asked(first)
     if first not in COMMANDS:
         raise misuse(b"unknown word: " + first)
+    given, more = relations_of(rest)
+    asked = task_asked(first, more)
+    if given and asked.is_source:
+        raise misuse(b"a source has relations of its own: " + rest[0])
+    return replace(asked, given=given)
+
+
+def relations_of(words: Sequence[bytes]) -> tuple[tuple[tuple[bytes, tuple[bytes, ...]], ...], Sequence[bytes]]:
+    """The relations that words begin with, and the words after them."""
+    given: tuple[tuple[bytes, tuple[bytes, ...]], ...] = ()
+    rest = words
+    while len(rest) > 1 and rest[0] in RELATIONS:
+        names = tuple(rest[1].split(b","))
+        if b"" in names or len(names) < 2 or (rest[0] == IMPLIES and len(names) > 2):
+            break
+        given += ((rest[0], names),)
+        rest = rest[2:]
+    return given, rest
+
+
+def task_asked(first: bytes, rest: Sequence[bytes]) -> Asked:
+    """What a command and the words after its relations ask for."""
     if first == b"verilog" and rest and rest[0] == RESET:
         return reset_asked(rest[1:])
     component, layout = None, Layout()
@@ -123,7 +154,7 @@ def asked_of(words: Sequence[bytes]) -> Asked:
             raise misuse(b"one word too many: " + rest[1])
         return Asked(first, rest[0], component=component, layout=layout)
     if len(rest) == 1:
-        raise misuse((b"no value after " if rest[0] in OPTIONS else b"not a file: ") + rest[0])
+        raise misuse((b"no value after " if rest[0] in OPTIONS + RELATIONS else b"not a file: ") + rest[0])
     given = options_of(rest)
     if SOURCE not in given:
         raise misuse(b"no file after " + first)
@@ -140,6 +171,7 @@ def reset_asked(words: Sequence[bytes]) -> Asked:
     file: Optional[bytes] = None
     flags: tuple[bytes, ...] = ()
     waiting: Optional[bytes] = None
+    is_encoded = False
     for word in words[1:]:
         if waiting is not None:
             taken = waiting in given or (file is not None and waiting in OPTIONS)
@@ -149,9 +181,11 @@ def reset_asked(words: Sequence[bytes]) -> Asked:
         elif word in (MODULE, *OPTIONS):
             waiting = word
         elif is_plain(word):
-            if file is not None or SOURCE in given or MAIN in given:
+            if file is not None or SOURCE in given or MAIN in given or is_encoded:
                 raise misuse(b"one word too many: " + word)
             file = word
+        elif word == ENCODE and file is None and not is_encoded:
+            is_encoded = True
         elif word not in FLAGS or word in flags:
             raise misuse(b"bad option: " + word)
         else:
@@ -162,7 +196,8 @@ def reset_asked(words: Sequence[bytes]) -> Asked:
     if source is None and (file is None or MAIN in given):
         raise misuse(b"no file after verilog")
     is_source = source is not None
-    return Asked(b"verilog", source or file, is_source, given.get(MAIN), reset=words[0], flags=flags, module=module)
+    main, reset = given.get(MAIN), words[0]
+    return Asked(b"verilog", source or file, is_source, main, reset=reset, flags=flags, module=module, is_encoded=is_encoded)
 
 
 def laid_out(words: Sequence[bytes]) -> tuple[Layout, Sequence[bytes]]:
@@ -230,6 +265,19 @@ def circuit_of(text: bytes) -> tuple[Blif, NetRunner]:
         return blif, NetRunner(blif)
     except TextFault as fault:
         raise Refused(BAD_TEXT, text_line(fault), fault.data)
+
+
+def numbered_relations(blif: Blif, asked: Asked) -> list[Relation]:
+    """The relations by the numbers of inputs; raises Refused at the first name that is no input."""
+    number = {name: at for at, name in reversed(list(enumerate(blif.inputs)))}
+    relations: list[Relation] = []
+    for word, names in asked.given:
+        for name in names:
+            if name not in number:
+                raise Refused(BAD_TEXT, b"no input: " + name)
+        numbers = [number[name] for name in names]
+        relations.append(("excludes", numbers) if word == NEVER else ("implies", *numbers))
+    return relations
 
 
 def plain_outputs(blif: Blif) -> list[bytes]:

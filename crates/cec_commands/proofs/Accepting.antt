@@ -87,12 +87,8 @@ use Rattle.cec_commands.proofs.Unrefused.{unrefused, passes_limit, within_limits
 -- ---- a trace has one end
 
 end_is_no_fault : (r : Reading) (fault : TraceFault) → next_group r ≡ groups.End → IsFault r fault → ⊥
-end_is_no_fault r (faults.BadByte place) e is = let both = sym e ∙ is in cc
-end_is_no_fault r (faults.UnknownInput instant name) e is = let both = sym e ∙ is in cc
-end_is_no_fault r (faults.Repeated instant name) e is = let both = sym e ∙ is in cc
-end_is_no_fault r (faults.BadReset instant) e is = let both = sym e ∙ is in cc
-end_is_no_fault r (faults.OpenInstant instant) e is = let both = sym e ∙ is in cc
 end_is_no_fault r (faults.Breaks instant number) e is = let both = sym e ∙ is.3 in cc
+end_is_no_fault r _ e is = let both = sym e ∙ is in cc
 
 -- a list is not longer than one that begins with it
 no_longer : (x : Item) (items more : List Item) → [] ≡ (x ∷ items) ++ more → ⊥
@@ -213,16 +209,9 @@ no_write_fault request content outcome s gains stays is =
 
 writing_end : (outcome : Outcome) → IsWriting outcome → (outcome ≡ WriteFault → ⊥) → (outcome ≡ Done) ⊎ (outcome ≡ NoMemory)
 writing_end Done w written = inl refl
-writing_end Usage w written = absurd w
-writing_end (FileFault file) w written = absurd w
-writing_end (Static fault) w written = absurd w
-writing_end (Cyclic cycle) w written = absurd w
-writing_end (Trace fault) w written = absurd w
-writing_end (BadText fault) w written = absurd w
-writing_end (Limit quantity) w written = absurd w
 writing_end WriteFault w written = absurd (written refl)
 writing_end NoMemory w written = inr refl
-writing_end (NotConstructive wires) w written = absurd w
+writing_end _ w written = absurd w
 
 made_end : (main : Option (List ℕ)) (bytes : List ℕ) (outcome : Outcome) → IsSource main bytes → MakesOn main outcome bytes → (outcome ≡ WriteFault → ⊥)
     → (outcome ≡ Done) ⊎ (outcome ≡ NoMemory)
@@ -487,16 +476,13 @@ exec_end : (via : Via) (held : List ℕ → List ℕ) (text trace : List ℕ) (o
     → OnTwo held text trace (ExecutesOn via) outcome → ((file : Which) → outcome ≡ FileFault file → ⊥) → (outcome ≡ WriteFault → ⊥)
     → GainsOut (Some (Exec via text trace)) (Some held) outcome s → (outcome ≡ Done) ⊎ (outcome ≡ NoMemory)
 exec_end via held text trace Done s w on unread written g = inl refl
-exec_end via held text trace Usage s w on unread written g = absurd on.on
 exec_end via held text trace (FileFault file) s w on unread written g = absurd (unread file refl)
-exec_end via held text trace (Static fault) s w on unread written g = absurd on.on
-exec_end via held text trace (Cyclic cycle) s w on unread written g = absurd on.on
 exec_end via held text trace (Trace fault) s w on unread written g = absurd (text_trace_fault via held text trace s fault w g)
 exec_end via held text trace (BadText fault) s w on unread written g = absurd (text_no_fault via (held text) fault w.text on.on.1)
 exec_end via held text trace (Limit quantity) s w on unread written g = absurd (text_limit via held text trace quantity w on.on on.long)
 exec_end via held text trace WriteFault s w on unread written g = absurd (written refl)
 exec_end via held text trace NoMemory s w on unread written g = inr refl
-exec_end via held text trace (NotConstructive wires) s w on unread written g = absurd on.on
+exec_end via held text trace _ s w on unread written g = absurd on.on
 
 -- ---- requests
 

@@ -9,17 +9,9 @@ use Rattle.cec_commands.specs.Jobs.{request_asked}
 use Rattle.cec_commands.specs.JobViews.{CanBeGenerated}
 
 generated : (words : List (List ℕ)) (asked : Asked) → AsksWell asked → CanBeGenerated (request_asked words asked)
-generated words asks.Help well = tt
-generated words (asks.Blif s) well = tt
-generated words (asks.C s) well = tt
-generated words (asks.Verilog s) well = tt
-generated words (asks.Grc s) well = tt
-generated words (asks.Check s) well = tt
-generated words (asks.Run via s trace) well = tt
-generated words (asks.RunTri s trace) well = tt
-generated words (asks.Exec via text trace) well = tt
 generated words (asks.Gen start branches None) well = record { some = well.0; few = well.1 }
 generated words (asks.Gen start branches (Some instants)) well = record { some = well.0; few = well.1 }
+generated words _ well = tt
 
 pub asked-generated : (words : List (List ℕ)) (asked : Asked) → asked_by words ≡ Some asked → CanBeGenerated (request_asked words asked)
 asked-generated words asked is = generated words asked (subst (λ o. IfSome o AsksWell) is (asks-well words))

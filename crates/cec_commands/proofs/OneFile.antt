@@ -33,32 +33,22 @@ use Rattle.cec_commands.proofs.Pieces.{answer_as, unread_answer}
 pub make_agrees : (content : Content) (task : Task) (job : Job) (outcome : Outcome) (bytes : List ℕ) → IsHeld content job.name bytes
     → MakesOn job.main outcome bytes
     → IsOutcomeOf (Some (Make task job)) content outcome
-make_agrees content task job Done bytes held m = (bytes, held, m)
 make_agrees content task job Usage bytes held m = absurd m
 make_agrees content task job (Unread file) bytes held m = absurd m
-make_agrees content task job (Static fault) bytes held m = (bytes, held, m)
-make_agrees content task job (Cyclic cycle) bytes held m = (bytes, held, m)
 make_agrees content task job (Trace fault) bytes held m = absurd m
 make_agrees content task job (BadText fault) bytes held m = absurd m
-make_agrees content task job (Limit quantity) bytes held m = (bytes, held, m)
-make_agrees content task job WriteFault bytes held m = (bytes, held, m)
-make_agrees content task job NoMemory bytes held m = (bytes, held, m)
 make_agrees content task job (NotConstructive wires) bytes held m = absurd m
+make_agrees content task job _ bytes held m = (bytes, held, m)
 
 pub make_counts : (task : Task) (job : Job) (outcome : Outcome) (bytes : List ℕ) (before now : ℕ) (failed_before failed_now : List ℕ)
     → MakesOn job.main outcome bytes
     → KeepsFaults before now failed_before failed_now → CountsFiles (Some (Make task job)) outcome before now failed_before failed_now
-make_counts task job Done bytes before now failed_before failed_now m k = (k.faults, k.failed)
 make_counts task job Usage bytes before now failed_before failed_now m k = absurd m
 make_counts task job (Unread file) bytes before now failed_before failed_now m k = absurd m
-make_counts task job (Static fault) bytes before now failed_before failed_now m k = (k.faults, k.failed)
-make_counts task job (Cyclic cycle) bytes before now failed_before failed_now m k = (k.faults, k.failed)
 make_counts task job (Trace fault) bytes before now failed_before failed_now m k = absurd m
 make_counts task job (BadText fault) bytes before now failed_before failed_now m k = absurd m
-make_counts task job (Limit quantity) bytes before now failed_before failed_now m k = (k.faults, k.failed)
-make_counts task job WriteFault bytes before now failed_before failed_now m k = (k.faults, k.failed)
-make_counts task job NoMemory bytes before now failed_before failed_now m k = (k.faults, k.failed)
 make_counts task job (NotConstructive wires) bytes before now failed_before failed_now m k = absurd m
+make_counts task job _ bytes before now failed_before failed_now m k = (k.faults, k.failed)
 
 pub make_out : (content : Content) (task : Task) (job : Job) (outcome : Outcome) (bytes : List ℕ) (s : SinkChange) → IsHeld content job.name bytes
     → LeavesAnswer task (IsAnswer task job.main bytes) s outcome → GainsOut (Some (Make task job)) content outcome s
@@ -121,20 +111,11 @@ err_unread request content job trace fault x old new before now is name gains =
 
 pub refused_makes : (job : Job) (refusal : refused.Refusal) (source : List ℕ) → length source ≤ SOURCE_BYTES → IsRefused source job.main refusal
     → MakesOn job.main (outcome_of refusal) source
-refused_makes job (refusals.Static fault) source short r = record { short = short; refused = r }
-refused_makes job (refusals.Cyclic cycle) source short r = record { short = short; refused = r }
 refused_makes job (refusals.Limit limits.Source) source short r = r
 refused_makes job (refusals.Limit limits.Trace) source short r = absurd r
 refused_makes job (refusals.Limit limits.Text) source short r = absurd r
-refused_makes job (refusals.Limit limits.Nesting) source short r = record { short = short; refused = r }
-refused_makes job (refusals.Limit limits.Statements) source short r = record { short = short; refused = r }
-refused_makes job (refusals.Limit limits.Signals) source short r = record { short = short; refused = r }
-refused_makes job (refusals.Limit limits.Kernel) source short r = record { short = short; refused = r }
-refused_makes job (refusals.Limit limits.Height) source short r = record { short = short; refused = r }
-refused_makes job (refusals.Limit limits.Traps) source short r = record { short = short; refused = r }
-refused_makes job (refusals.Limit limits.Instances) source short r = record { short = short; refused = r }
-refused_makes job (refusals.Limit limits.Wires) source short r = record { short = short; refused = r }
 refused_makes job refusals.NoMemory source short r = tt
+refused_makes job _ source short r = record { short = short; refused = r }
 
 pub refused_leaves : (Is : List ℕ → Type 0) (refusal : refused.Refusal) (s : SinkChange) → Appends s.before s.after s.faults_before s.faults_now []
     → OutcomeLeavesText Is s (outcome_of refusal)
@@ -157,9 +138,6 @@ err_usage asked content x old new before now e gains = record { subject = x; is_
 -- no request ends as words without a meaning do
 pub no_usage : (request : Request) (content : Content) → IsOutcomeOf (Some request) content Usage → ⊥
 no_usage Help content a = a
-no_usage (Make task job) content a = a.2
-no_usage (Run via job trace) content a = a.2
-no_usage (RunTri job trace) content a = a.2
-no_usage (Exec via text trace) content a = a.2
 no_usage (Generate start branches) content a = a
 no_usage (Load start branches instants) content a = a
+no_usage _ content a = a.2

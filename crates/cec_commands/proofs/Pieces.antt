@@ -95,13 +95,6 @@ written_writes ends.NoMemory = tt
 -- how the text of a source that compiles is written
 pub writing_makes : (main : Option (List ℕ)) (outcome : Outcome) (bytes : List ℕ) → IsWriting outcome → IsSource main bytes → MakesOn main outcome bytes
 writing_makes main Done bytes w is = is
-writing_makes main Usage bytes w is = absurd w
-writing_makes main (Unread file) bytes w is = absurd w
-writing_makes main (Static fault) bytes w is = absurd w
-writing_makes main (Cyclic cycle) bytes w is = absurd w
-writing_makes main (Trace fault) bytes w is = absurd w
-writing_makes main (BadText fault) bytes w is = absurd w
-writing_makes main (Limit quantity) bytes w is = absurd w
 writing_makes main WriteFault bytes w is = is
 writing_makes main NoMemory bytes w is = tt
-writing_makes main (NotConstructive wires) bytes w is = absurd w
+writing_makes main _ bytes w is = absurd w

@@ -55,20 +55,12 @@ graph_refused text main refusals.NoMemory h = h
 
 pub refused_reacts : (main : Option (List ℕ)) (refusal : refused.Refusal) (source : List ℕ) → length source ≤ SOURCE_BYTES → IsRefusedGraph source main refusal
     → ReactsOn main (outcome_of refusal) source
-refused_reacts main (refusals.Static fault) source short r = record { short = short; refused = r }
 refused_reacts main (refusals.Cyclic cycle) source short r = absurd r
 refused_reacts main (refusals.Limit limits.Source) source short r = r
 refused_reacts main (refusals.Limit limits.Trace) source short r = absurd r
 refused_reacts main (refusals.Limit limits.Text) source short r = absurd r
-refused_reacts main (refusals.Limit limits.Nesting) source short r = record { short = short; refused = r }
-refused_reacts main (refusals.Limit limits.Statements) source short r = record { short = short; refused = r }
-refused_reacts main (refusals.Limit limits.Signals) source short r = record { short = short; refused = r }
-refused_reacts main (refusals.Limit limits.Kernel) source short r = record { short = short; refused = r }
-refused_reacts main (refusals.Limit limits.Height) source short r = record { short = short; refused = r }
-refused_reacts main (refusals.Limit limits.Traps) source short r = record { short = short; refused = r }
-refused_reacts main (refusals.Limit limits.Instances) source short r = record { short = short; refused = r }
-refused_reacts main (refusals.Limit limits.Wires) source short r = record { short = short; refused = r }
 refused_reacts main refusals.NoMemory source short r = tt
+refused_reacts main _ source short r = record { short = short; refused = r }
 
 pub refused_leaves_reactions : (P : Result (Unit {0}) RunFault → Type 0) (A : UnknownWires → Type 0) (s : SinkChange) (refusal : refused.Refusal)
     → IsUntouched s → LeavesReactions P A s (outcome_of refusal)
@@ -118,43 +110,20 @@ reactions_end g unknown (Err (stops.NotConstructive number)) others h = absurd h
 
 pub reacted_on : (main : Option (List ℕ)) (bytes : List ℕ) (outcome : Outcome) → EndsReactions outcome → IsGraphSource main bytes → ReactsOn main outcome bytes
 reacted_on main bytes Done e is = is
-reacted_on main bytes Usage e is = absurd e
-reacted_on main bytes (Unread file) e is = absurd e
-reacted_on main bytes (Static fault) e is = absurd e
-reacted_on main bytes (Cyclic cycle) e is = absurd e
 reacted_on main bytes (Trace fault) e is = is
-reacted_on main bytes (BadText fault) e is = absurd e
-reacted_on main bytes (Limit quantity) e is = absurd e
 reacted_on main bytes WriteFault e is = is
 reacted_on main bytes NoMemory e is = tt
 reacted_on main bytes (NotConstructive wires) e is = is
+reacted_on main bytes _ e is = absurd e
 
 pub reacted_long : (content : Content) (trace : List ℕ) (outcome : Outcome) → EndsReactions outcome → LongTrace content trace outcome
-reacted_long content trace Done e = tt
-reacted_long content trace Usage e = tt
-reacted_long content trace (Unread file) e = tt
-reacted_long content trace (Static fault) e = tt
-reacted_long content trace (Cyclic cycle) e = tt
-reacted_long content trace (Trace fault) e = tt
-reacted_long content trace (BadText fault) e = tt
 reacted_long content trace (Limit quantity) e = absurd e
-reacted_long content trace WriteFault e = tt
-reacted_long content trace NoMemory e = tt
-reacted_long content trace (NotConstructive wires) e = tt
+reacted_long content trace _ e = tt
 
 pub reacted_counts : (trace : List ℕ) (outcome : Outcome) (a b : ℕ) (f g : List ℕ) → EndsReactions outcome → KeepsFaults a b f g
     → CountsTrace trace outcome a b f g
-reacted_counts trace Done a b f g e k = (k.faults, k.failed)
-reacted_counts trace Usage a b f g e k = (k.faults, k.failed)
 reacted_counts trace (Unread file) a b f g e k = absurd e
-reacted_counts trace (Static fault) a b f g e k = (k.faults, k.failed)
-reacted_counts trace (Cyclic cycle) a b f g e k = (k.faults, k.failed)
-reacted_counts trace (Trace fault) a b f g e k = (k.faults, k.failed)
-reacted_counts trace (BadText fault) a b f g e k = (k.faults, k.failed)
-reacted_counts trace (Limit quantity) a b f g e k = (k.faults, k.failed)
-reacted_counts trace WriteFault a b f g e k = (k.faults, k.failed)
-reacted_counts trace NoMemory a b f g e k = (k.faults, k.failed)
-reacted_counts trace (NotConstructive wires) a b f g e k = (k.faults, k.failed)
+reacted_counts trace _ a b f g e k = (k.faults, k.failed)
 
 -- what is left of a run, where each end says more
 pub reactions_as : (P Q : Result (Unit {0}) RunFault → Type 0) (A B : UnknownWires → Type 0) (s : SinkChange) (outcome : Outcome)

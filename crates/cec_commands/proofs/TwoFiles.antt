@@ -39,58 +39,24 @@ use Rattle.cec_text_io.proofs.Exports.{long_unread, some_bytes}
 
 pub two_agree : (content : Content) (name trace : List ℕ) (On : Outcome → List ℕ → Type 0) (outcome : Outcome) (bytes : List ℕ) → IsHeld content name bytes
     → On outcome bytes → LongTrace content trace outcome → AgreesOnTwo content name trace On outcome
-two_agree content name trace On Done bytes held on long = (bytes, held, on)
-two_agree content name trace On Usage bytes held on long = (bytes, held, on)
 two_agree content name trace On (Unread First) bytes held on long = tt
-two_agree content name trace On (Unread Second) bytes held on long = (bytes, held, on)
-two_agree content name trace On (Static fault) bytes held on long = (bytes, held, on)
-two_agree content name trace On (Cyclic cycle) bytes held on long = (bytes, held, on)
-two_agree content name trace On (Trace fault) bytes held on long = (bytes, held, on)
-two_agree content name trace On (BadText fault) bytes held on long = (bytes, held, on)
-two_agree content name trace On (Limit limits.Source) bytes held on long = (bytes, held, on)
 two_agree content name trace On (Limit limits.Trace) bytes held on long = ((bytes, held, on), long)
-two_agree content name trace On (Limit limits.Text) bytes held on long = (bytes, held, on)
-two_agree content name trace On (Limit limits.Nesting) bytes held on long = (bytes, held, on)
-two_agree content name trace On (Limit limits.Statements) bytes held on long = (bytes, held, on)
-two_agree content name trace On (Limit limits.Signals) bytes held on long = (bytes, held, on)
-two_agree content name trace On (Limit limits.Kernel) bytes held on long = (bytes, held, on)
-two_agree content name trace On (Limit limits.Height) bytes held on long = (bytes, held, on)
-two_agree content name trace On (Limit limits.Traps) bytes held on long = (bytes, held, on)
-two_agree content name trace On (Limit limits.Instances) bytes held on long = (bytes, held, on)
-two_agree content name trace On (Limit limits.Wires) bytes held on long = (bytes, held, on)
-two_agree content name trace On WriteFault bytes held on long = (bytes, held, on)
-two_agree content name trace On NoMemory bytes held on long = (bytes, held, on)
-two_agree content name trace On (NotConstructive wires) bytes held on long = (bytes, held, on)
+two_agree content name trace On _ bytes held on long = (bytes, held, on)
 
 pub two_count : (request : Request) (trace : List ℕ) (outcome : Outcome) (a b c : ℕ) (f g h : List ℕ) → ((n : List ℕ) → n ≡ trace → IsFileOf request Second n)
     → KeepsFaults a b f g → CountsTrace trace outcome b c g h → CountsFiles (Some request) outcome a c f h
-two_count request trace Done a b c f g h is k x = (x.0 ∙ k.faults, x.1 ∙ k.failed)
-two_count request trace Usage a b c f g h is k x = (x.0 ∙ k.faults, x.1 ∙ k.failed)
 two_count request trace (Unread First) a b c f g h is k x = absurd x
 two_count request trace (Unread Second) a b c f g h is k x = (subst (λ n. Rose n c) k.faults x.0, is h x.1)
-two_count request trace (Static fault) a b c f g h is k x = (x.0 ∙ k.faults, x.1 ∙ k.failed)
-two_count request trace (Cyclic cycle) a b c f g h is k x = (x.0 ∙ k.faults, x.1 ∙ k.failed)
-two_count request trace (Trace fault) a b c f g h is k x = (x.0 ∙ k.faults, x.1 ∙ k.failed)
-two_count request trace (BadText fault) a b c f g h is k x = (x.0 ∙ k.faults, x.1 ∙ k.failed)
-two_count request trace (Limit quantity) a b c f g h is k x = (x.0 ∙ k.faults, x.1 ∙ k.failed)
-two_count request trace WriteFault a b c f g h is k x = (x.0 ∙ k.faults, x.1 ∙ k.failed)
-two_count request trace NoMemory a b c f g h is k x = (x.0 ∙ k.faults, x.1 ∙ k.failed)
-two_count request trace (NotConstructive wires) a b c f g h is k x = (x.0 ∙ k.faults, x.1 ∙ k.failed)
+two_count request trace _ a b c f g h is k x = (x.0 ∙ k.faults, x.1 ∙ k.failed)
 
 -- what is left of a run, where each end says more
 pub leaves_as : (P Q : Result (Unit {0}) RunFault → Type 0) (s : SinkChange) (outcome : Outcome) → ((r : Result (Unit {0}) RunFault) → P r → Q r)
     → LeavesRun P s outcome → LeavesRun Q s outcome
 leaves_as P Q s Done f l = f (Ok tt) l
-leaves_as P Q s Usage f l = l
-leaves_as P Q s (Unread file) f l = l
-leaves_as P Q s (Static fault) f l = l
-leaves_as P Q s (Cyclic cycle) f l = l
 leaves_as P Q s (Trace fault) f l = f (Err (runs.Trace fault)) l
-leaves_as P Q s (BadText fault) f l = l
-leaves_as P Q s (Limit quantity) f l = l
 leaves_as P Q s WriteFault f l = f (Err runs.Write) l
 leaves_as P Q s NoMemory f l = ⊎_elim inl (λ x. inr (f (Err runs.NoMemory) x)) l
-leaves_as P Q s (NotConstructive wires) f l = l
+leaves_as P Q s _ f l = l
 
 -- ---- the first file is not read
 
@@ -193,37 +159,16 @@ run_left content trace via main bytes s r items held runs =
 
 pub refused_runs : (via : TextForm) (job : Job) (refusal : refused.Refusal) (source : List ℕ) → length source ≤ SOURCE_BYTES → IsRefused source job.main refusal
     → RunsOn via job.main (outcome_of refusal) source
-refused_runs via job (refusals.Static fault) source short r = record { short = short; refused = r }
-refused_runs via job (refusals.Cyclic cycle) source short r = record { short = short; refused = r }
 refused_runs via job (refusals.Limit limits.Source) source short r = r
 refused_runs via job (refusals.Limit limits.Trace) source short r = absurd r
 refused_runs via job (refusals.Limit limits.Text) source short r = absurd r
-refused_runs via job (refusals.Limit limits.Nesting) source short r = record { short = short; refused = r }
-refused_runs via job (refusals.Limit limits.Statements) source short r = record { short = short; refused = r }
-refused_runs via job (refusals.Limit limits.Signals) source short r = record { short = short; refused = r }
-refused_runs via job (refusals.Limit limits.Kernel) source short r = record { short = short; refused = r }
-refused_runs via job (refusals.Limit limits.Height) source short r = record { short = short; refused = r }
-refused_runs via job (refusals.Limit limits.Traps) source short r = record { short = short; refused = r }
-refused_runs via job (refusals.Limit limits.Instances) source short r = record { short = short; refused = r }
-refused_runs via job (refusals.Limit limits.Wires) source short r = record { short = short; refused = r }
 refused_runs via job refusals.NoMemory source short r = tt
+refused_runs via job _ source short r = record { short = short; refused = r }
 
 pub refused_long : (content : Content) (trace : List ℕ) (main : Option (List ℕ)) (refusal : refused.Refusal) (source : List ℕ) → IsRefused source main refusal
     → LongTrace content trace (outcome_of refusal)
-refused_long content trace main (refusals.Static fault) source r = tt
-refused_long content trace main (refusals.Cyclic cycle) source r = tt
-refused_long content trace main (refusals.Limit limits.Source) source r = tt
 refused_long content trace main (refusals.Limit limits.Trace) source r = absurd r
-refused_long content trace main (refusals.Limit limits.Text) source r = tt
-refused_long content trace main (refusals.Limit limits.Nesting) source r = tt
-refused_long content trace main (refusals.Limit limits.Statements) source r = tt
-refused_long content trace main (refusals.Limit limits.Signals) source r = tt
-refused_long content trace main (refusals.Limit limits.Kernel) source r = tt
-refused_long content trace main (refusals.Limit limits.Height) source r = tt
-refused_long content trace main (refusals.Limit limits.Traps) source r = tt
-refused_long content trace main (refusals.Limit limits.Instances) source r = tt
-refused_long content trace main (refusals.Limit limits.Wires) source r = tt
-refused_long content trace main refusals.NoMemory source r = tt
+refused_long content trace main _ source r = tt
 
 pub refused_counts : (trace : List ℕ) (refusal : refused.Refusal) (a : ℕ) (f : List ℕ) → CountsTrace trace (outcome_of refusal) a a f f
 refused_counts trace (refusals.Static fault) a f = (refl, refl)

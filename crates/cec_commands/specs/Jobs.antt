@@ -33,7 +33,7 @@ pub data Request : Type 0 where
   Exec : (via : Via) (text trace : List ℕ) → Request
   -- a generated source, by its start number and its number of branches
   Generate : (start branches : ℕ) → Request
-  -- the numbers of its run over so many drawn instants
+  -- the numbers of its run over this number of random instants
   Load : (start branches instants : ℕ) → Request
 
 -- the word at a place

@@ -137,7 +137,7 @@ written_of others = None
 abbrev pub OutcomeLeavesText : (List ℕ → Type 0) → SinkChange → Outcome → Type 0
 OutcomeLeavesText IsText s outcome = texts.LeavesText IsText s (written_of outcome)
 
--- A text that is written piece by piece: where memory is wanting between two pieces, a prefix of it is there.
+-- A text that is written piece by piece: if memory runs out between two pieces, a prefix of it is there.
 abbrev pub OutcomeLeavesPieces : (List ℕ → Type 0) → SinkChange → Outcome → Type 0
 OutcomeLeavesPieces IsText s outcome = texts.LeavesPieces IsText s (written_of outcome)
 

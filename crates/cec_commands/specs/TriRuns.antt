@@ -26,7 +26,7 @@ use Rattle.cec_compile.specs.Refusals.{KeepsGraphLimits}
 use Rattle.cec_commands.specs.Runs.{ShowsRun, LeavesRun, line_answer}
 use Rattle.cec_compile.specs.Sources.{IsRefusedSource}
 
--- The bytes stand for a program whose graph keeps the limits; its dependencies may go around.
+-- The bytes stand for a program whose graph keeps the limits; its dependencies may have a cycle.
 pub record IsGraphSource (main : Option (List ℕ)) (bytes : List ℕ) : Type 0 where
   pub program : Program
   pub short : length bytes ≤ SOURCE_BYTES

@@ -53,7 +53,7 @@ pub(crate) enum Request<'a> {
     Exec(Via, &'a str, &'a str),
     /// A generated source, by its start number and its number of branches.
     Generate(u64, u32),
-    /// The numbers of its run over a number of drawn instants.
+    /// The numbers of its run over a number of random instants.
     Load(u64, u32, u32),
 }
 

@@ -17,7 +17,7 @@ pub fn accepted_requests_are_done()
 {}
 
 /// Where `run --via tri` comes to an instant in which the program is not constructive, and nothing is refused before,
-/// `cec` ends with the number of that instant, unless memory is wanting or a file or sink fails.
+/// `cec` ends with the number of that instant, unless memory runs out or a file or sink fails.
 pub fn stopping_runs_are_told()
     ensures { StoppingRunsAreTold }
 {}

@@ -19,10 +19,10 @@ use Rattle.cec_compile.specs.WireNames.{TextNames}
 use Rattle.cec_compile.specs.declared.passes.Compiled.{Compiled}
 
 -- A netlist is one of a compiled program whose latches hold the state in a code. It has the names of the program's own
--- netlist, and its carried wires in the same order. The first latch tells the first instant, and there is one for each
+-- netlist, and its carried wires in the same order. The first latch marks the first instant, and there is one for each
 -- bit of the code, all false at first. Over all items it shows the same, carries the same values, and so keeps what the
--- program means. Beside the gates of the program's netlist it has at most 64 for each pair of a node of the selection
--- tree and a latch, and nothing is left to simplify.
+-- program means. In addition to the gates of the program's netlist it has at most 64 for each pair of a node of the
+-- selection tree and a latch, and nothing is left to simplify.
 pub record IsEncoded (c : Compiled) (p : Program) (net : Netlist) : Type 0 where
   pub name : net.name ≡ (netlist_of c.net).name
   pub inputs : net.inputs ≡ (netlist_of c.net).inputs

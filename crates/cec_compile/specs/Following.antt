@@ -1,4 +1,4 @@
--- Contract: what `compile` says in addition to of the netlist of a graph, in every state and over all items.
+-- Contract: what else `compile` says of the netlist of a graph, in every state and over all items.
 use Rattle.std.specs.Prelude.{◌≤◌, length}
 use Rattle.est_kernel.specs.Plain.{program_of}
 use Rattle.grc_formulas.specs.Sizes.{rows_at_most}

@@ -1,4 +1,4 @@
--- Contract: the graph of a source, whose dependencies may go around, and why a source has none.
+-- Contract: the graph of a source, whose dependencies may have a cycle, and why a source has none.
 use Rattle.std.specs.Prelude.{◌≡◌, ◌≤◌, ℕ, List, length, map, Option}
 use Rattle.base_types.specs.declared.bounds.TheConstants.Limits.{INSTANCES}
 use Rattle.est_kernel.specs.Plain.{Program}

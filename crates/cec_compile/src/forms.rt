@@ -1,7 +1,7 @@
 // The forms of the texts of sources.
 
 /// A form of the texts that are made of sources.
-#[derive(Clone, Copy, Debug, PartialEq, Eq)]
+#[derive(Clone, Copy)]
 pub enum TextForm {
     /// BLIF, with a latch for each pause.
     Blif,

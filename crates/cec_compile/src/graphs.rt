@@ -1,4 +1,4 @@
-// The graphs of sources, whose dependencies may go around.
+// The graphs of sources, whose dependencies may have a cycle.
 
 ghost use Rattle.std.specs.Prelude.{◌≡◌, ◌≤◌, length, IfOk, IfErr, option_map};
 ghost use Rattle.est_kernel.specs.CodeLists.{AreCodesOf};
@@ -16,8 +16,7 @@ use grc_layout::{copies, select};
 use std::alloc::Global;
 
 /// The graph of a source, which has at most 1 MiB. `main` is the name of the main module; without it that is the first
-/// one. The errors are those of `blif_of`, but a source is not refused for a cycle: the graph's dependencies may go
-/// around.
+/// one. The errors are those of `blif_of`, but a source is not refused for a cycle of the graph's dependencies.
 pub fn graph_of(alloc: Global, text: &[u8], main: Option<&[u8]>) -> Result<Graph, Refusal>
     requires { length text.now ≤ Limits.SOURCE_BYTES }
     ensures built { IfOk result (StandsForBuilt text.now (option_map (λ m. m.now) main.entry)) }
@@ -27,8 +26,9 @@ pub fn graph_of(alloc: Global, text: &[u8], main: Option<&[u8]>) -> Result<Graph
     built_graph(alloc, analysed)
 }
 
-/// The graph of a kernel program.
-pub(crate) fn built_graph(alloc: Global, analysed: Analysed) -> Result<Graph, Refusal>
+/// The graph of a kernel program with its static codes, whose dependencies may have a cycle. It is refused where it has
+/// no graph: a limit is passed, or memory runs out.
+pub fn built_graph(alloc: Global, analysed: Analysed) -> Result<Graph, Refusal>
     requires formed { IsWellFormed (program_of analysed.program) }
     requires names { HasNames (program_of analysed.program) }
     requires no_loop { NoInstantLoop (term_of analysed.program.body) }

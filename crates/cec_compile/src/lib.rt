@@ -20,7 +20,7 @@ mod wire_texts;
 pub use compiler::{blif_of, c_of, encoded_blif_of, verilog_of};
 pub use cycles::Cycle;
 pub use forms::TextForm;
-pub use graphs::graph_of;
+pub use graphs::{built_graph, graph_of};
 pub use guarded_texts::{GuardedMade, guarded_c_of, guarded_made, write_guarded_text};
 pub use made::{Made, made_in, source_made};
 pub use passes::{Compiled, Graphed, compile, compile_program, compile_unshared, source_graph};

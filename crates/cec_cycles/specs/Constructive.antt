@@ -10,13 +10,14 @@ use Rattle.cec_compile.specs.Refusals.{IsRefused, KeepsGraphLimits}
 use Rattle.cec_compile.specs.declared.cycles.Cycle.{Cycle}
 use Rattle.cec_compile.specs.declared.refusal.Refusal.{Refusal}
 use Rattle.cec_compile.specs.declared.refusal.Refusal.TheVariants as refusals
-use Rattle.cec_opt_sources.specs.LightNets.{IsLightNetOf}
+use Rattle.cec_opt_sources.specs.LightNets.{IsCodedNetOf}
+use Rattle.cec_opt_sources.specs.declared.light.Coding.{Coding}
 use Rattle.cec_cycles.specs.Findings.{IsStuck}
 use Rattle.cec_cycles.specs.declared.findings.CycleRefusal.{CycleRefusal}
 use Rattle.cec_cycles.specs.declared.findings.CycleRefusal.TheVariants.{Source, NotConstructive, Undecided, TooManyNets}
 use Rattle.cec_cycles.specs.declared.findings.Stuck.{Stuck}
 
--- The bytes stand for a program whose graph keeps the limits; its dependencies may go round in circles. The netlist, or
+-- The bytes stand for a program whose graph keeps the limits; its dependencies may have a cycle. The netlist, or
 -- the text in BLIF, C or Verilog, keeps what the program means. The first of these names the program.
 
 pub record StandsForConstructiveMade (text : List ℕ) (main : Option (List ℕ)) (program : Program) (net : Netlist) :
@@ -55,9 +56,10 @@ pub record StandsForConstructiveVerilog (text : List ℕ) (main : Option (List �
 abbrev pub HasCycle : List ℕ → Option (List ℕ) → Cycle → Type 0
 HasCycle text main cycle = IsRefused text main (refusals.Cyclic cycle)
 
--- without a cycle it is the lighter one of the small netlists
-abbrev pub IsConstructiveNetOf : List ℕ → Option (List ℕ) → Netlist → Type 0
-IsConstructiveNetOf text main net = IsLightNetOf text main net ⊎ ((cycle : Cycle) × HasCycle text main cycle)
+-- without a cycle it is one of the small netlists, the lighter one or the one whose latches hold the state in a code
+abbrev pub IsConstructiveNetOf : Coding → List ℕ → Option (List ℕ) → Netlist → Type 0
+IsConstructiveNetOf coding text main net =
+    IsCodedNetOf coding text main net ⊎ ((cycle : Cycle) × HasCycle text main cycle)
 
 -- The bytes stand for a program that is not constructive. Its dependency relation has a cycle.
 pub record StandsForStuck (text : List ℕ) (main : Option (List ℕ)) (stuck : Stuck) : Type 0 where

@@ -14,6 +14,7 @@ ghost use Rattle.cec_cycles.specs.Findings.{IsFinding};
 use crate::findings::Constructiveness;
 use crate::stopping::finding_over;
 use base_types::NoMemory;
+use cec_opt_sources::related_small;
 use cec_prove_sources::relation_clauses;
 use est_kernel::KernelProgram;
 use grc_graph::Graph;
@@ -29,7 +30,7 @@ use std::alloc::Global;
 const PASSES: usize = 8;
 
 /// Whether a program is constructive over every list of events that meet its relations, and resets, by its graph,
-/// whose dependencies may go round in circles. Where it is, the netlist keeps what the program means (`NetKeeps`).
+/// whose dependencies may have a cycle. Where it is, the netlist keeps what the program means (`NetKeeps`).
 /// Where it is not, a trace leads to an instant to which it has no reaction (`IsStuck`). The effort is one of
 /// `net_search`, for each schedule that is tried. The error is out of memory.
 ///
@@ -82,7 +83,7 @@ fn found_by(
     let decision = alarm_decided(alloc, &graph.program, &nets.check, effort)?;
     match decision {
         Decision::Never => {
-            let net = optimize(alloc, &nets.net)?;
+            let net = related_small(alloc, &graph.program, &nets.net)?;
             Ok(Some(Constructiveness::Constructive(net)))
         }
         Decision::Reached(events) => finding_over(alloc, graph, &nets.net, &events),

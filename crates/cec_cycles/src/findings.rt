@@ -1,4 +1,4 @@
-// What is found of a program whose dependencies go round in circles.
+// What is found of a program whose dependencies have a cycle.
 
 ghost use Rattle.std.specs.Prelude.{◌≡◌, codes, map};
 ghost use Rattle.grc_graph.specs.PlainWireNames.{wire_name_of};

@@ -1,4 +1,4 @@
-//! Programs whose dependencies go round in circles, compiled where they are constructive.
+//! Programs whose dependencies have a cycle, compiled where they are constructive.
 //!
 //! `net_loops` makes a netlist of the program's graph, along a schedule in which the nodes of a circle occur several
 //! times, and a check of it. The check has one output. It is true in an instant in which the schedule leaves something

@@ -5,6 +5,7 @@ ghost use Rattle.est_kernel.specs.Plain.{program_of};
 ghost use Rattle.net_ir.specs.Runs.{netlist_of};
 ghost use Rattle.cec_compile.specs.Refusals.{IsRefused};
 ghost use Rattle.cec_compile.specs.declared.cycles.Cycle.{Cycle};
+ghost use Rattle.cec_opt_sources.specs.declared.light.Coding.TheVariants.{Lighter};
 ghost use Rattle.cec_cycles.specs.Constructive.{HasCycle, IsConstructiveNetOf, IsRefusedConstructive};
 ghost use Rattle.cec_cycles.specs.Constructive.{StandsForConstructiveMade, StandsForConstructiveNet};
 
@@ -12,33 +13,35 @@ use crate::deciding::constructiveness_of;
 use crate::findings::{Constructiveness, CycleRefusal};
 use base_types::{Limits, NoMemory};
 use cec_compile::{Cycle, Made, Refusal, graph_of};
-use cec_opt_sources::light_net;
+use cec_opt_sources::{Coding, coded_net};
 use grc_graph::Graph;
 use grc_order::Picker;
 use net_ir::Net;
 use std::alloc::Global;
 
-/// The netlist of a source whose dependencies may go round in circles, where its program is constructive over every
+/// The netlist of a source whose dependencies may have a cycle, where its program is constructive over every
 /// list of events that meet its relations, and resets. It keeps what the program means (`NetKeeps`). Where the
-/// dependencies have no cycle, it is that of `cec_opt_sources::light_net`. The effort is one of `net_search`.
+/// dependencies have no cycle, it is that of `cec_opt_sources::coded_net`; with a cycle, the state has no code. The
+/// effort is one of `net_search`.
 ///
-/// It refuses what `light_net` refuses, except for a cycle. For that it has three causes: the program is not
+/// It refuses what `coded_net` refuses, except for a cycle. For that it has three causes: the program is not
 /// constructive, with a trace; it was not shown within the effort; the netlist would be too large.
 pub fn constructive_net<P: Picker>(
     alloc: Global,
     text: &[u8],
     main: Option<&[u8]>,
     picker: &mut P,
+    coding: Coding,
     effort: u64,
 ) -> Result<Net, CycleRefusal>
     requires { length text.now ≤ Limits.SOURCE_BYTES }
     ensures compiles { IfOk result (λ net. StandsForConstructiveNet text.now
         (option_map (λ m. m.now) main.entry) (netlist_of net)) }
-    ensures made { IfOk result (λ net. IsConstructiveNetOf text.now
+    ensures made { IfOk result (λ net. IsConstructiveNetOf coding text.now
         (option_map (λ m. m.now) main.entry) (netlist_of net)) }
     ensures refuses { IfErr result (IsRefusedConstructive text.now (option_map (λ m. m.now) main.entry)) }
 {
-    match light_net(alloc, text, main, picker) {
+    match coded_net(alloc, text, main, picker, coding) {
         Ok(net) => Ok(net),
         Err(refusal) => {
             let made = cyclic_made(alloc, text, main, refusal, effort)?;
@@ -60,7 +63,7 @@ pub fn cyclic_net(
     requires cyclic { HasCycle text.now (option_map (λ m. m.now) main) cycle }
     ensures compiles { IfOk result (λ net. StandsForConstructiveNet text.now
         (option_map (λ m. m.now) main.entry) (netlist_of net)) }
-    ensures made { IfOk result (λ net. IsConstructiveNetOf text.now
+    ensures made { IfOk result (λ net. IsConstructiveNetOf Lighter text.now
         (option_map (λ m. m.now) main.entry) (netlist_of net)) }
     ensures refuses { IfErr result (IsRefusedConstructive text.now (option_map (λ m. m.now) main.entry)) }
 {

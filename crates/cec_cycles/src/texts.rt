@@ -9,12 +9,13 @@ use crate::sources::constructive_net;
 use base_types::{Limits, NoMemory};
 use blif_text::write_blif;
 use cec_compile::Refusal;
+use cec_opt_sources::Coding;
 use csub_text::write_c;
 use grc_order::Picker;
 use std::alloc::Global;
 use vlog_text::write_verilog;
 
-/// The BLIF text of a source whose dependencies may go round in circles, where its program is constructive over every
+/// The BLIF text of a source whose dependencies may have a cycle, where its program is constructive over every
 /// list of events that meet its relations, and resets. The compiler-correctness theorem holds of the text
 /// (`TextKeeps`), word for word as of that of `cec_compile::blif_of`: it has a reading by the BLIF profile, and over
 /// every such list each reaction of the source is constructive, the text has a run, any two runs agree, and the outputs
@@ -38,7 +39,7 @@ pub fn constructive_blif_of<P: Picker>(
         (option_map (λ m. m.now) main.entry) written.items) }
     ensures refuses { IfErr result (IsRefusedConstructive text.now (option_map (λ m. m.now) main.entry)) }
 {
-    let net = constructive_net(alloc, text, main, picker, effort)?;
+    let net = constructive_net(alloc, text, main, picker, Coding::Lighter, effort)?;
     match write_blif(alloc, &net) {
         Ok(written) => Ok(written),
         Err(NoMemory) => Err(CycleRefusal::Source(Refusal::NoMemory)),
@@ -58,7 +59,7 @@ pub fn constructive_c_of<P: Picker>(
         (option_map (λ m. m.now) main.entry) written.items) }
     ensures refuses { IfErr result (IsRefusedConstructive text.now (option_map (λ m. m.now) main.entry)) }
 {
-    let net = constructive_net(alloc, text, main, picker, effort)?;
+    let net = constructive_net(alloc, text, main, picker, Coding::Lighter, effort)?;
     match write_c(alloc, &net) {
         Ok(written) => Ok(written),
         Err(NoMemory) => Err(CycleRefusal::Source(Refusal::NoMemory)),
@@ -78,7 +79,7 @@ pub fn constructive_verilog_of<P: Picker>(
         (option_map (λ m. m.now) main.entry) written.items) }
     ensures refuses { IfErr result (IsRefusedConstructive text.now (option_map (λ m. m.now) main.entry)) }
 {
-    let net = constructive_net(alloc, text, main, picker, effort)?;
+    let net = constructive_net(alloc, text, main, picker, Coding::Lighter, effort)?;
     match write_verilog(alloc, &net) {
         Ok(written) => Ok(written),
         Err(NoMemory) => Err(CycleRefusal::Source(Refusal::NoMemory)),

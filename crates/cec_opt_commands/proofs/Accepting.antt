@@ -19,7 +19,7 @@ not_long n limit short long = omega (arith, short, long)
 answer_rose : (task : Task) (P : List ℕ → Type 0) (s : SinkChange) → LeavesAnswer task P s WriteFault → Rose s.faults_before s.faults_now
 answer_rose (Write form) P s l = l.2.faults
 answer_rose (Embed component layout) P s l = l.2.faults
-answer_rose (Reset options) P s l = l.2.faults
+answer_rose (Reset options coding) P s l = l.2.faults
 answer_rose Check P s l = l.2.faults
 
 graph_refused : (main : Option (List ℕ)) (source : List ℕ) (refusal : Refusal) → IsNotRefused main source → IsGraphRefusedFor main refusal source → ⊥
@@ -42,25 +42,25 @@ accepted_done (Tell about) held (Undecided cycle) before now failed_before faile
 accepted_done (Tell about) held (TooManyNets cycle) before now failed_before failed_now s accepted agrees counts still out steady = absurd agrees
 accepted_done (Tell about) held WriteFault before now failed_before failed_now s accepted agrees counts still out steady = absurd (steady out.2.faults)
 accepted_done (Tell about) held NoMemory before now failed_before failed_now s accepted agrees counts still out steady = inr refl
-accepted_done (Do task name) held Done before now failed_before failed_now s accepted agrees counts still out steady = inl refl
-accepted_done (Do task name) held Usage before now failed_before failed_now s accepted agrees counts still out steady = absurd agrees.2
-accepted_done (Do task name) held FileFault before now failed_before failed_now s accepted agrees counts still out steady =
+accepted_done (Do task given name) held Done before now failed_before failed_now s accepted agrees counts still out steady = inl refl
+accepted_done (Do task given name) held Usage before now failed_before failed_now s accepted agrees counts still out steady = absurd agrees.2
+accepted_done (Do task given name) held FileFault before now failed_before failed_now s accepted agrees counts still out steady =
     absurd (still counts.faults)
-accepted_done (Do task name) held (BadText fault) before now failed_before failed_now s accepted agrees counts still out steady =
-    absurd ((subst IsFaultless (sym agrees.1) accepted.0).faultless fault agrees.2.1)
-accepted_done (Do task name) held (BadComponent fault) before now failed_before failed_now s accepted agrees counts still out steady =
-    absurd ((subst (FitsText task) (sym agrees.1) accepted.1).component fault agrees.2)
-accepted_done (Do task name) held (BadModule fault) before now failed_before failed_now s accepted agrees counts still out steady =
-    absurd ((subst (FitsText task) (sym agrees.1) accepted.1).names fault agrees.2)
-accepted_done (Do task name) held TooLong before now failed_before failed_now s accepted agrees counts still out steady =
-    absurd (not_long _ _ (subst IsFaultless (sym agrees.1) accepted.0).short agrees.2)
-accepted_done (Do task name) held (Refused refusal) before now failed_before failed_now s accepted agrees counts still out steady = absurd agrees.2
-accepted_done (Do task name) held (NotConstructive stuck) before now failed_before failed_now s accepted agrees counts still out steady = absurd agrees.2
-accepted_done (Do task name) held (Undecided cycle) before now failed_before failed_now s accepted agrees counts still out steady = absurd agrees.2
-accepted_done (Do task name) held (TooManyNets cycle) before now failed_before failed_now s accepted agrees counts still out steady = absurd agrees.2
-accepted_done (Do task name) held WriteFault before now failed_before failed_now s accepted agrees counts still out steady =
-    absurd (steady (answer_rose task (IsTextOf task name (Some held)) s out))
-accepted_done (Do task name) held NoMemory before now failed_before failed_now s accepted agrees counts still out steady = inr refl
+accepted_done (Do task given name) held (BadText fault) before now failed_before failed_now s accepted agrees counts still out steady =
+    absurd ((subst (IsFaultless given) (sym agrees.1) accepted.0).faultless fault agrees.2.1)
+accepted_done (Do task given name) held (BadComponent fault) before now failed_before failed_now s accepted agrees counts still out steady =
+    absurd ((subst (FitsText task given) (sym agrees.1) accepted.1).component fault agrees.2)
+accepted_done (Do task given name) held (BadModule fault) before now failed_before failed_now s accepted agrees counts still out steady =
+    absurd ((subst (FitsText task given) (sym agrees.1) accepted.1).names fault agrees.2)
+accepted_done (Do task given name) held TooLong before now failed_before failed_now s accepted agrees counts still out steady =
+    absurd (not_long _ _ (subst (IsFaultless given) (sym agrees.1) accepted.0).short agrees.2)
+accepted_done (Do task given name) held (Refused refusal) before now failed_before failed_now s accepted agrees counts still out steady = absurd agrees.2
+accepted_done (Do task given name) held (NotConstructive stuck) before now failed_before failed_now s accepted agrees counts still out steady = absurd agrees.2
+accepted_done (Do task given name) held (Undecided cycle) before now failed_before failed_now s accepted agrees counts still out steady = absurd agrees.2
+accepted_done (Do task given name) held (TooManyNets cycle) before now failed_before failed_now s accepted agrees counts still out steady = absurd agrees.2
+accepted_done (Do task given name) held WriteFault before now failed_before failed_now s accepted agrees counts still out steady =
+    absurd (steady (answer_rose task (IsTextOf task given name (Some held)) s out))
+accepted_done (Do task given name) held NoMemory before now failed_before failed_now s accepted agrees counts still out steady = inr refl
 accepted_done (Make task name main) held Done before now failed_before failed_now s accepted agrees counts still out steady = inl refl
 accepted_done (Make task name main) held Usage before now failed_before failed_now s accepted agrees counts still out steady = absurd agrees.2
 accepted_done (Make task name main) held FileFault before now failed_before failed_now s accepted agrees counts still out steady =

@@ -1,5 +1,7 @@
 -- The text that is written of an optimized netlist is what is asked for.
-use Rattle.std.proofs.Common.{ℕ, List, Option, inl, inr}
+use Rattle.std.proofs.Common.{ℕ, List, Option, Result, Ok, Err, inl, inr}
+use Rattle.std.specs.Prelude.{IfOk}
+use Rattle.base_types.specs.declared.stop.Stop.{Stop}
 use Rattle.est_kernel.specs.Plain.{Program}
 use Rattle.net_ir.specs.Netlists.{Netlist}
 use Rattle.net_ir.specs.Runs.{netlist_of}
@@ -9,29 +11,38 @@ use Rattle.cec_compile.specs.Refusals.{KeepsGraphLimits}
 use Rattle.cec_compile.specs.declared.cycles.Cycle.{Cycle}
 use Rattle.cec_cycles.proofs.Exports.{constructive_blif, constructive_c, constructive_verilog}
 use Rattle.cec_cycles.specs.Constructive.{HasCycle, IsConstructiveNetOf, StandsForConstructiveNet}
+use Rattle.cec_opt_sources.specs.declared.light.Coding.TheVariants.{Lighter}
 use Rattle.cec_opt_sources.proofs.Exports.{light_blif, light_c, light_verilog}
 use Rattle.cec_opt_sources.specs.LightNets.{IsLightNetOf}
 use Rattle.cec_opt_texts.proofs.Exports.{blif-keeps, c-keeps, verilog-keeps}
 use Rattle.cec_opt_texts.specs.Optimized.{IsSmallNetOf, IsTextNet}
-use Rattle.cec_opt_commands.specs.Answers.{IsAnswer, IsSourceAnswer, TellsAny}
+use Rattle.cec_opt_texts.specs.Related.{GivenRelation}
+use Rattle.cec_opt_texts.specs.declared.fault.OptFault.{OptFault}
+use Rattle.cec_opt_commands.specs.Answers.{IsAnswer, IsSourceAnswer, TellsAny, TellsNets, TellsText}
 use Rattle.cec_opt_commands.specs.Outcomes.{IsConstructible}
 use Rattle.cec_opt_commands.specs.Words.{Write}
 use Rattle.cec_opt_commands.specs.NetTexts.{IsWritten}
 use Rattle.cec_opt_commands.specs.declared.words.Form.{Form}
 use Rattle.cec_opt_commands.specs.declared.words.Form.TheVariants.{Blif, C, Verilog}
 
-pub small_answers : (form : Form) (text written : List ℕ) (net : Netlist) → IsSmallNetOf text net → IsWritten form written net
-    → IsAnswer (Write form) text written
-small_answers Blif text written net small w =
-    record { keeps = blif-keeps text written net small w.means; net = net; small = small; spelled = w.spelled }
-small_answers C text written net small w =
-    record { keeps = c-keeps text written net small w.means; net = net; small = small; spelled = w.spelled }
-small_answers Verilog text written net small w =
-    record { keeps = verilog-keeps text written net small w.means; net = net; small = small; spelled = w.spelled }
+pub small_answers : (form : Form) (text : List ℕ) (given : List GivenRelation) (written : List ℕ) (net : Netlist) → IsSmallNetOf text given net
+    → IsWritten form written net → IsAnswer (Write form) text given written
+small_answers Blif text given written net small w =
+    record { keeps = blif-keeps text given written net small w.means; net = net; small = small; spelled = w.spelled }
+small_answers C text given written net small w =
+    record { keeps = c-keeps text given written net small w.means; net = net; small = small; spelled = w.spelled }
+small_answers Verilog text given written net small w =
+    record { keeps = verilog-keeps text given written net small w.means; net = net; small = small; spelled = w.spelled }
 
 -- an optimized netlist of a text is one of a netlist of the text
-pub text_net : (text : List ℕ) (net : Netlist) → (small : IsSmallNetOf text net) → IsTextNet text small.small.made
-text_net text net s = record { circuit = s.circuit; reads = s.reads; is = s.small.is }
+pub text_net : (text : List ℕ) (given : List GivenRelation) (net : Netlist) → (small : IsSmallNetOf text given net) → IsTextNet text small.small.made
+text_net text given net s = record { circuit = s.circuit; reads = s.reads; is = s.small.is }
+
+-- the lines of the netlist of a text
+pub text_lines : {Z : Type 0} (items : Z → List ℕ) (text : List ℕ) (given : List GivenRelation) (net : Netlist) (result : Result Z (Stop OptFault))
+    → IsTextNet text net → IfOk result (λ z. TellsNets given net (items z)) → IfOk result (λ z. TellsText text given (items z))
+text_lines items text given net (Ok z) of_text tells = record { net = net; of_text = of_text; tells = tells }
+text_lines items text given net (Err stop) of_text tells = tt
 
 -- ---- sources
 
@@ -54,7 +65,7 @@ cyclic_answers Verilog source main written net cycle stands has w =
     inr (record { stands = constructive_verilog source main net written stands w.means; cycle = cycle; has_cycle = has; net = net; spelled = w.spelled })
 
 pub constructive_answers : (form : Form) (source : List ℕ) (main : Option (List ℕ)) (written : List ℕ) (net : Netlist)
-    → StandsForConstructiveNet source main net → IsConstructiveNetOf source main net → IsWritten form written net
+    → StandsForConstructiveNet source main net → IsConstructiveNetOf Lighter source main net → IsWritten form written net
     → IsSourceAnswer (Write form) source main written
 constructive_answers form source main written net stands (inl light) w = light_answers form source main written net light w
 constructive_answers form source main written net stands (inr has) w = cyclic_answers form source main written net has.0 stands has.1 w

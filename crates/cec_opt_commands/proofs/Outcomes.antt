@@ -21,10 +21,12 @@ use Rattle.cec_opt_embed.specs.declared.faults.SourceEmbedFault.{SourceEmbedFaul
 use Rattle.cec_opt_embed.specs.declared.faults.SourceEmbedFault.TheVariants as source_faults
 use Rattle.cec_opt_embed.specs.declared.faults.TextEmbedFault.{TextEmbedFault}
 use Rattle.cec_opt_embed.specs.declared.faults.TextEmbedFault.TheVariants as text_faults
-use Rattle.cec_opt_texts.specs.Faults.{IsOptFault}
+use Rattle.cec_opt_texts.specs.Faults.{IsGivenFault}
+use Rattle.cec_opt_texts.specs.Related.{GivenRelation}
 use Rattle.cec_opt_texts.specs.declared.fault.OptFault.{OptFault}
 use Rattle.csub_embed.specs.declared.layout.EmbedLayout.{EmbedLayout}
 use Rattle.vlog_reset.specs.Options.{ModuleOptions}
+use Rattle.cec_opt_sources.specs.declared.light.Coding.{Coding}
 use Rattle.cec_opt_reset.specs.Faults.{IsSourceResetFault, IsTextResetFault}
 use Rattle.cec_opt_reset.specs.declared.faults.SourceResetFault.{SourceResetFault}
 use Rattle.cec_opt_reset.specs.declared.faults.SourceResetFault.TheVariants as source_names
@@ -63,10 +65,11 @@ written_writes ends.WriteFault = tt
 written_writes ends.NoMemory = tt
 
 -- a text whose netlist was written
-pub written_says : (task : Task) (ended : Written) (text : List ℕ) → HasNet text → SaysOf task (written_outcome ended) text
-written_says task ends.Done text has = has
-written_says task ends.WriteFault text has = has
-written_says task ends.NoMemory text has = tt
+pub written_says : (task : Task) (given : List GivenRelation) (ended : Written) (text : List ℕ) → HasNet text
+    → SaysOf task given (written_outcome ended) text
+written_says task given ends.Done text has = has
+written_says task given ends.WriteFault text has = has
+written_says task given ends.NoMemory text has = tt
 
 pub written_pieces : (P Q : List ℕ → Type 0) (s : SinkChange) (ended : Written) → ((written : List ℕ) → P written → Q written)
     → LeavesPieces P s (Some ended) → LeavesPieces Q s (written_of (written_outcome ended))
@@ -106,10 +109,10 @@ source_whole P task source main s ended f l =
 
 -- ---- a text without a netlist
 
-pub stop_says : (task : Task) (stop : Stop OptFault) (text : List ℕ) → length text ≤ TEXT_BYTES → FaultIs (IsOptFault text) stop
-    → SaysOf task (stop_outcome stop) text
-stop_says task (stops.Fault fault) text short is = (short, is)
-stop_says task stops.NoMemory text short is = tt
+pub stop_says : (task : Task) (given : List GivenRelation) (stop : Stop OptFault) (text : List ℕ) → length text ≤ TEXT_BYTES
+    → FaultIs (IsGivenFault text given) stop → SaysOf task given (stop_outcome stop) text
+stop_says task given (stops.Fault fault) text short is = (short, is)
+stop_says task given stops.NoMemory text short is = tt
 
 pub stop_leaves : (task : Task) (P : List ℕ → Type 0) (stop : Stop OptFault) (s : SinkChange) → Appends s.before s.after s.faults_before s.faults_now []
     → LeavesAnswer task P s (stop_outcome stop)
@@ -117,17 +120,18 @@ stop_leaves (Write form) P (stops.Fault fault) s a = a
 stop_leaves (Write form) P stops.NoMemory s a = inl a
 stop_leaves (Embed component layout) P (stops.Fault fault) s a = a
 stop_leaves (Embed component layout) P stops.NoMemory s a = a
-stop_leaves (Reset options) P (stops.Fault fault) s a = a
-stop_leaves (Reset options) P stops.NoMemory s a = a
+stop_leaves (Reset options coding) P (stops.Fault fault) s a = a
+stop_leaves (Reset options coding) P stops.NoMemory s a = a
 stop_leaves Check P (stops.Fault fault) s a = a
 stop_leaves Check P stops.NoMemory s a = a
 
 -- or without embedded C
-pub embed_says : (component : List ℕ) (layout : EmbedLayout) (stop : Stop TextEmbedFault) (text : List ℕ) → length text ≤ TEXT_BYTES
-    → FaultIs (IsTextEmbedFault text component) stop → SaysOf (Embed component layout) (embed_outcome stop) text
-embed_says component layout (stops.Fault (text_faults.Text fault)) text short is = (short, is)
-embed_says component layout (stops.Fault (text_faults.Component fault)) text short is = (short, is)
-embed_says component layout stops.NoMemory text short is = tt
+pub embed_says : (component : List ℕ) (layout : EmbedLayout) (given : List GivenRelation) (stop : Stop TextEmbedFault) (text : List ℕ)
+    → length text ≤ TEXT_BYTES → FaultIs (IsTextEmbedFault text given component) stop
+    → SaysOf (Embed component layout) given (embed_outcome stop) text
+embed_says component layout given (stops.Fault (text_faults.Text fault)) text short is = (short, is)
+embed_says component layout given (stops.Fault (text_faults.Component fault)) text short is = (short, is)
+embed_says component layout given stops.NoMemory text short is = tt
 
 pub embed_leaves : (component : List ℕ) (layout : EmbedLayout) (P : List ℕ → Type 0) (stop : Stop TextEmbedFault) (s : SinkChange)
     → Appends s.before s.after s.faults_before s.faults_now [] → LeavesAnswer (Embed component layout) P s (embed_outcome stop)
@@ -136,17 +140,17 @@ embed_leaves component layout P (stops.Fault (text_faults.Component fault)) s a 
 embed_leaves component layout P stops.NoMemory s a = a
 
 -- or without Verilog with a reset
-pub reset_says : (options : ModuleOptions) (stop : Stop TextResetFault) (text : List ℕ) → length text ≤ TEXT_BYTES
-    → FaultIs (IsTextResetFault text options) stop → SaysOf (Reset options) (reset_outcome stop) text
-reset_says options (stops.Fault (text_names.Text fault)) text short is = (short, is)
-reset_says options (stops.Fault (text_names.Module fault)) text short is = (short, is)
-reset_says options stops.NoMemory text short is = tt
+pub reset_says : (options : ModuleOptions) (coding : Coding) (given : List GivenRelation) (stop : Stop TextResetFault) (text : List ℕ)
+    → length text ≤ TEXT_BYTES → FaultIs (IsTextResetFault text given options) stop → SaysOf (Reset options coding) given (reset_outcome stop) text
+reset_says options coding given (stops.Fault (text_names.Text fault)) text short is = (short, is)
+reset_says options coding given (stops.Fault (text_names.Module fault)) text short is = (short, is)
+reset_says options coding given stops.NoMemory text short is = tt
 
-pub reset_leaves : (options : ModuleOptions) (P : List ℕ → Type 0) (stop : Stop TextResetFault) (s : SinkChange)
-    → Appends s.before s.after s.faults_before s.faults_now [] → LeavesAnswer (Reset options) P s (reset_outcome stop)
-reset_leaves options P (stops.Fault (text_names.Text fault)) s a = a
-reset_leaves options P (stops.Fault (text_names.Module fault)) s a = a
-reset_leaves options P stops.NoMemory s a = a
+pub reset_leaves : (options : ModuleOptions) (coding : Coding) (P : List ℕ → Type 0) (stop : Stop TextResetFault) (s : SinkChange)
+    → Appends s.before s.after s.faults_before s.faults_now [] → LeavesAnswer (Reset options coding) P s (reset_outcome stop)
+reset_leaves options coding P (stops.Fault (text_names.Text fault)) s a = a
+reset_leaves options coding P (stops.Fault (text_names.Module fault)) s a = a
+reset_leaves options coding P stops.NoMemory s a = a
 
 -- ---- a source that does not compile
 
@@ -167,10 +171,10 @@ refusal_leaves (Embed component layout) P (refusing.Static fault) s a = a
 refusal_leaves (Embed component layout) P (refusing.Cyclic cycle) s a = a
 refusal_leaves (Embed component layout) P (refusing.Limit limit) s a = a
 refusal_leaves (Embed component layout) P refusing.NoMemory s a = a
-refusal_leaves (Reset options) P (refusing.Static fault) s a = a
-refusal_leaves (Reset options) P (refusing.Cyclic cycle) s a = a
-refusal_leaves (Reset options) P (refusing.Limit limit) s a = a
-refusal_leaves (Reset options) P refusing.NoMemory s a = a
+refusal_leaves (Reset options coding) P (refusing.Static fault) s a = a
+refusal_leaves (Reset options coding) P (refusing.Cyclic cycle) s a = a
+refusal_leaves (Reset options coding) P (refusing.Limit limit) s a = a
+refusal_leaves (Reset options coding) P refusing.NoMemory s a = a
 refusal_leaves Check P (refusing.Static fault) s a = a
 refusal_leaves Check P (refusing.Cyclic cycle) s a = a
 refusal_leaves Check P (refusing.Limit limit) s a = a
@@ -192,9 +196,9 @@ stuck_leaves (Write form) stuck ends.NoMemory main source s is l = inl l
 stuck_leaves (Embed component layout) stuck ends.Done main source s is l = l
 stuck_leaves (Embed component layout) stuck ends.WriteFault main source s is l = (l.0, inr (stuck, is, l.1), l.2)
 stuck_leaves (Embed component layout) stuck ends.NoMemory main source s is l = l
-stuck_leaves (Reset options) stuck ends.Done main source s is l = l
-stuck_leaves (Reset options) stuck ends.WriteFault main source s is l = (l.0, inr (stuck, is, l.1), l.2)
-stuck_leaves (Reset options) stuck ends.NoMemory main source s is l = l
+stuck_leaves (Reset options coding) stuck ends.Done main source s is l = l
+stuck_leaves (Reset options coding) stuck ends.WriteFault main source s is l = (l.0, inr (stuck, is, l.1), l.2)
+stuck_leaves (Reset options coding) stuck ends.NoMemory main source s is l = l
 stuck_leaves Check stuck ends.Done main source s is l = l
 stuck_leaves Check stuck ends.WriteFault main source s is l = (l.0, inr (stuck, is, l.1), l.2)
 stuck_leaves Check stuck ends.NoMemory main source s is l = l
@@ -203,7 +207,7 @@ silent_leaves : (task : Task) (P : List ℕ → Type 0) (outcome : OptOutcome) (
     → Appends s.before s.after s.faults_before s.faults_now [] → LeavesAnswer task P s outcome
 silent_leaves (Write form) P outcome s none a = subst (LeavesPieces P s) (sym none) a
 silent_leaves (Embed component layout) P outcome s none a = subst (LeavesText P s) (sym none) a
-silent_leaves (Reset options) P outcome s none a = subst (LeavesText P s) (sym none) a
+silent_leaves (Reset options coding) P outcome s none a = subst (LeavesText P s) (sym none) a
 silent_leaves Check P outcome s none a = subst (LeavesText P s) (sym none) a
 
 pub refused_says : (task : Task) (refusal : CycleRefusal) (main : Option (List ℕ)) (source : List ℕ) (s : SinkChange) (outcome : OptOutcome)
@@ -251,25 +255,25 @@ unembedded_leaves component layout stops.NoMemory main source s outcome is o =
     subst (LeavesSourceAnswer (Embed component layout) source main s) (sym o.is) o.silent
 
 -- a source without Verilog with a reset
-pub unreset_says : (options : ModuleOptions) (stop : Stop SourceResetFault) (main : Option (List ℕ)) (source : List ℕ) (s : SinkChange)
-    (outcome : OptOutcome) → FaultIs (IsSourceResetFault source main options) stop → IsResetStopOutcome stop s outcome
-    → SourceSays (Reset options) main outcome source
-unreset_says options (stops.Fault (source_names.Source refusal)) main source s outcome is o =
-    refused_says (Reset options) refusal main source s outcome is.1 o
-unreset_says options (stops.Fault (source_names.Module fault)) main source s outcome is o =
-    subst (λ x. SourceSays (Reset options) main x source) (sym o.is) is
-unreset_says options stops.NoMemory main source s outcome is o =
-    subst (λ x. SourceSays (Reset options) main x source) (sym o.is) tt
+pub unreset_says : (options : ModuleOptions) (coding : Coding) (stop : Stop SourceResetFault) (main : Option (List ℕ)) (source : List ℕ) (s : SinkChange)
+    (outcome : OptOutcome) → FaultIs (IsSourceResetFault source main coding options) stop → IsResetStopOutcome stop s outcome
+    → SourceSays (Reset options coding) main outcome source
+unreset_says options coding (stops.Fault (source_names.Source refusal)) main source s outcome is o =
+    refused_says (Reset options coding) refusal main source s outcome is.1 o
+unreset_says options coding (stops.Fault (source_names.Module fault)) main source s outcome is o =
+    subst (λ x. SourceSays (Reset options coding) main x source) (sym o.is) is
+unreset_says options coding stops.NoMemory main source s outcome is o =
+    subst (λ x. SourceSays (Reset options coding) main x source) (sym o.is) tt
 
-pub unreset_leaves : (options : ModuleOptions) (stop : Stop SourceResetFault) (main : Option (List ℕ)) (source : List ℕ) (s : SinkChange)
-    (outcome : OptOutcome) → FaultIs (IsSourceResetFault source main options) stop → IsResetStopOutcome stop s outcome
-    → LeavesSourceAnswer (Reset options) source main s outcome
-unreset_leaves options (stops.Fault (source_names.Source refusal)) main source s outcome is o =
-    refused_leaves (Reset options) refusal main source s outcome is.1 o
-unreset_leaves options (stops.Fault (source_names.Module fault)) main source s outcome is o =
-    subst (LeavesSourceAnswer (Reset options) source main s) (sym o.is) o.silent
-unreset_leaves options stops.NoMemory main source s outcome is o =
-    subst (LeavesSourceAnswer (Reset options) source main s) (sym o.is) o.silent
+pub unreset_leaves : (options : ModuleOptions) (coding : Coding) (stop : Stop SourceResetFault) (main : Option (List ℕ)) (source : List ℕ) (s : SinkChange)
+    (outcome : OptOutcome) → FaultIs (IsSourceResetFault source main coding options) stop → IsResetStopOutcome stop s outcome
+    → LeavesSourceAnswer (Reset options coding) source main s outcome
+unreset_leaves options coding (stops.Fault (source_names.Source refusal)) main source s outcome is o =
+    refused_leaves (Reset options coding) refusal main source s outcome is.1 o
+unreset_leaves options coding (stops.Fault (source_names.Module fault)) main source s outcome is o =
+    subst (LeavesSourceAnswer (Reset options coding) source main s) (sym o.is) o.silent
+unreset_leaves options coding stops.NoMemory main source s outcome is o =
+    subst (LeavesSourceAnswer (Reset options coding) source main s) (sym o.is) o.silent
 
 -- ---- a file that was read
 
@@ -290,31 +294,31 @@ file_agrees content name Says (TooManyNets cycle) bytes held says apart = (bytes
 file_agrees content name Says WriteFault bytes held says apart = (bytes, held, says)
 file_agrees content name Says NoMemory bytes held says apart = (bytes, held, says)
 
-pub read_agrees : (content : Content) (task : Task) (name : List ℕ) (outcome : OptOutcome) (text : List ℕ) → IsHeld content name text → SaysOf task outcome text
-    → IsOptOutcomeOf (Some (Do task name)) content outcome
-read_agrees content task name outcome text held says = file_agrees content name (SaysOf task) outcome text held says (λ none. none)
+pub read_agrees : (content : Content) (task : Task) (given : List GivenRelation) (name : List ℕ) (outcome : OptOutcome) (text : List ℕ)
+    → IsHeld content name text → SaysOf task given outcome text → IsOptOutcomeOf (Some (Do task given name)) content outcome
+read_agrees content task given name outcome text held says = file_agrees content name (SaysOf task given) outcome text held says (λ none. none)
 
 pub source_agrees : (content : Content) (task : Task) (name : List ℕ) (main : Option (List ℕ)) (outcome : OptOutcome) (source : List ℕ)
     → IsHeld content name source → SourceSays task main outcome source → IsOptOutcomeOf (Some (Make task name main)) content outcome
 source_agrees content task name main outcome source held says =
     file_agrees content name (SourceSays task main) outcome source held says (λ none. none)
 
-pub read_counts : (task : Task) (name : List ℕ) (outcome : OptOutcome) (text : List ℕ) (before now : ℕ) (failed_before failed_now : List ℕ)
-    → SaysOf task outcome text → KeepsFaults before now failed_before failed_now
-    → CountsFiles (Some (Do task name)) outcome before now failed_before failed_now
-read_counts task name Done text before now failed_before failed_now says k = k
-read_counts task name Usage text before now failed_before failed_now says k = k
-read_counts task name FileFault text before now failed_before failed_now says k = absurd says
-read_counts task name (BadText fault) text before now failed_before failed_now says k = k
-read_counts task name (BadComponent fault) text before now failed_before failed_now says k = k
-read_counts task name (BadModule fault) text before now failed_before failed_now says k = k
-read_counts task name TooLong text before now failed_before failed_now says k = k
-read_counts task name (Refused refusal) text before now failed_before failed_now says k = k
-read_counts task name (NotConstructive stuck) text before now failed_before failed_now says k = k
-read_counts task name (Undecided cycle) text before now failed_before failed_now says k = k
-read_counts task name (TooManyNets cycle) text before now failed_before failed_now says k = k
-read_counts task name WriteFault text before now failed_before failed_now says k = k
-read_counts task name NoMemory text before now failed_before failed_now says k = k
+pub read_counts : (task : Task) (given : List GivenRelation) (name : List ℕ) (outcome : OptOutcome) (text : List ℕ) (before now : ℕ)
+    (failed_before failed_now : List ℕ) → SaysOf task given outcome text → KeepsFaults before now failed_before failed_now
+    → CountsFiles (Some (Do task given name)) outcome before now failed_before failed_now
+read_counts task given name Done text before now failed_before failed_now says k = k
+read_counts task given name Usage text before now failed_before failed_now says k = k
+read_counts task given name FileFault text before now failed_before failed_now says k = absurd says
+read_counts task given name (BadText fault) text before now failed_before failed_now says k = k
+read_counts task given name (BadComponent fault) text before now failed_before failed_now says k = k
+read_counts task given name (BadModule fault) text before now failed_before failed_now says k = k
+read_counts task given name TooLong text before now failed_before failed_now says k = k
+read_counts task given name (Refused refusal) text before now failed_before failed_now says k = k
+read_counts task given name (NotConstructive stuck) text before now failed_before failed_now says k = k
+read_counts task given name (Undecided cycle) text before now failed_before failed_now says k = k
+read_counts task given name (TooManyNets cycle) text before now failed_before failed_now says k = k
+read_counts task given name WriteFault text before now failed_before failed_now says k = k
+read_counts task given name NoMemory text before now failed_before failed_now says k = k
 
 pub source_read_counts : (task : Task) (name : List ℕ) (main : Option (List ℕ)) (outcome : OptOutcome) (source : List ℕ) (before now : ℕ)
     (failed_before failed_now : List ℕ) → SourceSays task main outcome source → KeepsFaults before now failed_before failed_now
@@ -337,13 +341,13 @@ answer_as : (task : Task) (P Q : List ℕ → Type 0) (s : SinkChange) (outcome 
     → LeavesAnswer task P s outcome → LeavesAnswer task Q s outcome
 answer_as (Write form) P Q s outcome f l = texts.pieces_as P Q s (written_of outcome) f l
 answer_as (Embed component layout) P Q s outcome f l = texts.text_as P Q s (written_of outcome) f l
-answer_as (Reset options) P Q s outcome f l = texts.text_as P Q s (written_of outcome) f l
+answer_as (Reset options coding) P Q s outcome f l = texts.text_as P Q s (written_of outcome) f l
 answer_as Check P Q s outcome f l = texts.text_as P Q s (written_of outcome) f l
 
-pub read_out : (content : Content) (task : Task) (name : List ℕ) (outcome : OptOutcome) (text : List ℕ) (s : SinkChange) → IsHeld content name text
-    → LeavesAnswer task (IsAnswer task text) s outcome → GainsOut (Some (Do task name)) content outcome s
-read_out content task name outcome text s held l =
-    answer_as task (IsAnswer task text) (IsTextOf task name content) s outcome (λ written is. (text, held, is)) l
+pub read_out : (content : Content) (task : Task) (given : List GivenRelation) (name : List ℕ) (outcome : OptOutcome) (text : List ℕ) (s : SinkChange)
+    → IsHeld content name text → LeavesAnswer task (IsAnswer task text given) s outcome → GainsOut (Some (Do task given name)) content outcome s
+read_out content task given name outcome text s held l =
+    answer_as task (IsAnswer task text given) (IsTextOf task given name content) s outcome (λ written is. (text, held, is)) l
 
 pub source_out : (content : Content) (task : Task) (name : List ℕ) (main : Option (List ℕ)) (outcome : OptOutcome) (source : List ℕ) (s : SinkChange)
     → IsHeld content name source → LeavesSourceAnswer task source main s outcome
@@ -384,11 +388,11 @@ none_waits progress s line gains = record { waits = false; wanted = λ waits. ab
 
 -- ---- a file that was not read
 
-pub unread_agrees : (content : Content) (task : Task) (name : List ℕ) (fault : unread.FileFault) → Reads content name TEXT_BYTES (Err fault)
-    → IsOptOutcomeOf (Some (Do task name)) content (unread_outcome fault)
-unread_agrees content task name reading.Failed read = tt
-unread_agrees content task name reading.TooLong read = long_unread content name TEXT_BYTES read
-unread_agrees content task name reading.NoMemory read = some_bytes content name
+pub unread_agrees : (content : Content) (task : Task) (given : List GivenRelation) (name : List ℕ) (fault : unread.FileFault)
+    → Reads content name TEXT_BYTES (Err fault) → IsOptOutcomeOf (Some (Do task given name)) content (unread_outcome fault)
+unread_agrees content task given name reading.Failed read = tt
+unread_agrees content task given name reading.TooLong read = long_unread content name TEXT_BYTES read
+unread_agrees content task given name reading.NoMemory read = some_bytes content name
 
 pub source_unread_agrees : (content : Content) (task : Task) (name : List ℕ) (main : Option (List ℕ)) (fault : unread.FileFault)
     → Reads content name SOURCE_BYTES (Err fault) → IsOptOutcomeOf (Some (Make task name main)) content (source_unread_outcome fault)
@@ -396,12 +400,12 @@ source_unread_agrees content task name main reading.Failed read = tt
 source_unread_agrees content task name main reading.TooLong read = long_unread content name SOURCE_BYTES read
 source_unread_agrees content task name main reading.NoMemory read = some_bytes content name
 
-pub unread_counts : (task : Task) (name : List ℕ) (fault : unread.FileFault) (before now : ℕ) (failed_before failed_now : List ℕ)
-    → Counts before now failed_before failed_now name (Err fault)
-    → CountsFiles (Some (Do task name)) (unread_outcome fault) before now failed_before failed_now
-unread_counts task name reading.Failed before now failed_before failed_now k = k
-unread_counts task name reading.TooLong before now failed_before failed_now k = k
-unread_counts task name reading.NoMemory before now failed_before failed_now k = k
+pub unread_counts : (task : Task) (given : List GivenRelation) (name : List ℕ) (fault : unread.FileFault) (before now : ℕ)
+    (failed_before failed_now : List ℕ) → Counts before now failed_before failed_now name (Err fault)
+    → CountsFiles (Some (Do task given name)) (unread_outcome fault) before now failed_before failed_now
+unread_counts task given name reading.Failed before now failed_before failed_now k = k
+unread_counts task given name reading.TooLong before now failed_before failed_now k = k
+unread_counts task given name reading.NoMemory before now failed_before failed_now k = k
 
 pub source_unread_counts : (task : Task) (name : List ℕ) (main : Option (List ℕ)) (fault : unread.FileFault) (before now : ℕ)
     (failed_before failed_now : List ℕ) → Counts before now failed_before failed_now name (Err fault)
@@ -410,20 +414,20 @@ source_unread_counts task name main reading.Failed before now failed_before fail
 source_unread_counts task name main reading.TooLong before now failed_before failed_now k = k
 source_unread_counts task name main reading.NoMemory before now failed_before failed_now k = k
 
-pub unread_out : (content : Content) (task : Task) (name : List ℕ) (fault : unread.FileFault) (s : SinkChange)
-    → Appends s.before s.after s.faults_before s.faults_now [] → GainsOut (Some (Do task name)) content (unread_outcome fault) s
-unread_out content (Write form) name reading.Failed s a = a
-unread_out content (Write form) name reading.TooLong s a = a
-unread_out content (Write form) name reading.NoMemory s a = inl a
-unread_out content (Embed component layout) name reading.Failed s a = a
-unread_out content (Embed component layout) name reading.TooLong s a = a
-unread_out content (Embed component layout) name reading.NoMemory s a = a
-unread_out content (Reset options) name reading.Failed s a = a
-unread_out content (Reset options) name reading.TooLong s a = a
-unread_out content (Reset options) name reading.NoMemory s a = a
-unread_out content Check name reading.Failed s a = a
-unread_out content Check name reading.TooLong s a = a
-unread_out content Check name reading.NoMemory s a = a
+pub unread_out : (content : Content) (task : Task) (given : List GivenRelation) (name : List ℕ) (fault : unread.FileFault) (s : SinkChange)
+    → Appends s.before s.after s.faults_before s.faults_now [] → GainsOut (Some (Do task given name)) content (unread_outcome fault) s
+unread_out content (Write form) given name reading.Failed s a = a
+unread_out content (Write form) given name reading.TooLong s a = a
+unread_out content (Write form) given name reading.NoMemory s a = inl a
+unread_out content (Embed component layout) given name reading.Failed s a = a
+unread_out content (Embed component layout) given name reading.TooLong s a = a
+unread_out content (Embed component layout) given name reading.NoMemory s a = a
+unread_out content (Reset options coding) given name reading.Failed s a = a
+unread_out content (Reset options coding) given name reading.TooLong s a = a
+unread_out content (Reset options coding) given name reading.NoMemory s a = a
+unread_out content Check given name reading.Failed s a = a
+unread_out content Check given name reading.TooLong s a = a
+unread_out content Check given name reading.NoMemory s a = a
 
 pub source_unread_out : (content : Content) (task : Task) (name : List ℕ) (main : Option (List ℕ)) (fault : unread.FileFault) (s : SinkChange)
     → Appends s.before s.after s.faults_before s.faults_now [] → GainsOut (Some (Make task name main)) content (source_unread_outcome fault) s
@@ -433,9 +437,9 @@ source_unread_out content (Write form) name main reading.NoMemory s a = inl a
 source_unread_out content (Embed component layout) name main reading.Failed s a = a
 source_unread_out content (Embed component layout) name main reading.TooLong s a = a
 source_unread_out content (Embed component layout) name main reading.NoMemory s a = a
-source_unread_out content (Reset options) name main reading.Failed s a = a
-source_unread_out content (Reset options) name main reading.TooLong s a = a
-source_unread_out content (Reset options) name main reading.NoMemory s a = a
+source_unread_out content (Reset options coding) name main reading.Failed s a = a
+source_unread_out content (Reset options coding) name main reading.TooLong s a = a
+source_unread_out content (Reset options coding) name main reading.NoMemory s a = a
 source_unread_out content Check name main reading.Failed s a = a
 source_unread_out content Check name main reading.TooLong s a = a
 source_unread_out content Check name main reading.NoMemory s a = a
@@ -450,5 +454,5 @@ source_unread_err progress content name main reading.NoMemory s gains = record {
 -- no request ends as words without a meaning do
 pub no_usage : (request : Request) (content : Content) → IsOptOutcomeOf (Some request) content Usage → ⊥
 no_usage (Tell about) content a = a
-no_usage (Do task name) content a = a.2
+no_usage (Do task given name) content a = a.2
 no_usage (Make task name main) content a = a.2

@@ -3,9 +3,6 @@ use Rattle.std.specs.Prelude.{◌≡◌, ◌⊎◌, ℕ, ◌+◌, List, [], ◌�
 use Rattle.std.specs.List.{concat}
 use Rattle.net_ir.specs.Netlists.{Netlist}
 use Rattle.net_ir.specs.Runs.{netlist_of}
-use Rattle.net_opt.specs.Optimized.{Optimizes}
-use Rattle.net_opt.specs.Shown.{EachIsShown}
-use Rattle.net_simp.specs.SimpleNets.{IsSimple}
 use Rattle.blif_text.specs.Written as blif_texts
 use Rattle.csub_text.specs.Written as c_texts
 use Rattle.vlog_text.specs.Written as verilog_texts
@@ -21,18 +18,19 @@ use Rattle.cec_opt_reset.specs.Texts.{ResetKeeps}
 use Rattle.cec_opt_sources.specs.LightNets.{IsLightNetOf, IsLightSource}
 use Rattle.cec_opt_sources.specs.SmallTexts.{StandsForSmallBlif, StandsForSmallC, StandsForSmallVerilog}
 use Rattle.cec_opt_texts.specs.Alike.{BlifKeeps, CKeeps, VerilogKeeps}
-use Rattle.cec_opt_texts.specs.Optimized.{IsSmallNetOf, IsTextNet}
+use Rattle.cec_opt_texts.specs.Optimized.{IsSmallFor, IsSmallNetOf, IsTextNet}
+use Rattle.cec_opt_texts.specs.Related.{GivenRelation}
 use Rattle.blif_net.specs.Depths.{depth_of}
 use Rattle.cec_opt_commands.specs.declared.words.Form.TheVariants as forms
 use Rattle.cec_opt_commands.specs.Words.{Task, Write, Embed, Reset, Check}
 
--- The text that is written keeps what the text means that was read (`Keeps`), and it is that of a netlist that is not
--- larger than its circuit's, and in which nothing is left to simplify.
-pub record IsOptimized (Keeps : List ℕ → List ℕ → Type 0) (write : Netlist → List ℕ) (text written : List ℕ) :
-    Type 0 where
-  pub keeps : Keeps text written
+-- The text that is written keeps what the text means that was read, where its inputs meet the relations (`Keeps`). It
+-- is that of a netlist that is not larger than its circuit's, and in which nothing is left to simplify.
+pub record IsOptimized (Keeps : List ℕ → List GivenRelation → List ℕ → Type 0) (write : Netlist → List ℕ)
+    (text : List ℕ) (given : List GivenRelation) (written : List ℕ) : Type 0 where
+  pub keeps : Keeps text given written
   pub net : Netlist
-  pub small : IsSmallNetOf text net
+  pub small : IsSmallNetOf text given net
   pub spelled : written ≡ write net
 
 -- The name of a netlist, and how many inputs, outputs, latches and gates it has, and how deep they stand. The last
@@ -42,30 +40,28 @@ counts_line net = concat (net.name ∷ codes ": " ∷ decimal (length net.inputs
     ∷ decimal (length net.outputs + 1) ∷ codes " outputs, " ∷ decimal (length net.latches) ∷ codes " latches, "
     ∷ decimal (length net.gates) ∷ codes " gates, depth " ∷ decimal (depth_of net) ∷ codes "\n" ∷ [])
 
--- the line of a netlist, and that of one that replaces it and is not larger
-pub record TellsNets (net : Netlist) (lines : List ℕ) : Type 0 where
+-- the line of a netlist, and that of one that replaces it where the inputs meet the given relations, and is not larger
+pub record TellsNets (given : List GivenRelation) (net : Netlist) (lines : List ℕ) : Type 0 where
   pub small : Netlist
-  pub optimizes : Optimizes net small
-  pub simple : IsSimple small
-  pub shown : EachIsShown small
+  pub replaces : IsSmallFor given net small
   pub is : lines ≡ counts_line net ++ counts_line small
 
 -- the same of the netlist of a text
-pub record TellsText (text lines : List ℕ) : Type 0 where
+pub record TellsText (text : List ℕ) (given : List GivenRelation) (lines : List ℕ) : Type 0 where
   pub net : Netlist
   pub of_text : IsTextNet text net
-  pub tells : TellsNets net lines
+  pub tells : TellsNets given net lines
 
 -- Embedded C keeps what the text means that was read, over calls on any number of instances of the component of this
 -- name. It is that of the text's optimized netlist (`EmbedKeeps`). Verilog with a reset keeps it from each reset on,
--- with the names that are asked for (`ResetKeeps`).
-abbrev pub IsAnswer : Task → List ℕ → List ℕ → Type 0
-IsAnswer (Write forms.Blif) text written = IsOptimized BlifKeeps blif_texts.written text written
-IsAnswer (Write forms.C) text written = IsOptimized CKeeps c_texts.written text written
-IsAnswer (Write forms.Verilog) text written = IsOptimized VerilogKeeps verilog_texts.written text written
-IsAnswer (Embed component layout) text written = EmbedKeeps text component layout written
-IsAnswer (Reset options) text written = ResetKeeps text options written
-IsAnswer Check text written = TellsText text written
+-- with the names that are asked for (`ResetKeeps`). Where relations are given, only events that meet them count.
+abbrev pub IsAnswer : Task → (text : List ℕ) → List GivenRelation → (written : List ℕ) → Type 0
+IsAnswer (Write forms.Blif) text given written = IsOptimized BlifKeeps blif_texts.written text given written
+IsAnswer (Write forms.C) text given written = IsOptimized CKeeps c_texts.written text given written
+IsAnswer (Write forms.Verilog) text given written = IsOptimized VerilogKeeps verilog_texts.written text given written
+IsAnswer (Embed component layout) text given written = EmbedKeeps text given component layout written
+IsAnswer (Reset options coding) text given written = ResetKeeps text given options written
+IsAnswer Check text given written = TellsText text given written
 
 -- ---- sources
 
@@ -133,5 +129,5 @@ IsSourceAnswer (Write forms.Verilog) source main written =
     IsLightText StandsForSmallVerilog verilog_texts.written source main written
     ⊎ IsCyclicText StandsForConstructiveVerilog verilog_texts.written source main written
 IsSourceAnswer (Embed component layout) source main written = StandsForEmbedded source main component layout written
-IsSourceAnswer (Reset options) source main written = StandsForReset source main options written
+IsSourceAnswer (Reset options coding) source main written = StandsForReset source main coding options written
 IsSourceAnswer Check source main written = TellsAny source main written

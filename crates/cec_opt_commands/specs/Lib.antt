@@ -1,5 +1,6 @@
 pub mod GivenNames
 pub mod Layouts
+pub mod Relations
 pub mod Resets
 pub mod Words
 pub mod Answers

@@ -9,6 +9,7 @@ use Rattle.cec_compile.specs.declared.refusal.Refusal.TheVariants as refusing
 use Rattle.cec_cycles.specs.declared.findings.Stuck.{Stuck}
 use Rattle.cec_opt_texts.specs.declared.fault.OptFault.{OptFault}
 use Rattle.cec_opt_texts.specs.declared.fault.OptFault.TheVariants.{Line, TwoDrivers, NoDriver, Circuit}
+use Rattle.cec_opt_texts.specs.declared.fault.OptFault.TheVariants.{NoInput}
 use Rattle.cec_refusals.specs.RefusalLines.{RefusalSubject, refusal_line}
 use Rattle.csub_embed.specs.declared.fault.EmbedFault.{EmbedFault}
 use Rattle.csub_embed.specs.declared.fault.EmbedFault.TheVariants.{NoName, TypeTaken, Reserved}
@@ -38,6 +39,7 @@ fault_text (Line number) = codes "line " ++ (decimal number ++ codes ": not in t
 fault_text (TwoDrivers name) = codes "two drivers: " ++ name
 fault_text (NoDriver name) = codes "no driver: " ++ name
 fault_text (Circuit fault) = circuit_line_text fault
+fault_text (NoInput name) = codes "no input: " ++ name
 
 -- of a component
 abbrev pub component_fault_text : EmbedFault → List ℕ
@@ -125,7 +127,7 @@ GainsErr progress words None content outcome old new before now =
     GainsLine old new before now (line_of (named (misuse_of words)) outcome)
 GainsErr progress words (Some (Tell about)) content outcome old new before now =
     GainsLine old new before now (line_of (named []) outcome)
-GainsErr progress words (Some (Do task name)) content outcome old new before now =
+GainsErr progress words (Some (Do task given name)) content outcome old new before now =
     GainsAfter progress (record { before = old; after = new; faults_before = before; faults_now = now })
     (line_of (named name) outcome)
 GainsErr progress words (Some (Make task name main)) content outcome old new before now =

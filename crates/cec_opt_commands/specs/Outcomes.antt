@@ -17,8 +17,9 @@ use Rattle.cec_cycles.specs.Constructive.{HasCycle, StandsForStuck}
 use Rattle.cec_cycles.specs.declared.findings.Stuck.{Stuck}
 use Rattle.cec_opt_embed.specs.Faults.{IsProgramNameFault, IsTextNameFault}
 use Rattle.cec_opt_reset.specs.Faults.{IsProgramModuleFault, IsTextModuleNameFault}
-use Rattle.cec_opt_texts.specs.Faults.{IsOptFault}
+use Rattle.cec_opt_texts.specs.Faults.{IsGivenFault}
 use Rattle.cec_opt_texts.specs.Optimized.{IsTextNet}
+use Rattle.cec_opt_texts.specs.Related.{GivenRelation}
 use Rattle.csub_embed.specs.declared.fault.EmbedFault.{EmbedFault}
 use Rattle.vlog_reset.specs.declared.fault.ResetFault.{ResetFault}
 use Rattle.cec_text_io.specs.Contents.{Content, Holds}
@@ -44,27 +45,28 @@ pub record HasNet (text : List ℕ) : Type 0 where
 
 -- The text has a netlist, and the task writes it as embedded C. This is the first fault of the name of the component
 -- and of the signals. No other task has such a fault.
-abbrev pub IsTextComponentFault : Task → EmbedFault → List ℕ → Type 0
-IsTextComponentFault (Embed component layout) fault text =
-    (length text ≤ TEXT_BYTES) × IsTextNameFault text component fault
-IsTextComponentFault others fault text = ⊥
+abbrev pub IsTextComponentFault : Task → List GivenRelation → EmbedFault → List ℕ → Type 0
+IsTextComponentFault (Embed component layout) given fault text =
+    (length text ≤ TEXT_BYTES) × IsTextNameFault text given component fault
+IsTextComponentFault others given fault text = ⊥
 
 -- The text has a netlist, and the task writes it as Verilog with a reset. This is the first fault of the names of the
 -- module. No other task has such a fault.
-abbrev pub IsTextModuleFault : Task → ResetFault → List ℕ → Type 0
-IsTextModuleFault (Reset options) fault text = (length text ≤ TEXT_BYTES) × IsTextModuleNameFault text options fault
-IsTextModuleFault others fault text = ⊥
+abbrev pub IsTextModuleFault : Task → List GivenRelation → ResetFault → List ℕ → Type 0
+IsTextModuleFault (Reset options coding) given fault text =
+    (length text ≤ TEXT_BYTES) × IsTextModuleNameFault text given options fault
+IsTextModuleFault others given fault text = ⊥
 
 -- what the outcome of a task on a text that was read says of its bytes
-abbrev pub SaysOf : Task → OptOutcome → List ℕ → Type 0
-SaysOf task Done text = HasNet text
-SaysOf task (BadText fault) text = (length text ≤ TEXT_BYTES) × IsOptFault text fault
-SaysOf task (BadComponent fault) text = IsTextComponentFault task fault text
-SaysOf task (BadModule fault) text = IsTextModuleFault task fault text
-SaysOf task TooLong text = TEXT_BYTES < length text
-SaysOf task WriteFault text = HasNet text
-SaysOf task NoMemory text = ⊤
-SaysOf task others text = ⊥
+abbrev pub SaysOf : Task → (given : List GivenRelation) → OptOutcome → List ℕ → Type 0
+SaysOf task given Done text = HasNet text
+SaysOf task given (BadText fault) text = (length text ≤ TEXT_BYTES) × IsGivenFault text given fault
+SaysOf task given (BadComponent fault) text = IsTextComponentFault task given fault text
+SaysOf task given (BadModule fault) text = IsTextModuleFault task given fault text
+SaysOf task given TooLong text = TEXT_BYTES < length text
+SaysOf task given WriteFault text = HasNet text
+SaysOf task given NoMemory text = ⊤
+SaysOf task given others text = ⊥
 
 -- The source stands for a program, by its main module, whose graph keeps the limits. Over every list of items that meet
 -- its relations its reactions are constructive.
@@ -95,7 +97,8 @@ IsSourceComponentFault (Embed component layout) main fault source = IsProgramNam
 IsSourceComponentFault others main fault source = ⊥
 
 abbrev pub IsSourceModuleFault : Task → (main : Option (List ℕ)) → ResetFault → (source : List ℕ) → Type 0
-IsSourceModuleFault (Reset options) main fault source = IsProgramModuleFault source main options fault
+IsSourceModuleFault (Reset options coding) main fault source =
+    IsProgramModuleFault source main coding options fault
 IsSourceModuleFault others main fault source = ⊥
 
 -- what the outcome of a task on a source that was read says of its bytes
@@ -127,7 +130,7 @@ IsWriting others = ⊥
 abbrev pub IsOptOutcomeOf : Option Request → Content → OptOutcome → Type 0
 IsOptOutcomeOf None content outcome = outcome ≡ Usage
 IsOptOutcomeOf (Some (Tell about)) content outcome = IsWriting outcome
-IsOptOutcomeOf (Some (Do task name)) content outcome = AgreesOnFile content name (SaysOf task) outcome
+IsOptOutcomeOf (Some (Do task given name)) content outcome = AgreesOnFile content name (SaysOf task given) outcome
 IsOptOutcomeOf (Some (Make task name main)) content outcome = AgreesOnFile content name (SourceSays task main) outcome
 
 -- ---- the files
@@ -135,7 +138,7 @@ IsOptOutcomeOf (Some (Make task name main)) content outcome = AgreesOnFile conte
 -- The count of faults of the files and the name that failed last: a file fault raised the count, and the name is the
 -- file's; every other outcome leaves both.
 abbrev pub CountsFiles : Option Request → OptOutcome → (before now : ℕ) (failed_before failed_now : List ℕ) → Type 0
-CountsFiles (Some (Do task name)) FileFault before now failed_before failed_now = Notes before now name failed_now
+CountsFiles (Some (Do task given name)) FileFault before now failed_before failed_now = Notes before now name failed_now
 CountsFiles (Some (Make task name main)) FileFault before now failed_before failed_now =
     Notes before now name failed_now
 CountsFiles asked others before now failed_before failed_now = KeepsFaults before now failed_before failed_now
@@ -146,12 +149,12 @@ CountsFiles asked others before now failed_before failed_now = KeepsFaults befor
 abbrev pub LeavesAnswer : Task → (List ℕ → Type 0) → SinkChange → OptOutcome → Type 0
 LeavesAnswer (Write form) IsText s outcome = LeavesPieces IsText s (written_of outcome)
 LeavesAnswer (Embed component layout) IsText s outcome = LeavesText IsText s (written_of outcome)
-LeavesAnswer (Reset options) IsText s outcome = LeavesText IsText s (written_of outcome)
+LeavesAnswer (Reset options coding) IsText s outcome = LeavesText IsText s (written_of outcome)
 LeavesAnswer Check IsText s outcome = LeavesText IsText s (written_of outcome)
 
 -- what a task writes of the text in a file
-abbrev pub IsTextOf : Task → List ℕ → Content → List ℕ → Type 0
-IsTextOf task name content written = Holds content name (λ text. IsAnswer task text written)
+abbrev pub IsTextOf : Task → List GivenRelation → (name : List ℕ) → Content → List ℕ → Type 0
+IsTextOf task given name content written = Holds content name (λ text. IsAnswer task text given written)
 
 -- what a task writes of a source, where it ends with an outcome: what is asked for, or a trace to an instant that is
 -- not constructive
@@ -174,6 +177,6 @@ IsSourceTextOf outcome task name main content written =
 abbrev pub GainsOut : Option Request → Content → OptOutcome → SinkChange → Type 0
 GainsOut None content outcome s = Appends s.before s.after s.faults_before s.faults_now []
 GainsOut (Some (Tell about)) content outcome s = LeavesText (λ written. written ≡ own_text about) s (written_of outcome)
-GainsOut (Some (Do task name)) content outcome s = LeavesAnswer task (IsTextOf task name content) s outcome
+GainsOut (Some (Do task given name)) content outcome s = LeavesAnswer task (IsTextOf task given name content) s outcome
 GainsOut (Some (Make task name main)) content outcome s =
     LeavesAnswer task (IsSourceTextOf outcome task name main content) s outcome

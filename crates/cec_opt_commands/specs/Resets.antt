@@ -4,6 +4,8 @@ use Rattle.std.specs.Prelude.{Option, Some, None, is_some, option_and_then, opti
 use Rattle.base_types.specs.Names.{is_same_name}
 use Rattle.vlog_reset.specs.Options.{ModuleOptions}
 use Rattle.vlog_reset.specs.declared.options.Manner.{Manner}
+use Rattle.cec_opt_sources.specs.declared.light.Coding.{Coding}
+use Rattle.cec_opt_sources.specs.declared.light.Coding.TheVariants.{Lighter, Encoded}
 use Rattle.cec_opt_commands.specs.GivenNames.{is_plain}
 
 -- what the words have said so far
@@ -12,6 +14,7 @@ pub record Wanted : Type 0 where
   pub source : Option (List ℕ)
   pub main : Option (List ℕ)
   pub text : Option (List ℕ)
+  pub is_encoded : Bool
 
 -- before any such word: a reset of this name that takes effect at edges of the clock, and is active high
 abbrev pub plain_reset : List ℕ → Wanted
@@ -25,6 +28,7 @@ plain_reset reset = record {
   source = None;
   main = None;
   text = None;
+  is_encoded = false;
 }
 
 -- ---- words without a value, each at most once
@@ -53,14 +57,25 @@ with_flag o word =
     if is_same_name word (codes "--prefix") then with_prefixes o
     else option_map (λ m. record o { manner = m }) (manner_with o.manner word)
 
--- a text, where neither one nor a source is named
+-- a text, where neither one nor a source is named, and none is asked to be encoded
 abbrev pub with_its_text : Wanted → List ℕ → Option Wanted
 with_its_text w name =
-    if is_some w.text || (is_some w.source || is_some w.main) then None else Some (record w { text = Some name })
+    if is_some w.text || (is_some w.source || (is_some w.main || w.is_encoded)) then None
+    else Some (record w { text = Some name })
+
+-- a source is encoded, and no text
+abbrev pub with_encoded : Wanted → Option Wanted
+with_encoded w = if is_some w.text || w.is_encoded then None else Some (record w { is_encoded = true })
+
+-- the circuit of a source whose latches hold the state in a code, or the lighter one of two
+abbrev pub coding_of : Bool → Coding
+coding_of true = Encoded
+coding_of false = Lighter
 
 abbrev pub with_word : Wanted → List ℕ → Option Wanted
 with_word w word =
     if is_plain word then with_its_text w word
+    else if is_same_name word (codes "--encode") then with_encoded w
     else option_map (λ o. record w { options = o }) (with_flag w.options word)
 
 -- ---- words with a value, each at most once

@@ -1,12 +1,17 @@
 -- To believe: what the words of a command line ask for.
-use Rattle.std.specs.Prelude.{ℕ, Bool, false, not, ◌||◌, if◌then◌else◌, List, [], ◌∷◌, ◌++◌, codes, Option, Some}
+use Rattle.std.specs.Prelude.{ℕ, Bool, true, false, not, ◌||◌, if◌then◌else◌, List, [], ◌∷◌, ◌++◌, codes, Option, Some}
 use Rattle.std.specs.Prelude.{None, is_some, option_and_then, option_map}
 use Rattle.base_types.specs.Names.{is_same_name}
 use Rattle.csub_embed.specs.declared.layout.EmbedLayout.{EmbedLayout}
 use Rattle.vlog_reset.specs.Options.{ModuleOptions}
+use Rattle.cec_opt_sources.specs.declared.light.Coding.{Coding}
+use Rattle.cec_opt_sources.specs.declared.light.Coding.TheVariants.{Lighter}
+use Rattle.cec_opt_texts.specs.Related.{GivenRelation}
 pub use Rattle.cec_opt_commands.specs.GivenNames.{is_plain}
 use Rattle.cec_opt_commands.specs.Layouts.{is_layout, layout_of, no_layout, with_layout}
-use Rattle.cec_opt_commands.specs.Resets.{Wanted, needs_value, plain_reset, wanted_with, with_value, with_word}
+use Rattle.cec_opt_commands.specs.Relations.{given_by, is_relation, rest_by}
+use Rattle.cec_opt_commands.specs.Resets.{Wanted, coding_of, needs_value, plain_reset, wanted_with, with_value}
+use Rattle.cec_opt_commands.specs.Resets.{with_word}
 use Rattle.cec_opt_commands.specs.declared.layouts.Laid.{Laid}
 use Rattle.cec_opt_commands.specs.declared.words.About.{About}
 use Rattle.cec_opt_commands.specs.declared.words.About.TheVariants.{Commands, Version}
@@ -19,8 +24,8 @@ pub data Task : Type 0 where
   Write : (form : Form) → Task
   -- its optimized circuit is written as embedded C, as a component of this name and in this layout
   Embed : (component : List ℕ) (layout : EmbedLayout) → Task
-  -- its optimized circuit is written as Verilog with a reset, with these names
-  Reset : (options : ModuleOptions) → Task
+  -- its optimized circuit is written as Verilog with a reset, with these names; of a source this one of two
+  Reset : (options : ModuleOptions) (coding : Coding) → Task
   -- the sizes of its circuit and of the optimized one are reported
   Check : Task
 
@@ -28,8 +33,8 @@ pub data Task : Type 0 where
 pub data Request : Type 0 where
   -- what the program writes about itself
   Tell : (about : About) → Request
-  -- a task on the text in the file of this name
-  Do : (task : Task) (name : List ℕ) → Request
+  -- a task on the text in the file of this name, where its inputs meet these relations
+  Do : (task : Task) (given : List GivenRelation) (name : List ℕ) → Request
   -- a task on the source in the file of this name, by the main module of this name
   Make : (task : Task) (name : List ℕ) (main : Option (List ℕ)) → Request
 
@@ -94,7 +99,7 @@ options_asked task words = option_and_then (source_asked task) (options_of words
 
 -- a task and a file
 abbrev pub text_asked : Task → List ℕ → Option Request
-text_asked task name = if is_plain name then Some (Do task name) else None
+text_asked task name = if is_plain name then Some (Do task [] name) else None
 
 -- one word is a file, and more are options
 abbrev pub rest_asked : Task → List (List ℕ) → Option Request
@@ -134,11 +139,11 @@ is_reset others word = false
 
 -- a text or a source must be named; a main module is one of a source
 abbrev pub text_wanted : Wanted → Option Request
-text_wanted w = if is_some w.main then None else option_map (λ name. Do (Reset w.options) name) w.text
+text_wanted w = if is_some w.main then None else option_map (λ name. Do (Reset w.options Lighter) [] name) w.text
 
 abbrev pub file_wanted : Wanted → Option (List ℕ) → Option Request
 file_wanted w None = text_wanted w
-file_wanted w (Some name) = Some (Make (Reset w.options) name w.main)
+file_wanted w (Some name) = Some (Make (Reset w.options (coding_of w.is_encoded)) name w.main)
 
 -- the name of the reset comes first
 abbrev pub reset_asked : List (List ℕ) → Option Request
@@ -154,11 +159,22 @@ task_asked task (word ∷ words) =
     else if is_reset task word then reset_asked words
     else rest_asked task (word ∷ words)
 
+-- a source has relations of its own, and takes no others
+abbrev pub given_request : List GivenRelation → Request → Option Request
+given_request given (Tell about) = Some (Tell about)
+given_request given (Do task none name) = Some (Do task given name)
+given_request [] (Make task name main) = Some (Make task name main)
+given_request (relation ∷ more) (Make task name main) = None
+
+-- relations come right after a command
+abbrev pub related_asked : Task → List (List ℕ) → Option Request
+related_asked task words = option_and_then (given_request (given_by words)) (task_asked task (rest_by words))
+
 -- every other list of words has no meaning
 abbrev pub request_by : List (List ℕ) → Option Request
 request_by [] = None
 request_by (word ∷ []) = word_asked word
-request_by (command ∷ word ∷ words) = option_and_then (λ task. task_asked task (word ∷ words)) (task_of command)
+request_by (command ∷ word ∷ words) = option_and_then (λ task. related_asked task (word ∷ words)) (task_of command)
 
 -- ---- what is wrong with words that have no meaning
 
@@ -190,7 +206,8 @@ misuse_of_options command (key ∷ value ∷ more) =
 
 -- one word after a command, which is no file
 abbrev pub misuse_of_one : List ℕ → List ℕ
-misuse_of_one word = if is_option word then codes "no value after " ++ word else codes "not a file: " ++ word
+misuse_of_one word =
+    if is_option word || is_relation word then codes "no value after " ++ word else codes "not a file: " ++ word
 
 -- two words and more, of which the first two are these: after a file comes none, else they are options
 abbrev pub misuse_of_words : (command name more : List ℕ) → List (List ℕ) → List ℕ
@@ -253,13 +270,28 @@ misuse_after_command command task (word ∷ words) =
     else if is_reset task word then misuse_of_reset command words
     else misuse_of_task command (word ∷ words)
 
+-- a request about a source
+abbrev pub is_source_asked : Option Request → Bool
+is_source_asked None = false
+is_source_asked (Some (Tell about)) = false
+is_source_asked (Some (Do task given name)) = false
+is_source_asked (Some (Make task name main)) = true
+
+-- relations come before a source; else something is wrong with the words after them
+abbrev pub misuse_of_related : (command : List ℕ) → Task → List (List ℕ) → List ℕ
+misuse_of_related command task [] = misuse_after_command command task []
+misuse_of_related command task (word ∷ words) =
+    if is_source_asked (task_asked task (rest_by (word ∷ words)))
+    then codes "a source has relations of its own: " ++ word
+    else misuse_after_command command task (rest_by (word ∷ words))
+
 -- after a word that asks about the program comes none; such a word alone has a meaning
 abbrev pub misuse_of_own : (word : List ℕ) → List (List ℕ) → List ℕ
 misuse_of_own word [] = codes "unknown word: " ++ word
 misuse_of_own word (more ∷ others) = codes "one word too many: " ++ more
 
 abbrev pub misuse_after : (word : List ℕ) → Option Task → Option Request → List (List ℕ) → List ℕ
-misuse_after word (Some task) own rest = misuse_after_command word task rest
+misuse_after word (Some task) own rest = misuse_of_related word task rest
 misuse_after word None (Some request) rest = misuse_of_own word rest
 misuse_after word None None rest = codes "unknown word: " ++ word
 

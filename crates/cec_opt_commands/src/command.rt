@@ -9,6 +9,7 @@ ghost use Rattle.cec_opt_commands.specs.HelpTexts.{own_text};
 ghost use Rattle.cec_opt_commands.specs.Lines.{GainsAfter, GainsErr, GainsSourceErr, line_of, named, source_subject};
 ghost use Rattle.cec_opt_commands.specs.Outcomes.{IsOptOutcomeOf, CountsFiles, GainsOut, LeavesAnswer};
 ghost use Rattle.cec_opt_commands.specs.Outcomes.{LeavesSourceAnswer, SaysOf, SourceSays};
+ghost use Rattle.cec_opt_commands.specs.Relations.{given_by};
 ghost use Rattle.cec_opt_commands.specs.Views.{plain_request, plain_task, subject_is};
 ghost use Rattle.cec_opt_commands.specs.Words.{request_by, Do, Make, Tell};
 
@@ -38,7 +39,11 @@ cec-opt verilog --reset NAME TEXT
     --initial          after NAME: the registers have their first values at power-up too
     --module M         after NAME: the name of the module, in place of the circuit's
     --prefix           after NAME: inputs are i_X and outputs o_X, where X is the signal
+    --encode           after NAME and with --source: the circuit with its state in a code, not the lighter one
 cec-opt check TEXT     writes the sizes of the circuit and of the optimized one
+    --never A,B[,..]   right after the command: at most one of these inputs of TEXT is ever present
+    --implies A,B      right after the command: the input B of TEXT is present whenever A is
+                       any number of both; events that break one of them do not count
     --source FILE      in place of TEXT: compiles the source FILE, with its state plain and in a code,
                        and takes the lighter circuit; a latch weighs as much as four gates
                        its dependencies may have a cycle, if it is constructive for every event
@@ -74,7 +79,12 @@ const LARGE_SOURCE: usize = 10_000;
 /// the clock and of the reset that begin with a reset. At each edge without one the module shows what the text shows
 /// that was read (`ResetKeeps`), or what the source's program means (`ResetTextKeeps`). `BadModule` has the first
 /// fault of the names. The words `--async`, `--active-low`, `--initial`, `--prefix` and `--module M` come after `NAME`
-/// in any order, also after the file.
+/// in any order, also after the file. So does `--encode` with `--source`: then the netlist is not the lighter one, but
+/// the one whose latches hold the state in a code, unless the dependencies of the source have a cycle.
+///
+/// Right after the command may come `--never A,B[,C..]`, at most one of these inputs is present, and `--implies A,B`,
+/// the second input is present whenever the first one is, each any number of times. Then only events that meet these
+/// relations count, and the netlist may be smaller. A name that is no input is the fault `NoInput` of the text.
 ///
 /// With `--source FILE` in place of `TEXT` the file has a source, which is compiled first, by its module of the name
 /// after `--main`, or by its first one. Its plain and its encoded netlist are optimized, and the lighter one is written
@@ -109,7 +119,9 @@ pub fn cec_opt<F: Files, O: Sink, E: Sink>(
         (E.told err.old) (E.told err.new) (E.faults err.old) (E.faults err.new) }
 {
     match request_by(words) {
-        Some(Request::Do(task, name)) => do_file(alloc, task, name, files, progress, out, err),
+        Some(Request::Do(task, given, name)) => {
+            do_file(alloc, task, given, name, files, progress, out, err)
+        }
         Some(Request::Make(task, name, main)) => {
             do_source(alloc, task, name, main, files, progress, out, err)
         }
@@ -146,22 +158,26 @@ fn own_text(about: About) -> &'static [u8]
 fn do_file<F: Files, O: Sink, E: Sink>(
     alloc: Global,
     task: Task<'_>,
+    given: &[String],
     name: &str,
     files: &mut F,
     progress: bool,
     out: &mut O,
     err: &mut E,
 ) -> OptOutcome
-    ensures agrees { IsOptOutcomeOf (Some (Do (plain_task task.entry) name.now)) (F.content files.old) result }
-    ensures files_counted { CountsFiles (Some (Do (plain_task task.entry) name.now)) result
+    ensures agrees { IsOptOutcomeOf
+        (Some (Do (plain_task task.entry) (given_by (map string_bytes given.now)) name.now))
+        (F.content files.old) result }
+    ensures files_counted { CountsFiles
+        (Some (Do (plain_task task.entry) (given_by (map string_bytes given.now)) name.now)) result
         (F.faults files.old) (F.faults files.new) (F.last_failed files.old) (F.last_failed files.new) }
     ensures files_stay { F.content files.new ≡ F.content files.old }
-    ensures out { GainsOut (Some (Do (plain_task task.entry) name.now)) (F.content files.old) result
-        (change O.told O.faults out.old out.new) }
+    ensures out { GainsOut (Some (Do (plain_task task.entry) (given_by (map string_bytes given.now)) name.now))
+        (F.content files.old) result (change O.told O.faults out.old out.new) }
     ensures err { GainsAfter progress (change E.told E.faults err.old err.new) (line_of (named name.now) result) }
 {
     match files.read(alloc, name, Limits::TEXT_BYTES) {
-        Ok(text) => told_text(alloc, task, name, &text, progress, out, err),
+        Ok(text) => told_text(alloc, task, given, name, &text, progress, out, err),
         Err(fault) => {
             let outcome = OptOutcome::from(fault);
             report(err, named(name), &outcome);
@@ -174,6 +190,7 @@ fn do_file<F: Files, O: Sink, E: Sink>(
 fn told_text<O: Sink, E: Sink>(
     alloc: Global,
     task: Task<'_>,
+    given: &[String],
     name: &str,
     text: &[u8],
     progress: bool,
@@ -181,13 +198,14 @@ fn told_text<O: Sink, E: Sink>(
     err: &mut E,
 ) -> OptOutcome
     requires { length text.now ≤ Limits.TEXT_BYTES }
-    ensures says { SaysOf (plain_task task.entry) result text.now }
-    ensures out { LeavesAnswer (plain_task task.entry) (IsAnswer (plain_task task.entry) text.now)
+    ensures says { SaysOf (plain_task task.entry) (given_by (map string_bytes given.now)) result text.now }
+    ensures out { LeavesAnswer (plain_task task.entry)
+        (IsAnswer (plain_task task.entry) text.now (given_by (map string_bytes given.now)))
         (change O.told O.faults out.old out.new) result }
     ensures err { GainsAfter progress (change E.told E.faults err.old err.new) (line_of (named name.now) result) }
 {
     let told = put_waiting(err, progress && text.len() > LARGE_TEXT);
-    let outcome = do_task(alloc, task, text, out);
+    let outcome = do_task(alloc, task, given, text, out);
     report_after(err, told, named(name), &outcome);
     outcome
 }

@@ -1,6 +1,6 @@
 // What is reported of a text's circuit, or of a source's, and of its optimized one.
 
-ghost use Rattle.std.specs.Prelude.{◌≡◌, ◌≤◌, ◌++◌, length, IfErr, IfOk, option_map};
+ghost use Rattle.std.specs.Prelude.{◌≡◌, ◌≤◌, ◌++◌, length, map, IfErr, IfOk, option_map};
 ghost use Rattle.base_types.specs.Stops.{IfFault};
 ghost use Rattle.est_kernel.specs.Plain.{Program};
 ghost use Rattle.net_ir.specs.Netlists.{Netlist};
@@ -11,7 +11,8 @@ ghost use Rattle.cec_compile.specs.Graphs.{IsRefusedGraph};
 ghost use Rattle.cec_compile.specs.Refusals.{IsRefused};
 ghost use Rattle.cec_cycles.specs.Constructive.{HasCycle, IsRefusedConstructive};
 ghost use Rattle.cec_opt_sources.specs.LightNets.{IsLightOf};
-ghost use Rattle.cec_opt_texts.specs.Faults.{IsOptFault};
+ghost use Rattle.cec_opt_texts.specs.Faults.{IsGivenFault, IsNoInput};
+ghost use Rattle.cec_opt_texts.specs.Related.{named_relation, numbered_relations};
 ghost use Rattle.cec_opt_commands.specs.Answers.{TellsAny, TellsNets, TellsSource, TellsText};
 ghost use Rattle.cec_opt_commands.specs.Answers.{IsCyclicLines, constructive_lines, counts_line};
 
@@ -20,33 +21,54 @@ use base_types::{Limits, NoMemory, Stop};
 use cec_compile::{Compiled, Cycle, Refusal, compile};
 use cec_cycles::{CycleRefusal, cyclic_net, source_cycles};
 use cec_opt_sources::light_of;
-use cec_opt_texts::{OptFault, text_net};
+use cec_opt_texts::{GivenRelation, OptFault, optimized_under, text_net};
 use cec_text_io::joined;
 use grc_cycles::CycleCounts;
 use grc_order::First;
 use itoa::Buffer;
 use net_ir::Net;
-use net_opt::optimize;
 use std::alloc::Global;
 
-/// A line of counts of a text's circuit, and one of what it becomes.
-pub(crate) fn text_counts(alloc: Global, text: &[u8]) -> Result<Vec<u8>, Stop<OptFault>>
+/// A line of counts of a text's circuit, and one of what it becomes where its inputs meet the relations.
+pub(crate) fn text_counts(
+    alloc: Global,
+    text: &[u8],
+    given: &[GivenRelation<'_>],
+) -> Result<Vec<u8>, Stop<OptFault>>
     requires { length text.now ≤ Limits.TEXT_BYTES }
-    ensures lines { IfOk result (λ lines. TellsText text.now lines.items) }
-    ensures fault { IfFault result (IsOptFault text.now) }
+    ensures lines { IfOk result (λ lines. TellsText text.now (map named_relation given.now) lines.items) }
+    ensures fault { IfFault result (IsGivenFault text.now (map named_relation given.now)) }
 {
-    let net = text_net(alloc, text)?;
-    let lines = both_lines(alloc, &net)?;
-    Ok(lines)
+    match text_net(alloc, text) {
+        Ok(net) => both_lines(alloc, &net, given),
+        Err(stop) => Err(stop),
+    }
 }
 
 // The same of a netlist.
-fn both_lines(alloc: Global, net: &Net) -> Result<Vec<u8>, NoMemory>
-    ensures { IfOk result (λ lines. TellsNets (netlist_of net.now) lines.items) }
+fn both_lines(
+    alloc: Global,
+    net: &Net,
+    given: &[GivenRelation<'_>],
+) -> Result<Vec<u8>, Stop<OptFault>>
+    ensures lines { IfOk result
+        (λ lines. TellsNets (map named_relation given.now) (netlist_of net.now) lines.items) }
+    ensures fault { IfFault result
+        (IsNoInput (numbered_relations (netlist_of net.now).inputs (map named_relation given.now))) }
 {
-    let small = optimize(alloc, net)?;
+    match optimized_under(alloc, net, given) {
+        Ok(small) => Ok(two_lines(alloc, net, &small)?),
+        Err(stop) => Err(stop),
+    }
+}
+
+// The lines of two netlists.
+fn two_lines(alloc: Global, net: &Net, small: &Net) -> Result<Vec<u8>, NoMemory>
+    ensures { IfOk result
+        (λ lines. lines.items ≡ counts_line (netlist_of net.now) ++ counts_line (netlist_of small.now)) }
+{
     let before = counts_line(alloc, net)?;
-    let after = counts_line(alloc, &small)?;
+    let after = counts_line(alloc, small)?;
     let lines = joined(alloc, &[&before, &after])?;
     Ok(lines)
 }

@@ -1,7 +1,8 @@
 // Embedded C of a text, and of a source.
 
-ghost use Rattle.std.specs.Prelude.{◌≤◌, length, option_map};
+ghost use Rattle.std.specs.Prelude.{◌≤◌, length, map, option_map};
 ghost use Rattle.base_types.specs.SinkChanges.{change};
+ghost use Rattle.cec_opt_texts.specs.Related.{named_relation};
 ghost use Rattle.cec_opt_commands.specs.Answers.{IsAnswer};
 ghost use Rattle.cec_opt_commands.specs.Outcomes.{LeavesAnswer, LeavesSourceAnswer, SaysOf, SourceSays};
 ghost use Rattle.cec_opt_commands.specs.Stopping.{IsEmbedStopOutcome};
@@ -11,26 +12,29 @@ use crate::outcome::OptOutcome;
 use crate::sources::{EFFORT, refused};
 use base_types::{Limits, Sink, Stop};
 use cec_opt_embed::{SourceEmbedFault, embedded_c_of, optimized_embedded};
+use cec_opt_texts::GivenRelation;
 use cec_text_io::write_whole;
 use csub_embed::EmbedLayout;
 use grc_order::First;
 use std::alloc::Global;
 
-/// Writes the optimized circuit of a text as embedded C, as a component of this name and in this layout, and says how
-/// it ended.
+/// Writes the circuit of a text, optimized where its inputs meet the relations, as embedded C, as a component of this
+/// name and in this layout. Says how it ended.
 pub(crate) fn embed_text<O: Sink>(
     alloc: Global,
     component: &[u8],
     layout: EmbedLayout,
+    given: &[GivenRelation<'_>],
     text: &[u8],
     out: &mut O,
 ) -> OptOutcome
     requires { length text.now ≤ Limits.TEXT_BYTES }
-    ensures says { SaysOf (Embed component.now layout) result text.now }
-    ensures out { LeavesAnswer (Embed component.now layout) (IsAnswer (Embed component.now layout) text.now)
+    ensures says { SaysOf (Embed component.now layout) (map named_relation given.now) result text.now }
+    ensures out { LeavesAnswer (Embed component.now layout)
+        (IsAnswer (Embed component.now layout) text.now (map named_relation given.now))
         (change O.told O.faults out.old out.new) result }
 {
-    match optimized_embedded(alloc, text, component, layout) {
+    match optimized_embedded(alloc, text, given, component, layout) {
         Ok(written) => OptOutcome::from(write_whole(&written, out)),
         Err(stop) => OptOutcome::from(stop),
     }

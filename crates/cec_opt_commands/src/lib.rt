@@ -6,7 +6,8 @@
 //! `--source` it reads a source in place of a text, and compiles it first (`cec_opt_sources`): then the text that is
 //! written does what the source means. With `--embed` after `c` it writes embedded C (`cec_opt_embed`): a header in
 //! which any number of instances of the circuit run, or one of two files. With `--reset` after `verilog` it writes
-//! Verilog for synthesis, with a reset (`cec_opt_reset`).
+//! Verilog for synthesis, with a reset (`cec_opt_reset`). With `--never` and `--implies` the inputs of a text meet
+//! relations, and only events that meet them count.
 #![tactic(auto)]
 
 mod command;
@@ -16,7 +17,9 @@ mod embedded;
 mod laws;
 mod layouts;
 mod lines;
+mod misuses;
 mod outcome;
+mod relations;
 mod resets;
 mod resetting;
 mod sources;

@@ -10,8 +10,8 @@ ghost use Rattle.cec_opt_commands.specs.Lines.{reset_fault_text, own_line, refus
 ghost use Rattle.cec_opt_commands.specs.Views.{subject_is};
 ghost use Rattle.cec_opt_commands.specs.Words.{misuse_of};
 
+use crate::misuses::misuse_of;
 use crate::outcome::OptOutcome;
-use crate::words::misuse_of;
 use base_types::{Limits, Sink, SinkFault, write_pieces};
 use blif_net::CircuitFault;
 use cec_cycles::Stuck;
@@ -249,6 +249,9 @@ fn put_fault<E: Sink>(err: &mut E, fault: &OptFault) -> Result<(), SinkFault>
             write_pieces(err, &[b"cec-opt: ", b"no driver: ", name.bytes(), b"\n"])
         }
         OptFault::Circuit(fault) => put_circuit_fault(err, fault),
+        OptFault::NoInput(name) => {
+            write_pieces(err, &[b"cec-opt: ", b"no input: ", name.bytes(), b"\n"])
+        }
     }
 }
 

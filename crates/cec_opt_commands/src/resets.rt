@@ -4,12 +4,14 @@ ghost use Rattle.std.specs.Prelude.{◌≡◌, None, map, option_map};
 ghost use Rattle.std.specs.String.{string_bytes};
 ghost use Rattle.vlog_reset.specs.Views.{options_of};
 ghost use Rattle.cec_opt_commands.specs.Resets.{
+  coding_of,
   manner_with,
   needs_value,
   plain_reset,
   wanted_with,
   with_active_low,
   with_asynchronous,
+  with_encoded,
   with_flag,
   with_initialized,
   with_its_main,
@@ -23,6 +25,7 @@ ghost use Rattle.cec_opt_commands.specs.Resets.{
 ghost use Rattle.cec_opt_commands.specs.Views.{wanted_is};
 
 use crate::words::is_plain;
+use cec_opt_sources::Coding;
 use vlog_reset::{Manner, ResetOptions};
 
 /// What the words have said so far.
@@ -35,6 +38,8 @@ pub(crate) struct Wanted<'a> {
     pub(crate) main: Option<&'a [u8]>,
     /// The file with a text.
     pub(crate) text: Option<&'a str>,
+    /// Whether the circuit of a source is the one whose latches hold the state in a code.
+    pub(crate) is_encoded: bool,
 }
 
 /// Before any such word: a reset that takes effect at edges of the clock, and is active high.
@@ -55,6 +60,7 @@ pub(crate) fn plain_reset(reset: &[u8]) -> Wanted<'_>
         source: None,
         main: None,
         text: None,
+        is_encoded: false,
     }
 }
 
@@ -131,11 +137,15 @@ fn with_flag<'a>(options: ResetOptions<'a>, word: &[u8]) -> Option<ResetOptions<
     Some(ResetOptions { manner, ..options })
 }
 
-// The file with a text, where neither one nor a source is named.
+// The file with a text, where neither one nor a source is named, and none is asked to be encoded.
 fn with_its_text<'a>(wanted: Wanted<'a>, name: &'a str) -> Option<Wanted<'a>>
     ensures { option_map wanted_is result ≡ with_its_text (wanted_is wanted.entry) name.now }
 {
-    if wanted.text.is_some() || wanted.source.is_some() || wanted.main.is_some() {
+    if wanted.text.is_some()
+        || wanted.source.is_some()
+        || wanted.main.is_some()
+        || wanted.is_encoded
+    {
         return None;
     }
     Some(Wanted {
@@ -144,12 +154,39 @@ fn with_its_text<'a>(wanted: Wanted<'a>, name: &'a str) -> Option<Wanted<'a>>
     })
 }
 
+// A source is encoded, and no text.
+fn with_encoded<'a>(wanted: Wanted<'a>) -> Option<Wanted<'a>>
+    ensures { option_map wanted_is result ≡ with_encoded (wanted_is wanted.entry) }
+{
+    if wanted.text.is_some() || wanted.is_encoded {
+        return None;
+    }
+    Some(Wanted {
+        is_encoded: true,
+        ..wanted
+    })
+}
+
+/// The circuit of a source whose latches hold the state in a code, or the lighter one of two.
+pub(crate) fn coding_of(is_encoded: bool) -> Coding
+    ensures { result ≡ coding_of is_encoded }
+{
+    if is_encoded {
+        Coding::Encoded
+    } else {
+        Coding::Lighter
+    }
+}
+
 /// One more word that is no value: a file, or one for the reset. `None` where it does not go with those before.
 pub(crate) fn with_word<'a>(wanted: Wanted<'a>, word: &'a str) -> Option<Wanted<'a>>
     ensures { option_map wanted_is result ≡ with_word (wanted_is wanted.entry) word.now }
 {
     if is_plain(word.as_bytes()) {
         return with_its_text(wanted, word);
+    }
+    if word.as_bytes() == b"--encode".as_slice() {
+        return with_encoded(wanted);
     }
     let options = with_flag(wanted.options, word.as_bytes())?;
     Some(Wanted { options, ..wanted })

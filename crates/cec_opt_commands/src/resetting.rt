@@ -1,8 +1,9 @@
 // Verilog with a reset of a text, and of a source.
 
-ghost use Rattle.std.specs.Prelude.{◌≤◌, length, option_map};
+ghost use Rattle.std.specs.Prelude.{◌≤◌, length, map, option_map};
 ghost use Rattle.base_types.specs.SinkChanges.{change};
 ghost use Rattle.vlog_reset.specs.Views.{options_of};
+ghost use Rattle.cec_opt_texts.specs.Related.{named_relation};
 ghost use Rattle.cec_opt_commands.specs.Answers.{IsAnswer};
 ghost use Rattle.cec_opt_commands.specs.Outcomes.{LeavesAnswer, LeavesSourceAnswer, SaysOf, SourceSays};
 ghost use Rattle.cec_opt_commands.specs.Stopping.{IsResetStopOutcome};
@@ -12,24 +13,30 @@ use crate::outcome::OptOutcome;
 use crate::sources::{EFFORT, refused};
 use base_types::{Limits, Sink, Stop};
 use cec_opt_reset::{SourceResetFault, optimized_reset, reset_verilog_of};
+use cec_opt_sources::Coding;
+use cec_opt_texts::GivenRelation;
 use cec_text_io::write_whole;
 use grc_order::First;
 use std::alloc::Global;
 use vlog_reset::ResetOptions;
 
-/// Writes the optimized circuit of a text as Verilog with a reset, and says how it ended.
+/// Writes the circuit of a text, optimized where its inputs meet the relations, as Verilog with a reset. Says how it
+/// ended. The coding is of sources alone: it is there only for the contract.
 pub(crate) fn reset_text<O: Sink>(
     alloc: Global,
     options: ResetOptions<'_>,
+    coding: Coding,
+    given: &[GivenRelation<'_>],
     text: &[u8],
     out: &mut O,
 ) -> OptOutcome
     requires { length text.now ≤ Limits.TEXT_BYTES }
-    ensures says { SaysOf (Reset (options_of options.entry)) result text.now }
-    ensures out { LeavesAnswer (Reset (options_of options.entry)) (IsAnswer (Reset (options_of options.entry)) text.now)
+    ensures says { SaysOf (Reset (options_of options.entry) coding) (map named_relation given.now) result text.now }
+    ensures out { LeavesAnswer (Reset (options_of options.entry) coding)
+        (IsAnswer (Reset (options_of options.entry) coding) text.now (map named_relation given.now))
         (change O.told O.faults out.old out.new) result }
 {
-    match optimized_reset(alloc, text, options) {
+    match optimized_reset(alloc, text, given, options) {
         Ok(written) => OptOutcome::from(write_whole(&written, out)),
         Err(stop) => OptOutcome::from(stop),
     }
@@ -39,17 +46,19 @@ pub(crate) fn reset_text<O: Sink>(
 pub(crate) fn reset_source<O: Sink>(
     alloc: Global,
     options: ResetOptions<'_>,
+    coding: Coding,
     source: &[u8],
     main: Option<&[u8]>,
     out: &mut O,
 ) -> OptOutcome
     requires { length source.now ≤ Limits.SOURCE_BYTES }
-    ensures says { SourceSays (Reset (options_of options.entry)) (option_map (λ m. m.now) main.entry) result
+    ensures says { SourceSays (Reset (options_of options.entry) coding) (option_map (λ m. m.now) main.entry) result
         source.now }
-    ensures out { LeavesSourceAnswer (Reset (options_of options.entry)) source.now (option_map (λ m. m.now) main.entry)
+    ensures out { LeavesSourceAnswer (Reset (options_of options.entry) coding) source.now
+        (option_map (λ m. m.now) main.entry)
         (change O.told O.faults out.old out.new) result }
 {
-    match reset_verilog_of(alloc, source, main, &mut First, EFFORT, options) {
+    match reset_verilog_of(alloc, source, main, &mut First, coding, EFFORT, options) {
         Ok(written) => OptOutcome::from(write_whole(&written, out)),
         Err(stop) => unreset(stop, out),
     }

@@ -15,6 +15,7 @@ use crate::texts::write_net;
 use crate::words::{Form, Task};
 use base_types::{Limits, Sink};
 use cec_cycles::{CycleRefusal, Stuck, constructive_net};
+use cec_opt_sources::Coding;
 use cec_text_io::{Written, write_whole};
 use grc_order::First;
 use std::alloc::Global;
@@ -38,7 +39,7 @@ pub(crate) fn do_source_task<O: Sink>(
     match task {
         Task::Write(form) => write_source(alloc, form, source, main, out),
         Task::Embed(component, layout) => embed_source(alloc, component, layout, source, main, out),
-        Task::Reset(options) => reset_source(alloc, options, source, main, out),
+        Task::Reset(options, coding) => reset_source(alloc, options, coding, source, main, out),
         Task::Check => write_source_counts(alloc, source, main, out),
     }
 }
@@ -56,7 +57,7 @@ fn write_source<O: Sink>(
     ensures out { LeavesSourceAnswer (Write form) source.now (option_map (λ m. m.now) main.entry)
         (change O.told O.faults out.old out.new) result }
 {
-    match constructive_net(alloc, source, main, &mut First, EFFORT) {
+    match constructive_net(alloc, source, main, &mut First, Coding::Lighter, EFFORT) {
         Ok(net) => OptOutcome::from(write_net(alloc, form, &net, out)),
         Err(refusal) => refused(refusal, out),
     }

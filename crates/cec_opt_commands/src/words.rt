@@ -1,9 +1,10 @@
 // What the words of a command line ask for.
 
-ghost use Rattle.std.specs.Prelude.{◌≡◌, ◌∷◌, ◌++◌, ℕ, List, None, codes, map, option_map};
+ghost use Rattle.std.specs.Prelude.{◌≡◌, None, codes, map, option_map};
 ghost use Rattle.std.specs.String.{string_bytes};
 ghost use Rattle.base_types.specs.Names.{is_same_name};
-ghost use Rattle.cec_opt_commands.specs.Resets.{plain_reset, Wanted as SpecWanted};
+ghost use Rattle.cec_opt_commands.specs.Relations.{given_by};
+ghost use Rattle.cec_opt_commands.specs.Resets.{plain_reset};
 ghost use Rattle.cec_opt_commands.specs.Words.{
   embed_asked,
   file_wanted,
@@ -12,22 +13,6 @@ ghost use Rattle.cec_opt_commands.specs.Words.{
   is_plain,
   is_reset,
   laid_asked,
-  misuse_after,
-  misuse_after_command,
-  misuse_of,
-  misuse_of_embed,
-  misuse_of_end,
-  misuse_of_laid,
-  misuse_of_more,
-  misuse_of_more_laid,
-  misuse_of_one,
-  misuse_of_options,
-  misuse_of_own,
-  misuse_of_reset,
-  misuse_of_task,
-  misuse_of_wanted,
-  misuse_of_word,
-  misuse_of_words,
   more_laid,
   more_options,
   no_options,
@@ -35,12 +20,14 @@ ghost use Rattle.cec_opt_commands.specs.Words.{
   options_of,
   request_by,
   reset_asked,
+  related_asked,
   rest_asked,
   source_asked,
   task_asked,
   task_of,
   text_asked,
   text_wanted,
+  given_request,
   with_main,
   with_option,
   with_source,
@@ -49,7 +36,9 @@ ghost use Rattle.cec_opt_commands.specs.Words.{
 ghost use Rattle.cec_opt_commands.specs.Views.{options_are, plain_request, plain_task, wanted_is};
 
 use crate::layouts::{Laid, is_layout, layout_of, no_layout, with_layout};
-use crate::resets::{Wanted, needs_value, plain_reset, wanted_with, with_value, with_word};
+use crate::relations::{first_relation, rest_by};
+use crate::resets::{Wanted, coding_of, plain_reset, wanted_with};
+use cec_opt_sources::Coding;
 use csub_embed::EmbedLayout;
 use vlog_reset::ResetOptions;
 
@@ -71,8 +60,9 @@ pub(crate) enum Task<'a> {
     Write(Form),
     /// Its optimized circuit is written as embedded C, as a component of this name and in this layout.
     Embed(&'a [u8], EmbedLayout),
-    /// Its optimized circuit is written as Verilog with a reset, with these names.
-    Reset(ResetOptions<'a>),
+    /// Its optimized circuit is written as Verilog with a reset, with these names. Of a source it is this one of two
+    /// circuits.
+    Reset(ResetOptions<'a>, Coding),
     /// The sizes of its circuit and of the optimized one are reported.
     Check,
 }
@@ -91,15 +81,15 @@ pub(crate) enum About {
 pub(crate) enum Request<'a> {
     /// What the program writes about itself.
     Tell(About),
-    /// A task on the text in the file of this name.
-    Do(Task<'a>, &'a str),
+    /// A task on the text in the file of this name, where its inputs meet the relations that these words begin with.
+    Do(Task<'a>, &'a [String], &'a str),
     /// A task on the source in the file of this name, by the main module of this name.
     Make(Task<'a>, &'a str, Option<&'a [u8]>),
 }
 
-// The options of a command on a source.
+/// The options of a command on a source.
 #[derive(Clone, Copy)]
-struct Options<'a> {
+pub(crate) struct Options<'a> {
     source: Option<&'a str>,
     main: Option<&'a [u8]>,
 }
@@ -113,11 +103,34 @@ pub(crate) fn request_by(words: &[String]) -> Option<Request<'_>>
         return word_asked(command.as_bytes());
     }
     let task = task_of(command.as_bytes())?;
-    task_asked(task, rest)
+    related_asked(task, rest)
 }
 
-// What one word alone asks for.
-fn word_asked<'a>(word: &[u8]) -> Option<Request<'a>>
+// What a task and the words after its command ask for, the first of which may be relations.
+fn related_asked<'a>(task: Task<'a>, words: &'a [String]) -> Option<Request<'a>>
+    ensures { option_map plain_request result ≡ related_asked (plain_task task.entry) (map string_bytes words.now) }
+{
+    let request = task_asked(task, rest_by(words))?;
+    given_request(words, request)
+}
+
+// A request, with the relations that words begin with. A source has relations of its own.
+fn given_request<'a>(words: &'a [String], request: Request<'a>) -> Option<Request<'a>>
+    ensures { option_map plain_request result
+        ≡ given_request (given_by (map string_bytes words.now)) (plain_request request.entry) }
+{
+    match request {
+        Request::Tell(about) => Some(Request::Tell(about)),
+        Request::Do(task, _, name) => Some(Request::Do(task, words, name)),
+        Request::Make(task, name, main) => match first_relation(words) {
+            Some(_) => None,
+            None => Some(Request::Make(task, name, main)),
+        },
+    }
+}
+
+/// What one word alone asks for.
+pub(crate) fn word_asked<'a>(word: &[u8]) -> Option<Request<'a>>
     ensures { option_map plain_request result ≡ word_asked word.now }
 {
     if word == b"--help".as_slice() {
@@ -129,8 +142,8 @@ fn word_asked<'a>(word: &[u8]) -> Option<Request<'a>>
     }
 }
 
-// What a task and the words after its command ask for.
-fn task_asked<'a>(task: Task<'a>, words: &'a [String]) -> Option<Request<'a>>
+/// What a task and the words after its command ask for.
+pub(crate) fn task_asked<'a>(task: Task<'a>, words: &'a [String]) -> Option<Request<'a>>
     ensures { option_map plain_request result ≡ task_asked (plain_task task.entry) (map string_bytes words.now) }
 {
     let (word, rest) = words.split_first()?;
@@ -143,25 +156,25 @@ fn task_asked<'a>(task: Task<'a>, words: &'a [String]) -> Option<Request<'a>>
     }
 }
 
-// Whether a word after the command of a task asks for embedded C.
-fn is_embed(task: Task<'_>, word: &[u8]) -> bool
+/// Whether a word after the command of a task asks for embedded C.
+pub(crate) fn is_embed(task: Task<'_>, word: &[u8]) -> bool
     ensures { result ≡ is_embed (plain_task task.entry) word.now }
 {
     match task {
         Task::Write(Form::C) => word == b"--embed".as_slice(),
         Task::Write(Form::Blif) | Task::Write(Form::Verilog) => false,
-        Task::Embed(_, _) | Task::Reset(_) | Task::Check => false,
+        Task::Embed(_, _) | Task::Reset(_, _) | Task::Check => false,
     }
 }
 
-// Whether a word after the command of a task asks for Verilog with a reset.
-fn is_reset(task: Task<'_>, word: &[u8]) -> bool
+/// Whether a word after the command of a task asks for Verilog with a reset.
+pub(crate) fn is_reset(task: Task<'_>, word: &[u8]) -> bool
     ensures { result ≡ is_reset (plain_task task.entry) word.now }
 {
     match task {
         Task::Write(Form::Verilog) => word == b"--reset".as_slice(),
         Task::Write(Form::Blif) | Task::Write(Form::C) => false,
-        Task::Embed(_, _) | Task::Reset(_) | Task::Check => false,
+        Task::Embed(_, _) | Task::Reset(_, _) | Task::Check => false,
     }
 }
 
@@ -182,7 +195,10 @@ fn file_wanted<'a>(wanted: Wanted<'a>) -> Option<Request<'a>>
     ensures { option_map plain_request result ≡ file_wanted (wanted_is wanted.entry) (wanted_is wanted.entry).source }
 {
     match wanted.source {
-        Some(name) => Some(Request::Make(Task::Reset(wanted.options), name, wanted.main)),
+        Some(name) => {
+            let coding = coding_of(wanted.is_encoded);
+            Some(Request::Make(Task::Reset(wanted.options, coding), name, wanted.main))
+        }
         None => text_wanted(wanted),
     }
 }
@@ -194,7 +210,7 @@ fn text_wanted<'a>(wanted: Wanted<'a>) -> Option<Request<'a>>
         return None;
     }
     let name = wanted.text?;
-    Some(Request::Do(Task::Reset(wanted.options), name))
+    Some(Request::Do(Task::Reset(wanted.options, Coding::Lighter), &[], name))
 }
 
 // What the name of a component and the words after it ask for.
@@ -249,7 +265,7 @@ fn text_asked<'a>(task: Task<'a>, name: &'a str) -> Option<Request<'a>>
     ensures { option_map plain_request result ≡ text_asked (plain_task task.entry) name.now }
 {
     if is_plain(name.as_bytes()) {
-        Some(Request::Do(task, name))
+        Some(Request::Do(task, &[], name))
     } else {
         None
     }
@@ -271,7 +287,8 @@ fn source_asked<'a>(task: Task<'a>, options: Options<'a>) -> Option<Request<'a>>
     Some(Request::Make(task, name, options.main))
 }
 
-fn no_options<'a>() -> Options<'a>
+/// Before any option.
+pub(crate) fn no_options<'a>() -> Options<'a>
     ensures { options_are result ≡ no_options }
 {
     Options {
@@ -304,8 +321,12 @@ fn more_options<'a>(options: Options<'a>, words: &'a [String]) -> Option<Options
     with_option(options, key.as_bytes(), value)
 }
 
-// One more option.
-fn with_option<'a>(options: Options<'a>, key: &[u8], value: &'a str) -> Option<Options<'a>>
+/// One more option.
+pub(crate) fn with_option<'a>(
+    options: Options<'a>,
+    key: &[u8],
+    value: &'a str,
+) -> Option<Options<'a>>
     ensures { option_map options_are result ≡ with_option (options_are options.entry) key.now value.now }
 {
     if key == b"--source".as_slice() {
@@ -341,8 +362,8 @@ fn with_main<'a>(options: Options<'a>, value: &'a str) -> Option<Options<'a>>
     })
 }
 
-// Whether a word is an option.
-fn is_option(word: &[u8]) -> bool
+/// Whether a word is an option.
+pub(crate) fn is_option(word: &[u8]) -> bool
     ensures { result ≡ is_option word.now }
 {
     word == b"--source".as_slice() || word == b"--main".as_slice()
@@ -358,8 +379,8 @@ pub(crate) fn is_plain(word: &[u8]) -> bool
     }
 }
 
-// The task of a command.
-fn task_of<'a>(word: &[u8]) -> Option<Task<'a>>
+/// The task of a command.
+pub(crate) fn task_of<'a>(word: &[u8]) -> Option<Task<'a>>
     ensures { option_map plain_task result ≡ task_of word.now }
 {
     if is_verilog(word) {
@@ -379,264 +400,4 @@ fn is_verilog(word: &[u8]) -> bool
     ensures { result ≡ is_same_name word.now (codes "verilog") }
 {
     word == VERILOG
-}
-
-/// What is wrong with words that have no meaning: the fault, and after it the word that has it.
-#[derive(Clone, Copy)]
-pub(crate) struct Misuse<'a> {
-    /// What is wrong.
-    pub(crate) fault: &'a [u8],
-    /// The word, empty where there is none.
-    pub(crate) word: &'a [u8],
-}
-
-// A fault and its word.
-fn faulty<'a>(fault: &'a [u8], word: &'a [u8]) -> Misuse<'a>
-    ensures { result.fault.now ++ result.word.now ≡ fault.now ++ word.now }
-{
-    Misuse { fault, word }
-}
-
-/// What is wrong with words, where they have no meaning. It takes no memory.
-pub(crate) fn misuse_of(words: &[String]) -> Misuse<'_>
-    ensures { result.fault.now ++ result.word.now ≡ misuse_of (map string_bytes words.now) }
-{
-    match words.split_first() {
-        None => Misuse {
-            fault: b"no command",
-            word: b"",
-        },
-        Some((word, rest)) => misuse_after(word.as_bytes(), rest),
-    }
-}
-
-// The same after a first word.
-fn misuse_after<'a>(word: &'a [u8], rest: &'a [String]) -> Misuse<'a>
-    ensures { result.fault.now ++ result.word.now
-        ≡ misuse_after word.now (task_of word.now) (word_asked word.now) (map string_bytes rest.now) }
-{
-    match task_of(word) {
-        Some(task) => misuse_after_command(word, task, rest),
-        None => match word_asked(word) {
-            Some(_) => misuse_of_own(word, rest),
-            None => faulty(b"unknown word: ", word),
-        },
-    }
-}
-
-// The same after a command of this task.
-fn misuse_after_command<'a>(command: &'a [u8], task: Task<'_>, rest: &'a [String]) -> Misuse<'a>
-    ensures { result.fault.now ++ result.word.now
-        ≡ misuse_after_command command.now (plain_task task.entry) (map string_bytes rest.now) }
-{
-    let Some((word, more)) = rest.split_first() else {
-        return misuse_of_task(command, rest);
-    };
-    if is_embed(task, word.as_bytes()) {
-        misuse_of_embed(command, more)
-    } else if is_reset(task, word.as_bytes()) {
-        misuse_of_reset(command, more)
-    } else {
-        misuse_of_task(command, rest)
-    }
-}
-
-// The same after `--reset`.
-fn misuse_of_reset<'a>(command: &'a [u8], rest: &'a [String]) -> Misuse<'a>
-    ensures { result.fault.now ++ result.word.now ≡ misuse_of_reset command.now (map string_bytes rest.now) }
-{
-    let Some((reset, more)) = rest.split_first() else {
-        return faulty(b"no value after ", b"--reset");
-    };
-    if is_plain(reset.as_bytes()) {
-        misuse_of_wanted(command, plain_reset(reset.as_bytes()), more)
-    } else {
-        faulty(b"bad option: ", b"--reset")
-    }
-}
-
-// The same after the name of a reset.
-fn misuse_of_wanted<'a>(command: &'a [u8], wanted: Wanted<'a>, words: &'a [String]) -> Misuse<'a>
-    ensures { result.fault.now ++ result.word.now
-        ≡ misuse_of_wanted command.now (wanted_is wanted.entry) None (map string_bytes words.now) }
-{
-    let mut with = wanted;
-    let mut key: Option<&'a [u8]> = None;
-    for word in words {
-        match key {
-            None => {
-                if needs_value(word.as_bytes()) {
-                    key = Some(word.as_bytes());
-                } else {
-                    match with_word(with, word) {
-                        None => return misused_word(word.as_bytes()),
-                        Some(next) => with = next,
-                    }
-                }
-            }
-            Some(name) => match with_value(with, name, word) {
-                None => return faulty(b"bad option: ", name),
-                Some(next) => {
-                    with = next;
-                    key = None;
-                }
-            },
-        }
-    }
-    match key {
-        None => faulty(b"no file after ", command),
-        Some(name) => faulty(b"no value after ", name),
-    }
-}
-
-// The same of a word that does not go with those before: a name that is no file is one word too many.
-fn misused_word(word: &[u8]) -> Misuse<'_>
-    ensures { (rest : SpecWanted → List ℕ) → result.fault.now ++ result.word.now ≡ misuse_of_word word.now rest None }
-{
-    if is_plain(word) {
-        faulty(b"one word too many: ", word)
-    } else {
-        faulty(b"bad option: ", word)
-    }
-}
-
-// The same after `--embed`.
-fn misuse_of_embed<'a>(command: &'a [u8], rest: &'a [String]) -> Misuse<'a>
-    ensures { result.fault.now ++ result.word.now ≡ misuse_of_embed command.now (map string_bytes rest.now) }
-{
-    let Some((component, more)) = rest.split_first() else {
-        return faulty(b"no value after ", b"--embed");
-    };
-    if is_plain(component.as_bytes()) {
-        misuse_of_laid(command, more)
-    } else {
-        faulty(b"bad option: ", b"--embed")
-    }
-}
-
-// The same after the name of a component.
-fn misuse_of_laid<'a>(command: &'a [u8], rest: &'a [String]) -> Misuse<'a>
-    ensures { result.fault.now ++ result.word.now ≡ misuse_of_laid command.now (map string_bytes rest.now) }
-{
-    let Some((word, more)) = rest.split_first() else {
-        return misuse_of_task(command, rest);
-    };
-    if !is_layout(word.as_bytes()) {
-        return misuse_of_task(command, rest);
-    }
-    match with_layout(no_layout(), word.as_bytes()) {
-        None => faulty(b"bad option: ", word.as_bytes()),
-        Some(laid) => misuse_of_more_laid(command, laid, more),
-    }
-}
-
-// The same after one word for the layout.
-fn misuse_of_more_laid<'a>(command: &'a [u8], laid: Laid, rest: &'a [String]) -> Misuse<'a>
-    ensures { result.fault.now ++ result.word.now
-        ≡ misuse_of_more_laid command.now laid (map string_bytes rest.now) }
-{
-    let Some((word, more)) = rest.split_first() else {
-        return misuse_of_task(command, rest);
-    };
-    if !is_layout(word.as_bytes()) {
-        return misuse_of_task(command, rest);
-    }
-    match with_layout(laid, word.as_bytes()) {
-        None => faulty(b"bad option: ", word.as_bytes()),
-        Some(_) => misuse_of_task(command, more),
-    }
-}
-
-// The same after a command and what belongs to it.
-fn misuse_of_task<'a>(command: &'a [u8], rest: &'a [String]) -> Misuse<'a>
-    ensures { result.fault.now ++ result.word.now ≡ misuse_of_task command.now (map string_bytes rest.now) }
-{
-    let Some((name, others)) = rest.split_first() else {
-        return faulty(b"no file after ", command);
-    };
-    match others.first() {
-        None => misuse_of_one(name.as_bytes()),
-        Some(more) => misuse_of_words(command, name.as_bytes(), more.as_bytes(), rest),
-    }
-}
-
-// The same of a word that is alone after a command, and no file.
-fn misuse_of_one(word: &[u8]) -> Misuse<'_>
-    ensures { result.fault.now ++ result.word.now ≡ misuse_of_one word.now }
-{
-    if is_option(word) {
-        faulty(b"no value after ", word)
-    } else {
-        faulty(b"not a file: ", word)
-    }
-}
-
-// The same of two words and more: a file, and one word too many, or options.
-fn misuse_of_words<'a>(
-    command: &'a [u8],
-    name: &[u8],
-    more: &'a [u8],
-    rest: &'a [String],
-) -> Misuse<'a>
-    ensures { result.fault.now ++ result.word.now
-        ≡ misuse_of_words command.now name.now more.now (map string_bytes rest.now) }
-{
-    if is_plain(name) {
-        faulty(b"one word too many: ", more)
-    } else {
-        misuse_of_options(command, rest)
-    }
-}
-
-// The same in options.
-fn misuse_of_options<'a>(command: &'a [u8], words: &'a [String]) -> Misuse<'a>
-    ensures { result.fault.now ++ result.word.now ≡ misuse_of_options command.now (map string_bytes words.now) }
-{
-    let Some((key, rest)) = words.split_first() else {
-        return faulty(b"no file after ", command);
-    };
-    let Some((value, more)) = rest.split_first() else {
-        return faulty(b"no value after ", key.as_bytes());
-    };
-    match with_option(no_options(), key.as_bytes(), value) {
-        None => faulty(b"bad option: ", key.as_bytes()),
-        Some(options) => misuse_of_more(command, options, more),
-    }
-}
-
-// The same after one option.
-fn misuse_of_more<'a>(command: &'a [u8], options: Options<'a>, words: &'a [String]) -> Misuse<'a>
-    ensures { result.fault.now ++ result.word.now
-        ≡ misuse_of_more command.now (options_are options.entry) (map string_bytes words.now) }
-{
-    let Some((key, rest)) = words.split_first() else {
-        return faulty(b"no file after ", command);
-    };
-    let Some((value, more)) = rest.split_first() else {
-        return faulty(b"no value after ", key.as_bytes());
-    };
-    match with_option(options, key.as_bytes(), value) {
-        None => faulty(b"bad option: ", key.as_bytes()),
-        Some(_) => misuse_of_end(command, more),
-    }
-}
-
-// The same after two options.
-fn misuse_of_end<'a>(command: &'a [u8], words: &'a [String]) -> Misuse<'a>
-    ensures { result.fault.now ++ result.word.now ≡ misuse_of_end command.now (map string_bytes words.now) }
-{
-    match words.first() {
-        None => faulty(b"no file after ", command),
-        Some(more) => faulty(b"one word too many: ", more.as_bytes()),
-    }
-}
-
-// The same after a word that asks about the program.
-fn misuse_of_own<'a>(word: &'a [u8], rest: &'a [String]) -> Misuse<'a>
-    ensures { result.fault.now ++ result.word.now ≡ misuse_of_own word.now (map string_bytes rest.now) }
-{
-    match rest.first() {
-        None => faulty(b"unknown word: ", word),
-        Some(more) => faulty(b"one word too many: ", more.as_bytes()),
-    }
 }

@@ -22,8 +22,10 @@ use Rattle.csub_embed.specs.Faults.{IsEmbedFault, signals, under_name}
 use Rattle.csub_embed.specs.Machine.{own_items}
 use Rattle.csub_embed.specs.Written.{files_with, written, Means}
 use Rattle.csub_embed.specs.declared.layout.EmbedLayout.{EmbedLayout}
-use Rattle.cec_opt_texts.specs.Alike.{HasOutputs}
+use Rattle.cec_opt_texts.proofs.Exports.{allowed-events, fitting-events, related}
+use Rattle.cec_opt_texts.specs.Alike.{HasOutputs, IsExpected}
 use Rattle.cec_opt_texts.specs.Optimized.{IsSmallNetOf, IsSmallOf}
+use Rattle.cec_opt_texts.specs.Related.{GivenRelation}
 use Rattle.cec_opt_embed.specs.ComponentFaults.{IsTextComponentFault}
 use Rattle.cec_opt_embed.specs.Faults.{IsTextEmbedFault}
 use Rattle.cec_opt_embed.specs.Texts.{EmbedKeeps, IsSmallComponent, IsSmallEmbedded, row_of}
@@ -33,23 +35,26 @@ use Rattle.cec_opt_embed.proofs.Apart.{apart}
 
 -- ---- the optimized netlist of a circuit
 
-given-inputs : (c : Circuit) (net : Netlist) → IsSmallOf c net → net.inputs ≡ c.inputs
-given-inputs c net small = small.optimizes.replaces.interface.inputs ∙ small.is.inputs
+given-inputs : (c : Circuit) (given : List GivenRelation) (net : Netlist) → IsSmallOf c given net → net.inputs ≡ c.inputs
+given-inputs c given net small = small.small.optimizes.interface.inputs ∙ small.is.inputs
 
-given-outputs : (c : Circuit) (net : Netlist) → IsSmallOf c net → HasOutputs c (output_names net)
-given-outputs c net small =
+given-outputs : (c : Circuit) (given : List GivenRelation) (net : Netlist) → IsSmallOf c given net → HasOutputs c (output_names net)
+given-outputs c given net small =
     sym small.is.outputs ∙ ap (λ l. l ++ paused_word ∷ [])
     (map-composed (output_word small.made.inputs) (λ (o : NetOut). o.name) small.made.outputs
-    ∙ ap₂ (λ ins outs. map (output_word ins) outs) small.is.inputs (sym small.optimizes.replaces.interface.outputs))
+    ∙ ap₂ (λ ins outs. map (output_word ins) outs) small.is.inputs (sym small.small.optimizes.interface.outputs))
 
 -- the circuit shows, as rows, what a call shows that shows what the netlist shows
-rows-shown : (c : Circuit) (net : Netlist) → IsSmallOf c net → (items : List Item) → EachEvent (FitsCircuit c) items
+rows-shown : (c : Circuit) (given : List GivenRelation) (net : Netlist) → (small : IsSmallOf c given net) → (items : List Item)
+    → EachEvent (IsExpected c small.small.relations) items
     → Shows (circuit_machine c) (λ v. map v c.outputs) (circuit_machine c).start items (map row_of (map shown_by_call (net_run net items)))
-rows-shown c net small items fits =
+rows-shown c given net small items expected =
     let made = small.made in
+    let relations = small.small.relations in
+    let fits = fitting-events c relations items expected in
     let see : List Bool → List Bool = λ values. row_of (shown_by_call (shown made values)) in
     let followed : net_run net items ≡ net_run made items =
-    small.optimizes.replaces.followed.runs items (wide_events (length c.inputs) (length made.inputs) (ap length (sym small.is.inputs)) items fits) in
+    small.small.optimizes.follows items (allowed-events c made relations small.is.inputs items expected) in
     let rows : map see (net_values_run made items) ≡ map row_of (map shown_by_call (net_run net items)) =
     map-composed (λ (s : Shown). row_of (shown_by_call s)) (shown made) (net_values_run made items)
     ∙ ap (map (λ (s : Shown). row_of (shown_by_call s))) (sym followed)
@@ -62,54 +67,60 @@ rows-shown c net small items fits =
 
 -- ---- its text under a name
 
-keeps-given : (text name : List ℕ) (layout : EmbedLayout) (embedded : List ℕ) (net : Netlist) → IsSmallNetOf text net
-    → (made : IsSmallEmbedded text name layout embedded) → Means layout.packed (files_with layout embedded made.net) (under_name name net)
-    → EmbedKeeps text name layout embedded
-keeps-given text name layout embedded net s made means =
+keeps-given : (text : List ℕ) (given : List GivenRelation) (name : List ℕ) (layout : EmbedLayout) (embedded : List ℕ) (net : Netlist)
+    → IsSmallNetOf text given net → (made : IsSmallEmbedded text given name layout embedded)
+    → Means layout.packed (files_with layout embedded made.net) (under_name name net) → EmbedKeeps text given name layout embedded
+keeps-given text given name layout embedded net s made means =
     let c = s.circuit in
-    let same = given-inputs c net s.small in
+    let relations = s.small.small.relations in
+    let same = given-inputs c given net s.small in
     record {
       small = made;
       old = c;
       reads = s.reads;
+      relations = relations;
+      related = related c given net s.small;
       names = output_names net;
-      has_outputs = given-outputs c net s.small;
+      has_outputs = given-outputs c given net s.small;
       new = means.component;
       describes = means.describes;
       named = means.name;
       inputs = means.inputs ∙ same;
       outputs = means.outputs;
-      shows = λ instances calls k begins fits.
+      shows = λ instances calls k begins expected.
           let items = own_items k calls in
-          let wide = wide_events (length c.inputs) (length net.inputs) (ap length (sym same)) items fits in
+          let wide = wide_events (length c.inputs) (length net.inputs) (ap length (sym same)) items (fitting-events c relations items expected) in
           subst (λ l. Shows (circuit_machine c) (λ v. map v c.outputs) (circuit_machine c).start items (map row_of l))
-          (sym (means.shows instances calls k begins wide)) (rows-shown c net s.small items fits);
+          (sym (means.shows instances calls k begins wide)) (rows-shown c given net s.small items expected);
       apart = apart means.component;
     }
 
-pub text-keeps : (text name : List ℕ) (layout : EmbedLayout) (embedded : List ℕ) (net : Netlist) → IsSmallComponent text name net
-    → embedded ≡ written layout net → Means layout.packed (files_with layout embedded net) net → EmbedKeeps text name layout embedded
-text-keeps text name layout embedded net is spelled means =
-    keeps-given text name layout embedded is.given is.small (record { net = net; is = is; spelled = spelled })
+pub text-keeps : (text : List ℕ) (given : List GivenRelation) (name : List ℕ) (layout : EmbedLayout) (embedded : List ℕ) (net : Netlist)
+    → IsSmallComponent text given name net → embedded ≡ written layout net → Means layout.packed (files_with layout embedded net) net
+    → EmbedKeeps text given name layout embedded
+text-keeps text given name layout embedded net is spelled means =
+    keeps-given text given name layout embedded is.optimized is.small (record { net = net; is = is; spelled = spelled })
     (subst (Means layout.packed (files_with layout embedded net)) is.named means)
 
 -- ---- a netlist under a name
 
-pub text-net : (text name : List ℕ) (given : Netlist) (result : Result Net (Stop TextEmbedFault)) → IsSmallNetOf text given
-    → IfOk result (λ n. netlist_of n ≡ under_name name given) → IfOk result (λ n. IsSmallComponent text name (netlist_of n))
-text-net text name given (Ok n) small named = record { given = given; small = small; named = named }
-text-net text name given (Err stop) small named = tt
+pub text-net : (text : List ℕ) (given : List GivenRelation) (name : List ℕ) (optimized : Netlist) (result : Result Net (Stop TextEmbedFault))
+    → IsSmallNetOf text given optimized → IfOk result (λ n. netlist_of n ≡ under_name name optimized)
+    → IfOk result (λ n. IsSmallComponent text given name (netlist_of n))
+text-net text given name optimized (Ok n) small named = record { optimized = optimized; small = small; named = named }
+text-net text given name optimized (Err stop) small named = tt
 
 -- a fault of the name or of a signal, where the text has a netlist
-pub text-fault : (text name : List ℕ) (given : Netlist) (result : Result Net (Stop TextEmbedFault)) → IsSmallNetOf text given
-    → IfFault result (IsTextComponentFault (IsEmbedFault name (signals given))) → IfFault result (IsTextEmbedFault text name)
-text-fault text name given (Ok n) s is = tt
-text-fault text name given (Err (Fault (Text fault))) s is = absurd is
-text-fault text name given (Err (Fault (Component fault))) s is = record {
-  net = given;
+pub text-fault : (text : List ℕ) (given : List GivenRelation) (name : List ℕ) (optimized : Netlist) (result : Result Net (Stop TextEmbedFault))
+    → IsSmallNetOf text given optimized → IfFault result (IsTextComponentFault (IsEmbedFault name (signals optimized)))
+    → IfFault result (IsTextEmbedFault text given name)
+text-fault text given name optimized (Ok n) s is = tt
+text-fault text given name optimized (Err (Fault (Text fault))) s is = absurd is
+text-fault text given name optimized (Err (Fault (Component fault))) s is = record {
+  net = optimized;
   small = s;
-  names = output_names given;
-  has_outputs = given-outputs s.circuit given s.small;
-  is = subst (λ inputs. IsEmbedFault name (inputs ++ output_names given) fault) (given-inputs s.circuit given s.small) is;
+  names = output_names optimized;
+  has_outputs = given-outputs s.circuit given optimized s.small;
+  is = subst (λ inputs. IsEmbedFault name (inputs ++ output_names optimized) fault) (given-inputs s.circuit given optimized s.small) is;
 }
-text-fault text name given (Err NoMemory) s is = tt
+text-fault text given name optimized (Err NoMemory) s is = tt

@@ -19,6 +19,7 @@ use Rattle.csub_embed.specs.declared.layout.EmbedLayout.{EmbedLayout}
 use Rattle.cec_compile.specs.NetMeaning.{NetKeeps, net_seen}
 use Rattle.cec_compile.proofs.Exports.{widths}
 use Rattle.cec_cycles.specs.Constructive.{IsConstructiveNetOf, StandsForConstructiveNet}
+use Rattle.cec_opt_sources.specs.declared.light.Coding.TheVariants.{Lighter}
 use Rattle.cec_opt_embed.specs.ComponentFaults.{IsSourceComponentFault}
 use Rattle.cec_opt_embed.specs.Faults.{IsSourceEmbedFault}
 use Rattle.cec_opt_embed.specs.Sources.{EmbeddedTextKeeps, IsComponentNetOf, StandsForEmbedded}
@@ -64,7 +65,7 @@ source-stands text main name layout net embedded is spelled means =
 -- ---- a netlist under a name
 
 pub source-net : (text : List ℕ) (main : Option (List ℕ)) (name : List ℕ) (given : Netlist) (result : Result Net (Stop SourceEmbedFault))
-    → StandsForConstructiveNet text main given → IsConstructiveNetOf text main given → IfOk result (λ n. netlist_of n ≡ under_name name given)
+    → StandsForConstructiveNet text main given → IsConstructiveNetOf Lighter text main given → IfOk result (λ n. netlist_of n ≡ under_name name given)
     → IfOk result (λ n. IsComponentNetOf text main name (netlist_of n))
 source-net text main name given (Ok n) stands made named = record { given = given; stands = stands; made = made; named = named }
 source-net text main name given (Err stop) stands made named = tt

@@ -11,8 +11,9 @@ use Rattle.cec_cycles.specs.Constructive.{IsRefusedConstructive, StandsForConstr
 use Rattle.cec_cycles.specs.declared.findings.CycleRefusal.{CycleRefusal}
 use Rattle.cec_cycles.specs.declared.findings.CycleRefusal.TheVariants as causes
 use Rattle.cec_opt_texts.specs.Alike.{HasOutputs}
-use Rattle.cec_opt_texts.specs.Faults.{IsOptFault}
+use Rattle.cec_opt_texts.specs.Faults.{IsGivenFault}
 use Rattle.cec_opt_texts.specs.Optimized.{IsSmallNetOf}
+use Rattle.cec_opt_texts.specs.Related.{GivenRelation}
 use Rattle.cec_opt_embed.specs.declared.faults.SourceEmbedFault.{SourceEmbedFault}
 use Rattle.cec_opt_embed.specs.declared.faults.SourceEmbedFault.TheVariants as source_faults
 use Rattle.cec_opt_embed.specs.declared.faults.TextEmbedFault.{TextEmbedFault}
@@ -44,15 +45,16 @@ IsSourceEmbedFault text main name (source_faults.Component fault) = IsProgramNam
 
 -- ---- BLIF texts
 
--- The text has a netlist, and this is the first fault of the name, or the first word of C or of C++, of the inputs and
--- then the outputs.
-pub record IsTextNameFault (text name : List ℕ) (fault : EmbedFault) : Type 0 where
+-- The text has a netlist, the given relations are of inputs, and this is the first fault of the name, or the first word
+-- of C or of C++, of the inputs and then the outputs.
+pub record IsTextNameFault (text : List ℕ) (given : List GivenRelation) (name : List ℕ) (fault : EmbedFault) :
+    Type 0 where
   pub net : Netlist
-  pub small : IsSmallNetOf text net
+  pub small : IsSmallNetOf text given net
   pub names : List (List ℕ)
   pub has_outputs : HasOutputs small.circuit names
   pub is : IsEmbedFault name (small.circuit.inputs ++ names) fault
 
-abbrev pub IsTextEmbedFault : List ℕ → List ℕ → TextEmbedFault → Type 0
-IsTextEmbedFault text name (text_faults.Text fault) = IsOptFault text fault
-IsTextEmbedFault text name (text_faults.Component fault) = IsTextNameFault text name fault
+abbrev pub IsTextEmbedFault : (text : List ℕ) → List GivenRelation → (name : List ℕ) → TextEmbedFault → Type 0
+IsTextEmbedFault text given name (text_faults.Text fault) = IsGivenFault text given fault
+IsTextEmbedFault text given name (text_faults.Component fault) = IsTextNameFault text given name fault

@@ -13,6 +13,7 @@ use Rattle.est_front.specs.Sources.{StandsFor}
 use Rattle.cec_compile.specs.Meaning.{AreItems}
 use Rattle.cec_compile.specs.Refusals.{KeepsGraphLimits}
 use Rattle.cec_cycles.specs.Constructive.{IsConstructiveNetOf, StandsForConstructiveNet}
+use Rattle.cec_opt_sources.specs.declared.light.Coding.TheVariants.{Lighter}
 use Rattle.cec_opt_embed.specs.Instances.{AreApart}
 
 -- What a call of NAME_react shows of an answer of the semantics: the outgoing signals, in declared order, and whether
@@ -40,7 +41,7 @@ pub record EmbeddedTextKeeps (packed : Bool) (files : EmbedFiles) (name : List �
 pub record IsComponentNetOf (text : List ℕ) (main : Option (List ℕ)) (name : List ℕ) (net : Netlist) : Type 0 where
   pub given : Netlist
   pub stands : StandsForConstructiveNet text main given
-  pub made : IsConstructiveNetOf text main given
+  pub made : IsConstructiveNetOf Lighter text main given
   pub named : net ≡ under_name name given
 
 -- and the text is that of such a netlist, in this layout

@@ -14,6 +14,7 @@ use crate::faults::SourceEmbedFault;
 use base_types::{Limits, Stop};
 use cec_compile::Refusal;
 use cec_cycles::{CycleRefusal, constructive_net};
+use cec_opt_sources::Coding;
 use csub_embed::{EmbedFault, EmbedLayout, embedded_net, write_embedded};
 use grc_order::Picker;
 use net_ir::Net;
@@ -66,7 +67,7 @@ pub fn embedded_source_net<P: Picker>(
     ensures fits { IfOk result (λ net. IsEmbeddable (netlist_of net)) }
     ensures fault { IfFault result (IsSourceEmbedFault text.now (option_map (λ m. m.now) main.entry) name.now) }
 {
-    match constructive_net(alloc, text, main, picker, effort) {
+    match constructive_net(alloc, text, main, picker, Coding::Lighter, effort) {
         Ok(net) => named_net(alloc, net, name),
         Err(refusal) => Err(source_stop(refusal)),
     }

@@ -1,17 +1,18 @@
 // The embedded text of a BLIF text.
 
-ghost use Rattle.std.specs.Prelude.{◌≡◌, ◌≤◌, ℕ, List, length, IfOk};
+ghost use Rattle.std.specs.Prelude.{◌≡◌, ◌≤◌, ℕ, List, length, map, IfOk};
 ghost use Rattle.base_types.specs.Stops.{FaultIs, IfFault};
 ghost use Rattle.net_ir.specs.Runs.{netlist_of};
 ghost use Rattle.csub_embed.specs.Faults.{signals, under_name, IsEmbeddable, IsEmbedFault};
-ghost use Rattle.cec_opt_texts.specs.Faults.{IsOptFault};
+ghost use Rattle.cec_opt_texts.specs.Faults.{IsGivenFault};
+ghost use Rattle.cec_opt_texts.specs.Related.{named_relation, GivenRelation as SpecRelation};
 ghost use Rattle.cec_opt_embed.specs.ComponentFaults.{IsTextComponentFault, IsTextComponentStop, IsTextStop};
 ghost use Rattle.cec_opt_embed.specs.Faults.{IsTextEmbedFault};
 ghost use Rattle.cec_opt_embed.specs.Texts.{EmbedKeeps, IsSmallComponent};
 
 use crate::faults::TextEmbedFault;
 use base_types::{Limits, Stop};
-use cec_opt_texts::{OptFault, optimized_net};
+use cec_opt_texts::{GivenRelation, OptFault, optimized_net};
 use csub_embed::{EmbedFault, EmbedLayout, embedded_net, write_embedded};
 use net_ir::Net;
 use std::alloc::Global;
@@ -19,24 +20,27 @@ use std::alloc::Global;
 /// The embedded C text of the optimized netlist of a BLIF text, under the name of its component and in this layout. It
 /// describes a component with this name, with a member for each input and each output of the BLIF text; one of two
 /// files does so with the other one of the same netlist (`EmbedKeeps`). Take any calls on any number of instances, in
-/// any order. An instance whose first call is a reset shows at each call what the BLIF text shows. Calls on one
-/// instance change no other one.
+/// any order. An instance whose first call is a reset, and whose events meet the given relations, shows at each call
+/// what the BLIF text shows. Calls on one instance change no other one.
 ///
-/// The fault is the BLIF text's first one, and where it has none, the first one of the name and of the signals
-/// (`IsEmbedFault`). Running out of memory is the only other error.
+/// The fault is the BLIF text's first one, or the first name of a relation that is none of its inputs. Where there is
+/// none, the fault is the first one of the name and of the signals (`IsEmbedFault`). Running out of memory is the only
+/// other error.
 ///
 /// Example: the text with an input `int` has none.
 pub fn optimized_embedded(
     alloc: Global,
     text: &[u8],
+    given: &[GivenRelation<'_>],
     name: &[u8],
     layout: EmbedLayout,
 ) -> Result<Vec<u8>, Stop<TextEmbedFault>>
     requires { length text.now ≤ Limits.TEXT_BYTES }
-    ensures keeps { IfOk result (λ written. EmbedKeeps text.now name.now layout written.items) }
-    ensures fault { IfFault result (IsTextEmbedFault text.now name.now) }
+    ensures keeps { IfOk result
+        (λ written. EmbedKeeps text.now (map named_relation given.now) name.now layout written.items) }
+    ensures fault { IfFault result (IsTextEmbedFault text.now (map named_relation given.now) name.now) }
 {
-    let net = embedded_text_net(alloc, text, name)?;
+    let net = embedded_text_net(alloc, text, given, name)?;
     let written = write_embedded(alloc, &net, layout)?;
     Ok(written)
 }
@@ -46,14 +50,16 @@ pub fn optimized_embedded(
 pub fn embedded_text_net(
     alloc: Global,
     text: &[u8],
+    given: &[GivenRelation<'_>],
     name: &[u8],
 ) -> Result<Net, Stop<TextEmbedFault>>
     requires { length text.now ≤ Limits.TEXT_BYTES }
-    ensures small { IfOk result (λ net. IsSmallComponent text.now name.now (netlist_of net)) }
+    ensures small { IfOk result
+        (λ net. IsSmallComponent text.now (map named_relation given.now) name.now (netlist_of net)) }
     ensures fits { IfOk result (λ net. IsEmbeddable (netlist_of net)) }
-    ensures fault { IfFault result (IsTextEmbedFault text.now name.now) }
+    ensures fault { IfFault result (IsTextEmbedFault text.now (map named_relation given.now) name.now) }
 {
-    match optimized_net(alloc, text) {
+    match optimized_net(alloc, text, given) {
         Ok(net) => named_net(alloc, net, name),
         Err(stop) => Err(text_stop(stop)),
     }
@@ -85,8 +91,8 @@ fn component_stop(stop: Stop<EmbedFault>) -> Stop<TextEmbedFault>
 // Why the text has no netlist.
 fn text_stop(stop: Stop<OptFault>) -> Stop<TextEmbedFault>
     ensures same { IsTextStop stop result }
-    ensures fault { (text name : List ℕ) → FaultIs (IsOptFault text) stop
-        → FaultIs (IsTextEmbedFault text name) result }
+    ensures fault { (text name : List ℕ) (given : List SpecRelation) → FaultIs (IsGivenFault text given) stop
+        → FaultIs (IsTextEmbedFault text given name) result }
 {
     match stop {
         Stop::Fault(fault) => Stop::Fault(TextEmbedFault::Text(fault)),

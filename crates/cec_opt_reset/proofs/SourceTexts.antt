@@ -19,6 +19,7 @@ use Rattle.vlog_reset.specs.Options.{ModuleOptions}
 use Rattle.vlog_reset.specs.Written.{Means, input_name, net_register, outgoing_name, written}
 use Rattle.cec_compile.specs.NetMeaning.{NetKeeps, net_seen}
 use Rattle.cec_cycles.specs.Constructive.{IsConstructiveNetOf, StandsForConstructiveNet}
+use Rattle.cec_opt_sources.specs.declared.light.Coding.{Coding}
 use Rattle.cec_opt_reset.specs.Faults.{IsSourceResetFault}
 use Rattle.cec_opt_reset.specs.ModuleFaults.{IsSourceModuleFault}
 use Rattle.cec_opt_reset.specs.Sources.{ResetTextKeeps, StandsForReset}
@@ -56,9 +57,10 @@ net-keeps text o net p few keeps means = record {
 
 -- ---- a text, and a fault of the names
 
-pub source-stands : (text : List ℕ) (main : Option (List ℕ)) (o : ModuleOptions) (net : Netlist) (reset : List ℕ) → StandsForConstructiveNet text main net
-    → IsConstructiveNetOf text main net → reset ≡ written o net → Means reset net o → StandsForReset text main o reset
-source-stands text main o net reset stands made spelled means = record {
+pub source-stands : (text : List ℕ) (main : Option (List ℕ)) (coding : Coding) (o : ModuleOptions) (net : Netlist) (reset : List ℕ)
+    → StandsForConstructiveNet text main net → IsConstructiveNetOf coding text main net → reset ≡ written o net → Means reset net o
+    → StandsForReset text main coding o reset
+source-stands text main coding o net reset stands made spelled means = record {
   program = stands.program;
   source = stands.source;
   limits = stands.limits;
@@ -69,18 +71,19 @@ source-stands text main o net reset stands made spelled means = record {
   spelled = spelled;
 }
 
-pub source-text : {Z : Type 0} (items : Z → List ℕ) (text : List ℕ) (main : Option (List ℕ)) (o : ModuleOptions) (net : Netlist)
+pub source-text : {Z : Type 0} (items : Z → List ℕ) (text : List ℕ) (main : Option (List ℕ)) (coding : Coding) (o : ModuleOptions) (net : Netlist)
     (result : Result Z (Stop SourceResetFault))
-    → StandsForConstructiveNet text main net → IsConstructiveNetOf text main net → IfOk result (λ t. items t ≡ written o net)
-    → IfOk result (λ t. Means (items t) net o) → IfOk result (λ t. StandsForReset text main o (items t))
-source-text items text main o net (Ok t) stands made spelled means = source-stands text main o net (items t) stands made spelled means
-source-text items text main o net (Err stop) stands made spelled means = tt
+    → StandsForConstructiveNet text main net → IsConstructiveNetOf coding text main net → IfOk result (λ t. items t ≡ written o net)
+    → IfOk result (λ t. Means (items t) net o) → IfOk result (λ t. StandsForReset text main coding o (items t))
+source-text items text main coding o net (Ok t) stands made spelled means = source-stands text main coding o net (items t) stands made spelled means
+source-text items text main coding o net (Err stop) stands made spelled means = tt
 
 -- a fault of the names, where the source has a netlist
-pub source-fault : {Z : Type 0} (text : List ℕ) (main : Option (List ℕ)) (o : ModuleOptions) (net : Netlist) (result : Result Z (Stop SourceResetFault))
-    → StandsForConstructiveNet text main net → IsConstructiveNetOf text main net → IfFault result (IsSourceModuleFault (IsResetFault o net))
-    → IfFault result (IsSourceResetFault text main o)
-source-fault text main o net (Ok t) stands made is = tt
-source-fault text main o net (Err (Fault (Source refusal))) stands made is = absurd is
-source-fault text main o net (Err (Fault (Module fault))) stands made is = record { net = net; stands = stands; made = made; is = is }
-source-fault text main o net (Err NoMemory) stands made is = tt
+pub source-fault : {Z : Type 0} (text : List ℕ) (main : Option (List ℕ)) (coding : Coding) (o : ModuleOptions) (net : Netlist)
+    (result : Result Z (Stop SourceResetFault)) → StandsForConstructiveNet text main net → IsConstructiveNetOf coding text main net
+    → IfFault result (IsSourceModuleFault (IsResetFault o net))
+    → IfFault result (IsSourceResetFault text main coding o)
+source-fault text main coding o net (Ok t) stands made is = tt
+source-fault text main coding o net (Err (Fault (Source refusal))) stands made is = absurd is
+source-fault text main coding o net (Err (Fault (Module fault))) stands made is = record { net = net; stands = stands; made = made; is = is }
+source-fault text main coding o net (Err NoMemory) stands made is = tt

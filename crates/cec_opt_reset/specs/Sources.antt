@@ -16,6 +16,7 @@ use Rattle.est_front.specs.Sources.{StandsFor}
 use Rattle.cec_compile.specs.Meaning.{AreItems}
 use Rattle.cec_compile.specs.Refusals.{KeepsGraphLimits}
 use Rattle.cec_cycles.specs.Constructive.{IsConstructiveNetOf, StandsForConstructiveNet}
+use Rattle.cec_opt_sources.specs.declared.light.Coding.{Coding}
 
 -- What the outputs of a module show of an answer of the semantics: the outgoing signals, in declared order, and whether
 -- the program pauses, which is code 1.
@@ -46,13 +47,15 @@ pub record ResetTextKeeps (text : List ℕ) (o : ModuleOptions) (p : Program) : 
       × (seen_by (λ v. map v verilog.design.outputs) o.manner steps vs ≡ map edge_row answers)
 
 -- The bytes stand for a program whose graph keeps the limits; its dependencies may have a cycle. The text keeps what
--- the program means. It is the text of the source's constructive netlist, which keeps that too.
-pub record StandsForReset (text : List ℕ) (main : Option (List ℕ)) (o : ModuleOptions) (reset : List ℕ) : Type 0 where
+-- the program means. It is the text of the source's constructive netlist, which keeps that too. Where the dependencies
+-- have no cycle, the coding says which one it is.
+pub record StandsForReset (text : List ℕ) (main : Option (List ℕ)) (coding : Coding) (o : ModuleOptions)
+    (reset : List ℕ) : Type 0 where
   pub program : Program
   pub source : StandsFor text main program
   pub limits : KeepsGraphLimits program
   pub keeps : ResetTextKeeps reset o program
   pub net : Netlist
   pub stands : StandsForConstructiveNet text main net
-  pub made : IsConstructiveNetOf text main net
+  pub made : IsConstructiveNetOf coding text main net
   pub spelled : reset ≡ written o net

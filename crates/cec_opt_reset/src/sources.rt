@@ -10,6 +10,7 @@ ghost use Rattle.vlog_reset.specs.Views.{options_of};
 ghost use Rattle.vlog_reset.specs.Written.{written, Means};
 ghost use Rattle.cec_compile.specs.declared.refusal.Refusal.TheVariants as refusals;
 ghost use Rattle.cec_cycles.specs.Constructive.{IsOtherRefusal, IsRefusedConstructive};
+ghost use Rattle.cec_opt_sources.specs.declared.light.Coding.{Coding as SpecCoding};
 ghost use Rattle.cec_opt_reset.specs.Faults.{IsSourceResetFault};
 ghost use Rattle.cec_opt_reset.specs.ModuleFaults.{IsSourceModuleFault, IsSourceModuleStop};
 ghost use Rattle.cec_opt_reset.specs.ModuleFaults.{IsPlainStop, IsCycleStop};
@@ -19,6 +20,7 @@ use crate::faults::SourceResetFault;
 use base_types::{Limits, Stop};
 use cec_compile::Refusal;
 use cec_cycles::{CycleRefusal, constructive_net};
+use cec_opt_sources::Coding;
 use grc_order::Picker;
 use net_ir::Net;
 use std::alloc::Global;
@@ -31,9 +33,10 @@ use vlog_reset::{ResetFault, ResetOptions, reset_text};
 /// relations, the module shows at each edge without a reset what the reaction is. Each of these reactions is
 /// constructive.
 ///
-/// The effort is one of `net_search`, for dependencies with a cycle. The fault is that of the source, as
-/// `cec_cycles::constructive_net` says it, and where it has none, the first one of the names (`IsResetFault`). Running
-/// out of memory is the only other error.
+/// The coding says which netlist of a source without a cycle it is: the lighter one, or the one whose latches hold the
+/// state in a code. The effort is one of `net_search`, for dependencies with a cycle. The fault is that of the source,
+/// as `cec_cycles::constructive_net` says it, and where it has none, the first one of the names (`IsResetFault`).
+/// Running out of memory is the only other error.
 ///
 /// Example: of `module M: output O; emit O end module`, the text declares a module M with the outputs O and paused.
 pub fn reset_verilog_of<P: Picker>(
@@ -41,16 +44,17 @@ pub fn reset_verilog_of<P: Picker>(
     text: &[u8],
     main: Option<&[u8]>,
     picker: &mut P,
+    coding: Coding,
     effort: u64,
     options: ResetOptions<'_>,
 ) -> Result<Vec<u8>, Stop<SourceResetFault>>
     requires { length text.now ≤ Limits.SOURCE_BYTES }
     ensures compiles { IfOk result (λ written. StandsForReset text.now
-        (option_map (λ m. m.now) main.entry) (options_of options.entry) written.items) }
+        (option_map (λ m. m.now) main.entry) coding (options_of options.entry) written.items) }
     ensures fault { IfFault result (IsSourceResetFault text.now
-        (option_map (λ m. m.now) main.entry) (options_of options.entry)) }
+        (option_map (λ m. m.now) main.entry) coding (options_of options.entry)) }
 {
-    match constructive_net(alloc, text, main, picker, effort) {
+    match constructive_net(alloc, text, main, picker, coding, effort) {
         Ok(net) => net_text(alloc, &net, options),
         Err(refusal) => Err(source_stop(refusal)),
     }
@@ -87,8 +91,8 @@ fn module_stop(stop: Stop<ResetFault>) -> Stop<SourceResetFault>
 // Why the source has no netlist. Running out of memory is none of its causes.
 fn source_stop(refusal: CycleRefusal) -> Stop<SourceResetFault>
     ensures same { IsCycleStop refusal result }
-    ensures fault { (text : List ℕ) (main : Option (List ℕ)) (o : ModuleOptions)
-        → IsRefusedConstructive text main refusal → FaultIs (IsSourceResetFault text main o) result }
+    ensures fault { (text : List ℕ) (main : Option (List ℕ)) (code : SpecCoding) (o : ModuleOptions)
+        → IsRefusedConstructive text main refusal → FaultIs (IsSourceResetFault text main code o) result }
 {
     match refusal {
         CycleRefusal::Source(refusal) => refusal_stop(refusal),
@@ -106,8 +110,8 @@ fn source_stop(refusal: CycleRefusal) -> Stop<SourceResetFault>
 
 fn refusal_stop(refusal: Refusal) -> Stop<SourceResetFault>
     ensures same { IsPlainStop refusal result }
-    ensures fault { (text : List ℕ) (main : Option (List ℕ)) (o : ModuleOptions)
-        → IsOtherRefusal text main refusal → FaultIs (IsSourceResetFault text main o) result }
+    ensures fault { (text : List ℕ) (main : Option (List ℕ)) (code : SpecCoding) (o : ModuleOptions)
+        → IsOtherRefusal text main refusal → FaultIs (IsSourceResetFault text main code o) result }
 {
     match refusal {
         Refusal::NoMemory => Stop::NoMemory,
@@ -120,8 +124,8 @@ fn refusal_stop(refusal: Refusal) -> Stop<SourceResetFault>
 fn caused(refusal: Refusal) -> Stop<SourceResetFault>
     requires { refusal ≢ refusals.NoMemory }
     ensures same { IsPlainStop refusal result }
-    ensures fault { (text : List ℕ) (main : Option (List ℕ)) (o : ModuleOptions)
-        → IsOtherRefusal text main refusal → FaultIs (IsSourceResetFault text main o) result }
+    ensures fault { (text : List ℕ) (main : Option (List ℕ)) (code : SpecCoding) (o : ModuleOptions)
+        → IsOtherRefusal text main refusal → FaultIs (IsSourceResetFault text main code o) result }
 {
     Stop::Fault(SourceResetFault::Source(CycleRefusal::Source(refusal)))
 }

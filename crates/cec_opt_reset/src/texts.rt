@@ -1,6 +1,6 @@
 // The Verilog with a reset of a BLIF text.
 
-ghost use Rattle.std.specs.Prelude.{◌≡◌, ◌≤◌, ℕ, List, length, IfOk};
+ghost use Rattle.std.specs.Prelude.{◌≡◌, ◌≤◌, ℕ, List, length, map, IfOk};
 ghost use Rattle.base_types.specs.Stops.{FaultIs, IfFault};
 ghost use Rattle.net_ir.specs.Netlists.{Netlist};
 ghost use Rattle.net_ir.specs.Runs.{netlist_of};
@@ -8,14 +8,15 @@ ghost use Rattle.vlog_reset.specs.Faults.{IsResetFault};
 ghost use Rattle.vlog_reset.specs.Options.{ModuleOptions};
 ghost use Rattle.vlog_reset.specs.Views.{options_of};
 ghost use Rattle.vlog_reset.specs.Written.{written, Means};
-ghost use Rattle.cec_opt_texts.specs.Faults.{IsOptFault};
+ghost use Rattle.cec_opt_texts.specs.Faults.{IsGivenFault};
+ghost use Rattle.cec_opt_texts.specs.Related.{named_relation, GivenRelation as SpecRelation};
 ghost use Rattle.cec_opt_reset.specs.Faults.{IsTextResetFault};
 ghost use Rattle.cec_opt_reset.specs.ModuleFaults.{IsTextModuleFault, IsTextModuleStop, IsReadStop};
 ghost use Rattle.cec_opt_reset.specs.Texts.{ResetKeeps};
 
 use crate::faults::TextResetFault;
 use base_types::{Limits, Stop};
-use cec_opt_texts::{OptFault, optimized_net};
+use cec_opt_texts::{GivenRelation, OptFault, optimized_net};
 use net_ir::Net;
 use std::alloc::Global;
 use vlog_reset::{ResetFault, ResetOptions, reset_text};
@@ -23,22 +24,26 @@ use vlog_reset::{ResetFault, ResetOptions, reset_text};
 /// The Verilog text with a reset of the optimized netlist of a BLIF text. It describes a module with the names and the
 /// reset that are asked for, with an input for each input and an output for each output of the BLIF text
 /// (`ResetKeeps`). Take any edges of the clock and of the reset, and any values of the registers to begin with. If they
-/// begin with a reset, the module shows at each edge without a reset what the BLIF text shows.
+/// begin with a reset, and the events after it meet the given relations, the module shows at each edge without a reset
+/// what the BLIF text shows.
 ///
-/// The fault is the BLIF text's first one, and where it has none, the first one of the names (`IsResetFault`). Running
-/// out of memory is the only other error.
+/// The fault is the BLIF text's first one, or the first name of a relation that is none of its inputs. Where there is
+/// none, the fault is the first one of the names (`IsResetFault`). Running out of memory is the only other error.
 ///
 /// Example: the text with an input `wire` has none, unless the names of signals get prefixes.
 pub fn optimized_reset(
     alloc: Global,
     text: &[u8],
+    given: &[GivenRelation<'_>],
     options: ResetOptions<'_>,
 ) -> Result<Vec<u8>, Stop<TextResetFault>>
     requires { length text.now ≤ Limits.TEXT_BYTES }
-    ensures keeps { IfOk result (λ written. ResetKeeps text.now (options_of options.entry) written.items) }
-    ensures fault { IfFault result (IsTextResetFault text.now (options_of options.entry)) }
+    ensures keeps { IfOk result
+        (λ written. ResetKeeps text.now (map named_relation given.now) (options_of options.entry) written.items) }
+    ensures fault { IfFault result
+        (IsTextResetFault text.now (map named_relation given.now) (options_of options.entry)) }
 {
-    match optimized_net(alloc, text) {
+    match optimized_net(alloc, text, given) {
         Ok(net) => net_text(alloc, &net, options),
         Err(stop) => Err(text_stop(stop)),
     }
@@ -75,8 +80,8 @@ fn module_stop(stop: Stop<ResetFault>) -> Stop<TextResetFault>
 // Why the text has no netlist.
 fn text_stop(stop: Stop<OptFault>) -> Stop<TextResetFault>
     ensures same { IsReadStop stop result }
-    ensures fault { (text : List ℕ) (o : ModuleOptions) → FaultIs (IsOptFault text) stop
-        → FaultIs (IsTextResetFault text o) result }
+    ensures fault { (text : List ℕ) (given : List SpecRelation) (o : ModuleOptions)
+        → FaultIs (IsGivenFault text given) stop → FaultIs (IsTextResetFault text given o) result }
 {
     match stop {
         Stop::Fault(fault) => Stop::Fault(TextResetFault::Text(fault)),

@@ -1,3 +1,4 @@
+mod Related
 pub mod SmallNets
 pub mod LightNets
 pub mod Exports

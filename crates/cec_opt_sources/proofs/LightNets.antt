@@ -11,22 +11,26 @@ use Rattle.cec_compile.specs.declared.passes.Compiled.{Compiled}
 use Rattle.cec_compile.specs.Compiling.{IsCompiled, StandsForNet}
 use Rattle.cec_compile.specs.NetMeaning.{NetKeeps}
 use Rattle.cec_compile.proofs.Exports.{inputs_wide}
-use Rattle.cec_opt_sources.specs.LightNets.{IsLightNetOf, IsLightOf, IsLightSource, lighter, weight}
+use Rattle.cec_opt_sources.specs.LightNets.{IsEncodedNetOf, IsEncodedSmall, IsLightNetOf, IsLightOf, IsLightSource, lighter, weight}
 use Rattle.cec_opt_sources.specs.SmallTexts.{StandsForSmallNet, StandsForSmallBlif, StandsForSmallC, StandsForSmallVerilog}
-use Rattle.cec_opt_sources.proofs.SmallNets.{net_blif, net_c, net_verilog, optimized_keeps}
+use Rattle.cec_opt_sources.proofs.Related.{under_keeps}
+use Rattle.cec_opt_sources.proofs.SmallNets.{net_blif, net_c, net_verilog}
 
 -- what both netlists keep, the lighter one keeps
 chosen : (P : Netlist → Type 0) (b : Bool) (plain encoded : Netlist) → P plain → P encoded → P (if b then encoded else plain)
 chosen P true plain encoded p e = e
 chosen P false plain encoded p e = p
 
+encoded_keeps : (c : Compiled) (p : Program) (net : Netlist) → IsCompiled c p → IsEncodedSmall c p net → NetKeeps net p
+encoded_keeps c p net h e =
+    under_keeps e.coded net p (inputs_wide c p h ∙ ap length (sym e.codes_state.inputs)) e.small.optimizes e.codes_state.keeps
+
 light_keeps : (c : Compiled) (p : Program) (net : Netlist) → IsCompiled c p → IsLightOf c p net → NetKeeps net p
 light_keeps c p net h l =
-    let wide = inputs_wide c p h in
-    let plain = optimized_keeps (netlist_of c.net) l.plain p wide l.small.optimizes h.keeps in
-    let encoded = optimized_keeps l.coded l.encoded p (wide ∙ ap length (sym l.codes_state.inputs)) l.encoded_small.optimizes l.codes_state.keeps in
+    let plain = under_keeps (netlist_of c.net) l.plain p (inputs_wide c p h) l.small.optimizes h.keeps in
     subst (λ (n : Netlist). NetKeeps n p) (sym l.is)
-    (chosen (λ (n : Netlist). NetKeeps n p) (nat_lt (weight l.encoded) (weight l.plain)) l.plain l.encoded plain encoded)
+    (chosen (λ (n : Netlist). NetKeeps n p) (nat_lt (weight l.encoded) (weight l.plain)) l.plain l.encoded plain
+    (encoded_keeps c p l.encoded h l.encoded_small))
 
 pub light_stands : (bytes : List ℕ) (main : Option (List ℕ)) (c : Compiled) (net : Netlist) → IsLightSource bytes main c net
     → StandsForSmallNet bytes main net
@@ -34,7 +38,17 @@ light_stands bytes main c net is =
     let s = is.stands in
     record { program = s.program; source = s.source; compiles = s.compiled.compiles; keeps = light_keeps c s.program net s.compiled is.light }
 
--- ---- its texts
+pub encoded_stands : (bytes : List ℕ) (main : Option (List ℕ)) (net : Netlist) → IsEncodedNetOf bytes main net → StandsForSmallNet bytes main net
+encoded_stands bytes main net is =
+    let s = is.stands in
+    record {
+      program = s.program;
+      source = s.source;
+      compiles = s.compiled.compiles;
+      keeps = encoded_keeps is.compiled s.program net s.compiled is.small;
+    }
+
+-- ---- texts of the lighter one
 
 pub light_blif : (bytes : List ℕ) (main : Option (List ℕ)) (net : Netlist) (written : List ℕ) → IsLightNetOf bytes main net → Means written net
     → StandsForSmallBlif bytes main written

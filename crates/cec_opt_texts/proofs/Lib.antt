@@ -1,3 +1,5 @@
 mod Keeping
+mod Lacking
+mod Named
 mod worked
 pub mod Exports

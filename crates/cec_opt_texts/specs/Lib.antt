@@ -1,3 +1,4 @@
 pub mod Alike
 pub mod Faults
 pub mod Optimized
+pub mod Related

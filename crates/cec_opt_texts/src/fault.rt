@@ -19,4 +19,7 @@ pub enum OptFault {
     /// The text has none of these faults, and its circuit has no netlist.
     #[error(transparent)]
     Circuit(CircuitFault),
+    /// The text has a netlist, and this is the first name of a given relation that is none of its inputs.
+    #[error("a relation names no input")]
+    NoInput(Text),
 }

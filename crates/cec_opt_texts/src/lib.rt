@@ -3,11 +3,15 @@
 //!
 //! Over every list of items, resets included, the text that is written shows what the text shows that was read. Any
 //! text of the profile of `blif_text` can be given whose names are those of a netlist's interface, as in the texts of
-//! `cec`.
+//! `cec`. Where relations of the inputs are given, the same is shown over the lists whose events meet them.
 #![tactic(auto)]
 
 mod fault;
+mod relations;
 mod texts;
 
 pub use fault::OptFault;
-pub use texts::{optimized_blif, optimized_c, optimized_net, optimized_verilog, text_net};
+pub use relations::GivenRelation;
+pub use texts::{
+    optimized_blif, optimized_c, optimized_net, optimized_under, optimized_verilog, text_net,
+};

@@ -1,6 +1,6 @@
 // The optimized netlist of a text, and its texts.
 
-ghost use Rattle.std.specs.Prelude.{◌≡◌, ◌≢◌, ◌≤◌, length, Ok, IfOk};
+ghost use Rattle.std.specs.Prelude.{◌≡◌, ◌≢◌, ◌≤◌, length, map, Ok, IfOk};
 ghost use Rattle.base_types.specs.Stops.{FaultIs, IfFault};
 ghost use Rattle.net_ir.specs.Runs.{netlist_of};
 ghost use Rattle.blif_text.specs.Circuits.{Circuit, reading};
@@ -12,68 +12,116 @@ ghost use Rattle.blif_read.specs.declared.refusal.BlifError.TheVariants.{TooLong
 ghost use Rattle.blif_run.specs.Loops.{IsDescribed};
 ghost use Rattle.blif_net.specs.Conversions.{IsNetOf};
 ghost use Rattle.blif_net.specs.Interfaces.{IsCircuitFault};
-ghost use Rattle.cec_opt_texts.specs.Faults.{IsOptFault, IsReadFault, IsNetFault};
+ghost use Rattle.cec_opt_texts.specs.Faults.{IsGivenFault, IsNetFault, IsNoInput, IsOptFault, IsReadFault};
 ghost use Rattle.cec_opt_texts.specs.Alike.{BlifKeeps, CKeeps, VerilogKeeps};
-ghost use Rattle.cec_opt_texts.specs.Optimized.{IsSmallNetOf, IsSmallOf, IsSmallText, IsTextNet};
+ghost use Rattle.cec_opt_texts.specs.Optimized.{IsSmallFor, IsSmallNetOf, IsSmallText, IsTextNet};
+ghost use Rattle.cec_opt_texts.specs.Related.{named_relation, numbered_relations};
 
 use crate::fault::OptFault;
+use crate::relations::{GivenRelation, numbered_relations};
 use base_types::{Limits, Stop};
 use blif_net::{CircuitFault, net_of_circuit};
 use blif_read::{BlifError, read_blif};
 use blif_text::{Blif, write_blif};
 use csub_text::write_c;
 use net_ir::Net;
-use net_opt::optimize;
+use net_relations::optimize_under;
 use std::alloc::Global;
 use vlog_text::write_verilog;
 
-/// The BLIF text of the optimized netlist of a BLIF text. Over all items it shows what the text shows that was read, on
-/// the same inputs and outputs. The fault is the text's first one, and out of memory is the only other error.
+/// The BLIF text of the optimized netlist of a BLIF text. Over all items whose events meet the given relations it shows
+/// what the text shows that was read, on the same inputs and outputs. The fault is the text's first one. Where it has
+/// none, the fault is the first name of a relation that is no input. Out of memory is the only other error.
 ///
 /// Example: of two latches with the same source and the same first value, the text has one.
-pub fn optimized_blif(alloc: Global, text: &[u8]) -> Result<Vec<u8>, Stop<OptFault>>
+pub fn optimized_blif(
+    alloc: Global,
+    text: &[u8],
+    given: &[GivenRelation<'_>],
+) -> Result<Vec<u8>, Stop<OptFault>>
     requires { length text.now ≤ Limits.TEXT_BYTES }
-    ensures keeps { IfOk result (λ written. BlifKeeps text.now written.items) }
-    ensures small { IfOk result (λ written. IsSmallText text.now blif_texts.written written.items) }
-    ensures fault { IfFault result (IsOptFault text.now) }
+    ensures keeps { IfOk result (λ written. BlifKeeps text.now (map named_relation given.now) written.items) }
+    ensures small { IfOk result
+        (λ written. IsSmallText text.now (map named_relation given.now) blif_texts.written written.items) }
+    ensures fault { IfFault result (IsGivenFault text.now (map named_relation given.now)) }
 {
-    let net = optimized_net(alloc, text)?;
+    let net = optimized_net(alloc, text, given)?;
     let written = write_blif(alloc, &net)?;
     Ok(written)
 }
 
 /// The C text of the optimized netlist of a BLIF text, the same.
-pub fn optimized_c(alloc: Global, text: &[u8]) -> Result<Vec<u8>, Stop<OptFault>>
+pub fn optimized_c(
+    alloc: Global,
+    text: &[u8],
+    given: &[GivenRelation<'_>],
+) -> Result<Vec<u8>, Stop<OptFault>>
     requires { length text.now ≤ Limits.TEXT_BYTES }
-    ensures keeps { IfOk result (λ written. CKeeps text.now written.items) }
-    ensures small { IfOk result (λ written. IsSmallText text.now c_texts.written written.items) }
-    ensures fault { IfFault result (IsOptFault text.now) }
+    ensures keeps { IfOk result (λ written. CKeeps text.now (map named_relation given.now) written.items) }
+    ensures small { IfOk result
+        (λ written. IsSmallText text.now (map named_relation given.now) c_texts.written written.items) }
+    ensures fault { IfFault result (IsGivenFault text.now (map named_relation given.now)) }
 {
-    let net = optimized_net(alloc, text)?;
+    let net = optimized_net(alloc, text, given)?;
     let written = write_c(alloc, &net)?;
     Ok(written)
 }
 
 /// The structural Verilog of the optimized netlist of a BLIF text, the same.
-pub fn optimized_verilog(alloc: Global, text: &[u8]) -> Result<Vec<u8>, Stop<OptFault>>
+pub fn optimized_verilog(
+    alloc: Global,
+    text: &[u8],
+    given: &[GivenRelation<'_>],
+) -> Result<Vec<u8>, Stop<OptFault>>
     requires { length text.now ≤ Limits.TEXT_BYTES }
-    ensures keeps { IfOk result (λ written. VerilogKeeps text.now written.items) }
-    ensures small { IfOk result (λ written. IsSmallText text.now verilog_texts.written written.items) }
-    ensures fault { IfFault result (IsOptFault text.now) }
+    ensures keeps { IfOk result (λ written. VerilogKeeps text.now (map named_relation given.now) written.items) }
+    ensures small { IfOk result
+        (λ written. IsSmallText text.now (map named_relation given.now) verilog_texts.written written.items) }
+    ensures fault { IfFault result (IsGivenFault text.now (map named_relation given.now)) }
 {
-    let net = optimized_net(alloc, text)?;
+    let net = optimized_net(alloc, text, given)?;
     let written = write_verilog(alloc, &net)?;
     Ok(written)
 }
 
-/// The netlist of a BLIF text, optimized: its circuit's netlist, with no more gates and no more latches.
-pub fn optimized_net(alloc: Global, text: &[u8]) -> Result<Net, Stop<OptFault>>
+/// The netlist of a BLIF text, optimized where its inputs meet the given relations: its circuit's netlist, with no more
+/// gates and no more latches.
+pub fn optimized_net(
+    alloc: Global,
+    text: &[u8],
+    given: &[GivenRelation<'_>],
+) -> Result<Net, Stop<OptFault>>
     requires { length text.now ≤ Limits.TEXT_BYTES }
-    ensures small { IfOk result (λ net. IsSmallNetOf text.now (netlist_of net)) }
-    ensures fault { IfFault result (IsOptFault text.now) }
+    ensures small { IfOk result (λ net. IsSmallNetOf text.now (map named_relation given.now) (netlist_of net)) }
+    ensures fault { IfFault result (IsGivenFault text.now (map named_relation given.now)) }
 {
-    let blif = read_circuit(alloc, text)?;
-    small_net(alloc, &blif)
+    match text_net(alloc, text) {
+        Ok(net) => optimized_under(alloc, &net, given),
+        Err(stop) => Err(stop),
+    }
+}
+
+/// A netlist, optimized where its inputs meet the given relations. The fault is the first name of a relation that is no
+/// input, and out of memory is the only other error.
+///
+/// Example: where the second of two inputs is present whenever the first one is, their conjunction is the first one.
+pub fn optimized_under(
+    alloc: Global,
+    net: &Net,
+    given: &[GivenRelation<'_>],
+) -> Result<Net, Stop<OptFault>>
+    ensures small { IfOk result
+        (λ small. IsSmallFor (map named_relation given.now) (netlist_of net.now) (netlist_of small)) }
+    ensures fault { IfFault result
+        (IsNoInput (numbered_relations (netlist_of net.now).inputs (map named_relation given.now))) }
+{
+    match numbered_relations(alloc, &net.inputs, given) {
+        Ok(relations) => {
+            let small = optimize_under(alloc, net, &relations)?;
+            Ok(small)
+        }
+        Err(stop) => Err(stop),
+    }
 }
 
 /// The netlist of a BLIF text, as the text describes it: its circuit's netlist.
@@ -108,16 +156,6 @@ fn text_stop(error: BlifError) -> Stop<OptFault>
         BlifError::NoMemory => Stop::NoMemory,
         BlifError::TooLong => unreachable!(),
     }
-}
-
-fn small_net(alloc: Global, blif: &Blif) -> Result<Net, Stop<OptFault>>
-    requires { IsDescribed (plain_circuit blif.now) }
-    ensures small { IfOk result (λ net. IsSmallOf (plain_circuit blif.now) (netlist_of net)) }
-    ensures fault { IfFault result (IsNetFault (plain_circuit blif.now)) }
-{
-    let net = circuit_net(alloc, blif)?;
-    let small = optimize(alloc, &net)?;
-    Ok(small)
 }
 
 fn circuit_net(alloc: Global, blif: &Blif) -> Result<Net, Stop<OptFault>>

@@ -1,6 +1,6 @@
 -- What the answers of the steps say of the whole call.
 use Rattle.std.specs.declared.alloc.Global.{Global}
-use Rattle.std.proofs.Common.{◌≡◌, ◌≤◌, ℕ, Bool, true, false, List, [], length, Option, None, Some, Ok, Err, Vec, refl, sym, subst, arith}
+use Rattle.std.proofs.Common.{◌≡◌, ◌≤◌, ℕ, Bool, true, false, List, [], length, Option, None, Some, Ok, Err, Result, Vec, refl, sym, subst, arith}
 use Rattle.base_types.specs.declared.bounds.TheConstants.Limits.{SOURCE_BYTES, TEXT_BYTES}
 use Rattle.base_types.specs.declared.files.reading.FileFault as unread
 use Rattle.base_types.specs.declared.files.reading.FileFault.TheVariants as reading
@@ -565,7 +565,7 @@ second_counts of_texts job name fault before now failed_before failed_now same c
     (subst (λ n. Counts before now failed_before failed_now n (Err fault)) same counts)
 
 -- what was counted after a read that kept the counts
-pub counts-later : (asked : Option Request) (outcome : ProveOutcome) (before middle now : ℕ) (failed_before failed_middle failed_now : List ℕ)
+pub counts-later : (asked : Result Request (List ℕ)) (outcome : ProveOutcome) (before middle now : ℕ) (failed_before failed_middle failed_now : List ℕ)
     → KeepsFaults before middle failed_before failed_middle → CountsFiles asked outcome middle now failed_middle failed_now
     → CountsFiles asked outcome before now failed_before failed_now
 counts-later asked outcome before middle now failed_before failed_middle failed_now kept counts =

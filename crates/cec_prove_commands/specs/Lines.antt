@@ -1,5 +1,5 @@
 -- To believe: the line that is written about an outcome.
-use Rattle.std.specs.Prelude.{⊤, ℕ, ◌+◌, ◌≤◌, Bool, true, false, List, [], ◌++◌, Option, Some, None, codes}
+use Rattle.std.specs.Prelude.{⊤, ℕ, ◌+◌, ◌≤◌, Bool, true, false, List, [], ◌++◌, Option, Result, Ok, Err, codes}
 use Rattle.std.specs.Prelude.{decimal, zero, suc, unwrap_or}
 use Rattle.cec_compile.specs.declared.refusal.Refusal.TheVariants as refusing
 use Rattle.cec_cycles.specs.declared.findings.Stuck.{Stuck}
@@ -8,7 +8,7 @@ use Rattle.cec_text_io.specs.Contents.{Content, IsHeld}
 use Rattle.cec_text_io.specs.ErrorLines.{GainsLine}
 use Rattle.cec_prove_commands.specs.TextFaults.{fault_text}
 use Rattle.cec_prove_commands.specs.Words.{Job, Request, Tell, Do, Task, Ask, Survey, Cover, Compare, AskText}
-use Rattle.cec_prove_commands.specs.Words.{SurveyText, CompareTexts, misuse_of}
+use Rattle.cec_prove_commands.specs.Words.{SurveyText, CompareTexts}
 use Rattle.cec_prove_commands.specs.declared.outcome.ProveOutcome.{ProveOutcome}
 use Rattle.cec_prove_commands.specs.declared.outcome.ProveOutcome.TheVariants.{Told, Proved, Refuted, Surveyed}
 use Rattle.cec_prove_commands.specs.declared.outcome.ProveOutcome.TheVariants.{Covered, PartlyCovered}
@@ -39,6 +39,10 @@ nothing = record { name = []; other = []; signal = []; assumed = []; main = []; 
 -- a line of this program
 abbrev pub own_line : List ℕ → List ℕ
 own_line said = codes "cec-prove: " ++ (said ++ codes "\n")
+
+-- the line about what is wrong with words that have no meaning
+abbrev pub misuse_line : (misuse : List ℕ) → List ℕ
+misuse_line misuse = own_line (misuse ++ codes ", see cec-prove --help")
 
 -- what the line of a source that does not compile speaks of, where the file has this name
 abbrev pub refused_of : Subject → (name : List ℕ) → RefusalSubject
@@ -151,11 +155,10 @@ pub record GainsJobErr (progress : Bool) (job : Job) (content : Content) (outcom
   pub gains : GainsLine old new before now (progress_lines further ++ line_of (job_subject job source) outcome)
 
 -- the same about a request; of words without a meaning the line says what is wrong with them
-abbrev pub GainsErr : (progress : Bool) → List (List ℕ) → Option Request → Content → ProveOutcome
+abbrev pub GainsErr : (progress : Bool) → Result Request (List ℕ) → Content → ProveOutcome
     → (old new : Option (List ℕ)) → (before now : ℕ) → Type 0
-GainsErr progress words None content outcome old new before now =
-    GainsLine old new before now (own_line (misuse_of words ++ codes ", see cec-prove --help"))
-GainsErr progress words (Some (Tell about)) content outcome old new before now =
+GainsErr progress (Err misuse) content outcome old new before now = GainsLine old new before now (misuse_line misuse)
+GainsErr progress (Ok (Tell about)) content outcome old new before now =
     GainsLine old new before now (line_of nothing outcome)
-GainsErr progress words (Some (Do job)) content outcome old new before now =
+GainsErr progress (Ok (Do job)) content outcome old new before now =
     GainsJobErr progress job content outcome old new before now

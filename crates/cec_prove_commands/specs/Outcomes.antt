@@ -1,5 +1,5 @@
 -- To believe: what each outcome of the top call says.
-use Rattle.std.specs.Prelude.{◌≡◌, ◌≢◌, ◌⊎◌, ℕ, ⊤, Bool, true, false, List, [], Option, Some, None}
+use Rattle.std.specs.Prelude.{◌≡◌, ◌≢◌, ◌⊎◌, ℕ, ⊤, Bool, true, false, List, [], Result, Ok, Err}
 use Rattle.base_types.specs.Reading.{KeepsFaults, Notes}
 use Rattle.base_types.specs.SinkChanges.{SinkChange}
 use Rattle.base_types.specs.Writing.{Appends}
@@ -262,10 +262,10 @@ IsWriting NoMemory = ⊤
 IsWriting others = ⊥
 
 -- what an outcome says of the words and of the bytes in the files
-abbrev pub IsOutcomeOf : Option Request → Content → ProveOutcome → Type 0
-IsOutcomeOf None content outcome = outcome ≡ Usage
-IsOutcomeOf (Some (Tell about)) content outcome = IsWriting outcome
-IsOutcomeOf (Some (Do job)) content outcome = AgreesOnTask job.task content job outcome
+abbrev pub IsOutcomeOf : Result Request (List ℕ) → Content → ProveOutcome → Type 0
+IsOutcomeOf (Err misuse) content outcome = outcome ≡ Usage
+IsOutcomeOf (Ok (Tell about)) content outcome = IsWriting outcome
+IsOutcomeOf (Ok (Do job)) content outcome = AgreesOnTask job.task content job outcome
 
 -- The count of faults of the files and the name that failed last: a file fault raised the count, and the name is the
 -- file's; every other outcome leaves both.
@@ -274,12 +274,14 @@ CountsJob job FileFault before now failed_before failed_now = Notes before now j
 CountsJob job SecondFault before now failed_before failed_now = Notes before now (second_of job.task) failed_now
 CountsJob job others before now failed_before failed_now = KeepsFaults before now failed_before failed_now
 
-abbrev pub CountsFiles : Option Request → ProveOutcome → (before now : ℕ) (failed_before failed_now : List ℕ) → Type 0
-CountsFiles (Some (Do job)) outcome before now failed_before failed_now =
+abbrev pub CountsFiles : Result Request (List ℕ) → ProveOutcome → (before now : ℕ) (failed_before failed_now : List ℕ)
+    → Type 0
+CountsFiles (Ok (Do job)) outcome before now failed_before failed_now =
     CountsJob job outcome before now failed_before failed_now
-CountsFiles (Some (Tell about)) outcome before now failed_before failed_now =
+CountsFiles (Ok (Tell about)) outcome before now failed_before failed_now =
     KeepsFaults before now failed_before failed_now
-CountsFiles None outcome before now failed_before failed_now = KeepsFaults before now failed_before failed_now
+CountsFiles (Err misuse) outcome before now failed_before failed_now =
+    KeepsFaults before now failed_before failed_now
 
 -- ---- what is written
 
@@ -300,7 +302,7 @@ IsTextOf (CompareTexts other) job content outcome written =
     BothHold content job.name other (λ first second. IsTextDistinction first second written)
 
 -- what `out` gained: what a task writes, or what the program writes about itself, and else nothing
-abbrev pub GainsOut : Option Request → Content → ProveOutcome → SinkChange → Type 0
-GainsOut None content outcome s = Appends s.before s.after s.faults_before s.faults_now []
-GainsOut (Some (Tell about)) content outcome s = LeavesText (λ written. written ≡ own_text about) s (written_of outcome)
-GainsOut (Some (Do job)) content outcome s = LeavesText (IsTextOf job.task job content outcome) s (written_of outcome)
+abbrev pub GainsOut : Result Request (List ℕ) → Content → ProveOutcome → SinkChange → Type 0
+GainsOut (Err misuse) content outcome s = Appends s.before s.after s.faults_before s.faults_now []
+GainsOut (Ok (Tell about)) content outcome s = LeavesText (λ written. written ≡ own_text about) s (written_of outcome)
+GainsOut (Ok (Do job)) content outcome s = LeavesText (IsTextOf job.task job content outcome) s (written_of outcome)

@@ -5,6 +5,7 @@ use Rattle.blif_net.specs.declared.fault.CircuitFault.TheVariants.{NoPause, Mode
 use Rattle.blif_net.specs.declared.fault.CircuitFault.TheVariants.{TooManyNets}
 use Rattle.cec_opt_texts.specs.declared.fault.OptFault.{OptFault}
 use Rattle.cec_opt_texts.specs.declared.fault.OptFault.TheVariants.{Line, TwoDrivers, NoDriver, Circuit}
+use Rattle.cec_opt_texts.specs.declared.fault.OptFault.TheVariants.{NoInput}
 use Rattle.cec_text_io.specs.ErrorLines.{joined_names}
 
 abbrev pub netlist_fault_text : CircuitFault → List ℕ
@@ -21,3 +22,4 @@ fault_text (Line number) = codes "line " ++ (decimal number ++ codes ": not in t
 fault_text (TwoDrivers name) = codes "two drivers: " ++ name
 fault_text (NoDriver name) = codes "no driver: " ++ name
 fault_text (Circuit fault) = netlist_fault_text fault
+fault_text (NoInput name) = codes "no input: " ++ name

@@ -1,9 +1,10 @@
--- Inner: the plain form of what is asked for.
-use Rattle.std.specs.Prelude.{ℕ, Bool, true, false, List, [], option_map}
+-- Inner: the plain form of what is asked for, and of what is wrong with words.
+use Rattle.std.specs.Prelude.{ℕ, Bool, true, false, List, [], ◌++◌, option_map}
 use Rattle.cec_prove_commands.specs.declared.lines.Subject as subjects
 use Rattle.cec_prove_commands.specs.declared.words.Command as commands
 use Rattle.cec_prove_commands.specs.declared.words.Command.TheVariants as commanded
 use Rattle.cec_prove_commands.specs.declared.words.Job as jobs
+use Rattle.cec_prove_commands.specs.declared.words.Misuse as misuses
 use Rattle.cec_prove_commands.specs.declared.words.Request as requests
 use Rattle.cec_prove_commands.specs.declared.words.Request.TheVariants as asks
 use Rattle.cec_prove_commands.specs.declared.words.Task as tasks
@@ -41,6 +42,9 @@ job_is job = record {
 abbrev pub request_is : requests.Request → Request
 request_is (asks.Tell about) = Tell about
 request_is (asks.Do job) = Do (job_is job)
+
+abbrev pub misuse_is : misuses.Misuse → List ℕ
+misuse_is misuse = misuse.fault.now ++ misuse.word.now
 
 abbrev pub subject_is : subjects.Subject → Subject
 subject_is s = record {

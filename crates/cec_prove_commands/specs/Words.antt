@@ -1,6 +1,6 @@
--- To believe: what the words of a command line ask for.
+-- To believe: what the words of a command line ask for, or what is wrong with them.
 use Rattle.std.specs.Prelude.{ℕ, ◌-◌, ◌==◌, ◌&&◌, ◌||◌, Bool, true, false, not, if◌then◌else◌, List, [], ◌∷◌, ◌++◌}
-use Rattle.std.specs.Prelude.{codes, Option, Some, None, nat_le, option_and_then, option_map, is_some}
+use Rattle.std.specs.Prelude.{codes, Option, Some, None, Result, Ok, Err, nat_le, option_map, is_some}
 use Rattle.base_types.specs.Names.{is_same_name}
 use Rattle.cec_prove_sources.specs.declared.questions.Claim.{Claim}
 use Rattle.cec_prove_sources.specs.declared.questions.Claim.TheVariants.{Never, Always}
@@ -64,11 +64,11 @@ command_of word =
     else if is_same_name word (codes "same") then Some Compares
     else None
 
--- one word alone
-abbrev pub word_asked : List ℕ → Option Request
-word_asked word =
-    if is_same_name word (codes "--help") then Some (Tell Commands)
-    else if is_same_name word (codes "--version") then Some (Tell Version)
+-- what a word asks about the program
+abbrev pub about_of : List ℕ → Option About
+about_of word =
+    if is_same_name word (codes "--help") then Some Commands
+    else if is_same_name word (codes "--version") then Some Version
     else None
 
 -- ---- options, each at most once
@@ -142,123 +142,79 @@ takes_value word = is_same_name word (codes "--assume") || is_same_name word (co
 abbrev pub is_flag : List ℕ → Bool
 is_flag word = is_same_name word (codes "--text")
 
--- the options that follow; every one but `--text` has a value, for which the one that is named here waits
-abbrev pub job_with : Job → (waiting : Option (List ℕ)) → List (List ℕ) → Option Job
-job_with job None [] = Some job
-job_with job None (word ∷ more) =
-    if is_flag word then option_and_then (λ next. job_with next None more) (with_text job)
-    else job_with job (Some word) more
-job_with job (Some key) [] = None
-job_with job (Some key) (value ∷ more) =
-    option_and_then (λ next. job_with next None more) (with_option job key value)
+-- ---- what is asked for, or what is wrong with the words
 
--- ---- all words
+-- what is wrong with a word in the place of an option; a name is one word too many
+abbrev pub bad_option : List ℕ → List ℕ
+bad_option word = if is_plain word then codes "one word too many: " ++ word else codes "bad option: " ++ word
+
+-- the same of the last word
+abbrev pub last_option : List ℕ → List ℕ
+last_option word = if takes_value word then codes "no value after " ++ word else bad_option word
+
+-- goes on with the task that has one more option, unless that option is bad
+abbrev pub after_option : (key : List ℕ) → (Job → Result Request (List ℕ)) → Option Job → Result Request (List ℕ)
+after_option key rest None = Err (bad_option key)
+after_option key rest (Some next) = rest next
+
+-- A task with the options that follow. Each one except `--text` has a value; `waiting` is one whose value comes next.
+-- The first bad option is at fault. It is unknown, occurs twice, lacks its value or does not take it, or does not go
+-- with the command or with another option. A name in its place is one word too many.
+abbrev pub job_asked : Job → (waiting : Option (List ℕ)) → List (List ℕ) → Result Request (List ℕ)
+job_asked job None [] = Ok (Do job)
+job_asked job None (word ∷ more) =
+    if is_flag word then after_option word (λ next. job_asked next None more) (with_text job)
+    else job_asked job (Some word) more
+job_asked job (Some key) [] = Err (last_option key)
+job_asked job (Some key) (value ∷ more) =
+    after_option key (λ next. job_asked next None more) (with_option job key value)
 
 -- a task without options
 abbrev pub plain_job : Task → (name : List ℕ) → Job
 plain_job task name = record { task = task; name = name; assumed = None; main = None; level = None }
 
--- a task about a file, with options
-abbrev pub job_asked : Task → (name : List ℕ) → List (List ℕ) → Option Request
-job_asked task name options = option_map Do (job_with (plain_job task name) None options)
+-- after `all`, `cover` and the signal of a claim come a file and options
+abbrev pub file_asked : Task → (before : List ℕ) → List (List ℕ) → Result Request (List ℕ)
+file_asked task before [] = Err (codes "no file after " ++ before)
+file_asked task before (name ∷ options) =
+    if not (is_plain name) then Err (codes "not a file: " ++ name) else job_asked (plain_job task name) None options
 
--- after a claim come a signal and a file
-abbrev pub claim_asked : Claim → List (List ℕ) → Option Request
-claim_asked claim [] = None
-claim_asked claim (signal ∷ []) = None
-claim_asked claim (signal ∷ name ∷ options) =
-    if not (is_plain signal) || not (is_plain name) then None else job_asked (Ask claim signal) name options
+-- after a claim come a signal, a file and options
+abbrev pub claim_asked : Claim → (word : List ℕ) → List (List ℕ) → Result Request (List ℕ)
+claim_asked claim word [] = Err (codes "no signal after " ++ word)
+claim_asked claim word (signal ∷ rest) =
+    if not (is_plain signal) then Err (codes "not a signal: " ++ signal) else file_asked (Ask claim signal) signal rest
 
--- after `all` and `cover` comes a file
-abbrev pub file_asked : Task → List (List ℕ) → Option Request
-file_asked task [] = None
-file_asked task (name ∷ options) = if not (is_plain name) then None else job_asked task name options
+-- after the first file of a comparison come a second one and options
+abbrev pub second_asked : (name : List ℕ) → List (List ℕ) → Result Request (List ℕ)
+second_asked name [] = Err (codes "no file after " ++ name)
+second_asked name (other ∷ options) =
+    if not (is_plain other) then Err (codes "not a file: " ++ other)
+    else job_asked (plain_job (Compare other) name) None options
 
--- after `same` come two files
-abbrev pub comparison_asked : List (List ℕ) → Option Request
-comparison_asked [] = None
-comparison_asked (name ∷ []) = None
-comparison_asked (name ∷ other ∷ options) =
-    if not (is_plain name) || not (is_plain other) then None else job_asked (Compare other) name options
+-- after `same` come two files and options
+abbrev pub comparison_asked : (before : List ℕ) → List (List ℕ) → Result Request (List ℕ)
+comparison_asked before [] = Err (codes "no file after " ++ before)
+comparison_asked before (name ∷ rest) =
+    if not (is_plain name) then Err (codes "not a file: " ++ name) else second_asked name rest
 
-abbrev pub command_asked : Command → List (List ℕ) → Option Request
-command_asked (Asks claim) rest = claim_asked claim rest
-command_asked Surveys rest = file_asked Survey rest
-command_asked Covers rest = file_asked Cover rest
-command_asked Compares rest = comparison_asked rest
+abbrev pub command_asked : Command → (word : List ℕ) → List (List ℕ) → Result Request (List ℕ)
+command_asked (Asks claim) word rest = claim_asked claim word rest
+command_asked Surveys word rest = file_asked Survey word rest
+command_asked Covers word rest = file_asked Cover word rest
+command_asked Compares word rest = comparison_asked word rest
 
--- every other list of words has no meaning
-abbrev pub request_by : List (List ℕ) → Option Request
-request_by [] = None
-request_by (word ∷ []) = word_asked word
-request_by (word ∷ next ∷ rest) =
-    option_and_then (λ command. command_asked command (next ∷ rest)) (command_of word)
+-- after a word that asks about the program comes none
+abbrev pub about_asked : About → List (List ℕ) → Result Request (List ℕ)
+about_asked about [] = Ok (Tell about)
+about_asked about (more ∷ others) = Err (codes "one word too many: " ++ more)
 
--- ---- what is wrong with words that have no meaning
+abbrev pub first_asked : (word : List ℕ) → Option Command → Option About → List (List ℕ) → Result Request (List ℕ)
+first_asked word (Some command) about rest = command_asked command word rest
+first_asked word None (Some about) rest = about_asked about rest
+first_asked word None None rest = Err (codes "unknown word: " ++ word)
 
--- a word in the place of an option; a name is one word too many
-abbrev pub bad_option : List ℕ → List ℕ
-bad_option word = if is_plain word then codes "one word too many: " ++ word else codes "bad option: " ++ word
-
--- the last word, in the place of an option
-abbrev pub last_option : List ℕ → List ℕ
-last_option word = if takes_value word then codes "no value after " ++ word else bad_option word
-
-abbrev pub misuse_of_rest : (key : List ℕ) → (Job → List ℕ) → Option Job → List ℕ
-misuse_of_rest key rest None = bad_option key
-misuse_of_rest key rest (Some next) = rest next
-
--- The first option that is without its value, unknown, given before, or with a value that it does not take; or that
--- does not go with the command or with another option; or a name in its place. The option that is named here waits
--- for its value.
-abbrev pub misuse_of_options : Job → (waiting : Option (List ℕ)) → List (List ℕ) → List ℕ
-misuse_of_options job None [] = codes "no fault"
-misuse_of_options job None (word ∷ more) =
-    if is_flag word then misuse_of_rest word (λ next. misuse_of_options next None more) (with_text job)
-    else misuse_of_options job (Some word) more
-misuse_of_options job (Some key) [] = last_option key
-misuse_of_options job (Some key) (value ∷ more) =
-    misuse_of_rest key (λ next. misuse_of_options next None more) (with_option job key value)
-
--- in words that begin with a file: it, and then the options
-abbrev pub misuse_of_file : Task → (before : List ℕ) → List (List ℕ) → List ℕ
-misuse_of_file task before [] = codes "no file after " ++ before
-misuse_of_file task before (name ∷ options) =
-    if not (is_plain name) then codes "not a file: " ++ name else misuse_of_options (plain_job task name) None options
-
--- after a claim come a signal, a file, and options
-abbrev pub misuse_of_claim : Claim → (command : List ℕ) → List (List ℕ) → List ℕ
-misuse_of_claim claim command [] = codes "no signal after " ++ command
-misuse_of_claim claim command (signal ∷ rest) =
-    if not (is_plain signal) then codes "not a signal: " ++ signal
-    else misuse_of_file (Ask claim signal) signal rest
-
--- after `same` come two files, and options
-abbrev pub misuse_of_comparison : (command : List ℕ) → List (List ℕ) → List ℕ
-misuse_of_comparison command [] = codes "no file after " ++ command
-misuse_of_comparison command (name ∷ []) =
-    if not (is_plain name) then codes "not a file: " ++ name else codes "no file after " ++ name
-misuse_of_comparison command (name ∷ other ∷ options) =
-    if not (is_plain name) then codes "not a file: " ++ name
-    else if not (is_plain other) then codes "not a file: " ++ other
-    else misuse_of_options (plain_job (Compare other) name) None options
-
-abbrev pub misuse_of_command : Command → (command : List ℕ) → List (List ℕ) → List ℕ
-misuse_of_command (Asks claim) command rest = misuse_of_claim claim command rest
-misuse_of_command Surveys command rest = misuse_of_file Survey command rest
-misuse_of_command Covers command rest = misuse_of_file Cover command rest
-misuse_of_command Compares command rest = misuse_of_comparison command rest
-
--- after a word that asks about the program comes none; such a word alone has a meaning
-abbrev pub misuse_of_own : (word : List ℕ) → List (List ℕ) → List ℕ
-misuse_of_own word [] = codes "unknown word: " ++ word
-misuse_of_own word (more ∷ others) = codes "one word too many: " ++ more
-
-abbrev pub misuse_after : (word : List ℕ) → Option Command → Option Request → List (List ℕ) → List ℕ
-misuse_after word (Some command) own rest = misuse_of_command command word rest
-misuse_after word None (Some request) rest = misuse_of_own word rest
-misuse_after word None None rest = codes "unknown word: " ++ word
-
-abbrev pub misuse_of : List (List ℕ) → List ℕ
-misuse_of [] = codes "no command"
-misuse_of (word ∷ rest) = misuse_after word (command_of word) (word_asked word) rest
+-- what the words ask for, or what is wrong with them
+abbrev pub request_by : List (List ℕ) → Result Request (List ℕ)
+request_by [] = Err (codes "no command")
+request_by (word ∷ rest) = first_asked word (command_of word) (about_of word) rest

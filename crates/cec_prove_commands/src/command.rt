@@ -1,6 +1,6 @@
 // The top call: what the words ask for, done.
 
-ghost use Rattle.std.specs.Prelude.{◌≡◌, ◌≤◌, ◌↔◌, true, length, map, Some, None};
+ghost use Rattle.std.specs.Prelude.{◌≡◌, ◌≤◌, ◌↔◌, true, length, map, None, IsErr, Ok};
 ghost use Rattle.std.specs.String.{string_bytes};
 ghost use Rattle.base_types.specs.SinkChanges.{change};
 ghost use Rattle.cec_text_io.specs.Contents.{IsHeld};
@@ -83,22 +83,21 @@ pub fn cec_prove<F: Files, O: Sink, E: Sink>(
     err: &mut E,
     progress: bool,
 ) -> ProveOutcome
-    ensures usage { (result ≡ ProveOutcome.Usage) ↔ (request_by (map string_bytes words.now) ≡ None) }
+    ensures usage { (result ≡ ProveOutcome.Usage) ↔ IsErr (request_by (map string_bytes words.now)) }
     ensures agrees { IsOutcomeOf (request_by (map string_bytes words.now)) (F.content files.old) result }
     ensures files_counted { CountsFiles (request_by (map string_bytes words.now)) result
         (F.faults files.old) (F.faults files.new) (F.last_failed files.old) (F.last_failed files.new) }
     ensures files_stay { F.content files.new ≡ F.content files.old }
     ensures out { GainsOut (request_by (map string_bytes words.now)) (F.content files.old) result
         (change O.told O.faults out.old out.new) }
-    ensures err { GainsErr progress (map string_bytes words.now) (request_by (map string_bytes words.now))
-        (F.content files.old) result
+    ensures err { GainsErr progress (request_by (map string_bytes words.now)) (F.content files.old) result
         (E.told err.old) (E.told err.new) (E.faults err.old) (E.faults err.new) }
 {
     match request_by(words) {
-        Some(Request::Do(job)) => do_file(alloc, job, files, progress, out, err),
-        Some(Request::Tell(about)) => tell(about, out, err),
-        None => {
-            report_misuse(err, words);
+        Ok(Request::Do(job)) => do_file(alloc, job, files, progress, out, err),
+        Ok(Request::Tell(about)) => tell(about, out, err),
+        Err(misuse) => {
+            report_misuse(err, misuse);
             ProveOutcome::Usage
         }
     }
@@ -106,8 +105,8 @@ pub fn cec_prove<F: Files, O: Sink, E: Sink>(
 
 // Writes what the program writes about itself.
 fn tell<O: Sink, E: Sink>(about: About, out: &mut O, err: &mut E) -> ProveOutcome
-    ensures agrees { IsOutcomeOf (Some (Tell about)) None result }
-    ensures out { GainsOut (Some (Tell about)) None result (change O.told O.faults out.old out.new) }
+    ensures agrees { IsOutcomeOf (Ok (Tell about)) None result }
+    ensures out { GainsOut (Ok (Tell about)) None result (change O.told O.faults out.old out.new) }
     ensures err { GainsLine (E.told err.old) (E.told err.new) (E.faults err.old) (E.faults err.new)
         (line_of nothing result) }
 {
@@ -197,11 +196,11 @@ fn do_file<F: Files, O: Sink, E: Sink>(
     out: &mut O,
     err: &mut E,
 ) -> ProveOutcome
-    ensures agrees { IsOutcomeOf (Some (Do (job_is job.entry))) (F.content files.old) result }
-    ensures files_counted { CountsFiles (Some (Do (job_is job.entry))) result
+    ensures agrees { IsOutcomeOf (Ok (Do (job_is job.entry))) (F.content files.old) result }
+    ensures files_counted { CountsFiles (Ok (Do (job_is job.entry))) result
         (F.faults files.old) (F.faults files.new) (F.last_failed files.old) (F.last_failed files.new) }
     ensures files_stay { F.content files.new ≡ F.content files.old }
-    ensures out { GainsOut (Some (Do (job_is job.entry))) (F.content files.old) result
+    ensures out { GainsOut (Ok (Do (job_is job.entry))) (F.content files.old) result
         (change O.told O.faults out.old out.new) }
     ensures err { GainsJobErr progress (job_is job.entry) (F.content files.old) result
         (E.told err.old) (E.told err.new) (E.faults err.old) (E.faults err.new) }
@@ -228,11 +227,11 @@ fn do_text<F: Files, O: Sink, E: Sink>(
 ) -> ProveOutcome
     requires short { length text.now ≤ byte_limit (is_of_texts (task_is job.task)) }
     requires held { IsHeld (F.content files.old) job.name.now text.now }
-    ensures agrees { IsOutcomeOf (Some (Do (job_is job.entry))) (F.content files.old) result }
-    ensures files_counted { CountsFiles (Some (Do (job_is job.entry))) result
+    ensures agrees { IsOutcomeOf (Ok (Do (job_is job.entry))) (F.content files.old) result }
+    ensures files_counted { CountsFiles (Ok (Do (job_is job.entry))) result
         (F.faults files.old) (F.faults files.new) (F.last_failed files.old) (F.last_failed files.new) }
     ensures files_stay { F.content files.new ≡ F.content files.old }
-    ensures out { GainsOut (Some (Do (job_is job.entry))) (F.content files.old) result
+    ensures out { GainsOut (Ok (Do (job_is job.entry))) (F.content files.old) result
         (change O.told O.faults out.old out.new) }
     ensures err { GainsJobErr progress (job_is job.entry) (F.content files.old) result
         (E.told err.old) (E.told err.new) (E.faults err.old) (E.faults err.new) }
@@ -257,11 +256,11 @@ fn do_second<F: Files, O: Sink, E: Sink>(
     requires short { length text.now ≤ byte_limit (is_of_texts (task_is job.task)) }
     requires held { IsHeld (F.content files.old) job.name.now text.now }
     requires compares { is_comparison (task_is job.task) ≡ true }
-    ensures agrees { IsOutcomeOf (Some (Do (job_is job.entry))) (F.content files.old) result }
-    ensures files_counted { CountsFiles (Some (Do (job_is job.entry))) result
+    ensures agrees { IsOutcomeOf (Ok (Do (job_is job.entry))) (F.content files.old) result }
+    ensures files_counted { CountsFiles (Ok (Do (job_is job.entry))) result
         (F.faults files.old) (F.faults files.new) (F.last_failed files.old) (F.last_failed files.new) }
     ensures files_stay { F.content files.new ≡ F.content files.old }
-    ensures out { GainsOut (Some (Do (job_is job.entry))) (F.content files.old) result
+    ensures out { GainsOut (Ok (Do (job_is job.entry))) (F.content files.old) result
         (change O.told O.faults out.old out.new) }
     ensures err { GainsJobErr progress (job_is job.entry) (F.content files.old) result
         (E.told err.old) (E.told err.new) (E.faults err.old) (E.faults err.new) }

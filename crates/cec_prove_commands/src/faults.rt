@@ -29,6 +29,9 @@ pub(crate) fn put_fault<E: Sink>(
             write_pieces(err, &[begin, b"no driver: ", name.bytes(), b"\n"])
         }
         OptFault::Circuit(fault) => put_circuit_fault(err, begin, fault),
+        OptFault::NoInput(name) => {
+            write_pieces(err, &[begin, b"no input: ", name.bytes(), b"\n"])
+        }
     }
 }
 

@@ -1,18 +1,17 @@
 // The line about an outcome.
 
-ghost use Rattle.std.specs.Prelude.{◌≡◌, ◌≤◌, ◌++◌, ℕ, List, Option, codes, decimal, length, map};
-ghost use Rattle.std.specs.String.{string_bytes};
+ghost use Rattle.std.specs.Prelude.{◌≡◌, ◌≤◌, ◌++◌, ℕ, List, Option, codes, decimal, length};
 ghost use Rattle.base_types.specs.Writing.{Wrote};
 ghost use Rattle.cec_text_io.specs.ErrorLines.{GainsLine};
 ghost use Rattle.cec_refusals.specs.Views.{refused_is};
-ghost use Rattle.cec_prove_commands.specs.Lines.{line_of, own_line, progress_line, refused_of, second_line, stuck_text};
+ghost use Rattle.cec_prove_commands.specs.Lines.{line_of, misuse_line, own_line, progress_line, refused_of};
+ghost use Rattle.cec_prove_commands.specs.Lines.{second_line, stuck_text};
 ghost use Rattle.cec_prove_commands.specs.TextFaults.{fault_text};
-ghost use Rattle.cec_prove_commands.specs.Views.{subject_is};
-ghost use Rattle.cec_prove_commands.specs.Words.{misuse_of};
+ghost use Rattle.cec_prove_commands.specs.Views.{misuse_is, subject_is};
 
 use crate::faults::put_fault;
 use crate::outcome::ProveOutcome;
-use crate::words::misuse_of;
+use crate::words::Misuse;
 use base_types::{Limits, Sink, SinkFault, write_pieces};
 use cec_compile::Cycle;
 use cec_cycles::Stuck;
@@ -79,19 +78,18 @@ pub(crate) fn put_progress<E: Sink>(err: &mut E, number: usize) -> Result<(), Si
 }
 
 /// Writes the line about words that have no meaning; a sink that fails changes nothing.
-pub(crate) fn report_misuse<E: Sink>(err: &mut E, words: &[String])
+pub(crate) fn report_misuse<E: Sink>(err: &mut E, misuse: Misuse<'_>)
     ensures { GainsLine (E.told err.old) (E.told err.new) (E.faults err.old) (E.faults err.new)
-        (own_line (misuse_of (map string_bytes words.now) ++ codes ", see cec-prove --help")) }
+        (misuse_line (misuse_is misuse.entry)) }
 {
-    let _ = put_misuse(err, words);
+    let _ = put_misuse(err, misuse);
 }
 
 // The line about words that have no meaning.
-fn put_misuse<E: Sink>(err: &mut E, words: &[String]) -> Result<(), SinkFault>
+fn put_misuse<E: Sink>(err: &mut E, misuse: Misuse<'_>) -> Result<(), SinkFault>
     ensures { Wrote (E.told err.old) (E.told err.new) (E.faults err.old) (E.faults err.new)
-        (own_line (misuse_of (map string_bytes words.now) ++ codes ", see cec-prove --help")) result }
+        (misuse_line (misuse_is misuse.entry)) result }
 {
-    let misuse = misuse_of(words);
     write_pieces(
         err,
         &[

@@ -1,33 +1,29 @@
-// What the words of a command line ask for.
+// What the words of a command line ask for, or what is wrong with them.
 
 ghost use Rattle.std.specs.Prelude.{◌≡◌, ◌++◌, map, option_map, None};
+ghost use Rattle.std.specs.Result.{result_map_both};
 ghost use Rattle.std.specs.String.{string_bytes};
-ghost use Rattle.cec_prove_commands.specs.Views.{command_is, job_is, request_is, task_is};
+ghost use Rattle.cec_prove_commands.specs.Views.{command_is, job_is, misuse_is, request_is, task_is};
 ghost use Rattle.cec_prove_commands.specs.Words.{
+  about_asked,
+  about_of,
   bad_option,
   claim_asked,
   command_asked,
   command_of,
   comparison_asked,
   file_asked,
+  first_asked,
   is_comparison,
   is_flag,
   is_of_texts,
   is_plain,
   job_asked,
-  job_with,
   last_option,
   level_of,
-  misuse_after,
-  misuse_of,
-  misuse_of_claim,
-  misuse_of_command,
-  misuse_of_comparison,
-  misuse_of_file,
-  misuse_of_options,
-  misuse_of_own,
   plain_job,
   request_by,
+  second_asked,
   takes_value,
   text_task,
   with_assumed,
@@ -35,7 +31,6 @@ ghost use Rattle.cec_prove_commands.specs.Words.{
   with_main,
   with_option,
   with_text,
-  word_asked,
 };
 
 use cec_prove_sources::Claim;
@@ -104,85 +99,132 @@ pub(crate) enum Request<'a> {
     Do(Job<'a>),
 }
 
-/// What the words ask for; `None` where they have no meaning. It takes no memory.
-pub(crate) fn request_by(words: &[String]) -> Option<Request<'_>>
-    ensures { option_map request_is result ≡ request_by (map string_bytes words.now) }
-{
-    let (word, rest) = words.split_first()?;
-    if rest.is_empty() {
-        return word_asked(word.as_bytes());
-    }
-    let command = command_of(word.as_bytes())?;
-    command_asked(command, rest)
+/// What is wrong with words that have no meaning: the fault, and after it the word that has it.
+#[derive(Clone, Copy)]
+pub(crate) struct Misuse<'a> {
+    /// What is wrong.
+    pub(crate) fault: &'a [u8],
+    /// The word, empty where there is none.
+    pub(crate) word: &'a [u8],
 }
 
-// What one word alone asks for.
-fn word_asked<'a>(word: &[u8]) -> Option<Request<'a>>
-    ensures { option_map request_is result ≡ word_asked word.now }
+/// What the words ask for, or what is wrong with them. It takes no memory.
+pub(crate) fn request_by(words: &[String]) -> Result<Request<'_>, Misuse<'_>>
+    ensures { result_map_both request_is misuse_is result ≡ request_by (map string_bytes words.now) }
 {
-    if word == b"--help".as_slice() {
-        Some(Request::Tell(About::Commands))
-    } else if word == b"--version".as_slice() {
-        Some(Request::Tell(About::Version))
-    } else {
-        None
+    match words.split_first() {
+        None => Err(faulty(b"no command", b"")),
+        Some((word, rest)) => first_asked(word.as_bytes(), rest),
+    }
+}
+
+// A fault and its word.
+fn faulty<'a>(fault: &'a [u8], word: &'a [u8]) -> Misuse<'a>
+    ensures { misuse_is result ≡ fault.now ++ word.now }
+{
+    Misuse { fault, word }
+}
+
+// What a first word and the words after it ask for.
+fn first_asked<'a>(word: &'a [u8], rest: &'a [String]) -> Result<Request<'a>, Misuse<'a>>
+    ensures { result_map_both request_is misuse_is result
+        ≡ first_asked word.now (command_of word.now) (about_of word.now) (map string_bytes rest.now) }
+{
+    match command_of(word) {
+        Some(command) => command_asked(command, word, rest),
+        None => match about_of(word) {
+            Some(about) => about_asked(about, rest),
+            None => Err(faulty(b"unknown word: ", word)),
+        },
+    }
+}
+
+// What a word that asks about the program and the words after it ask for.
+fn about_asked<'a>(about: About, rest: &'a [String]) -> Result<Request<'a>, Misuse<'a>>
+    ensures { result_map_both request_is misuse_is result ≡ about_asked about (map string_bytes rest.now) }
+{
+    match rest.first() {
+        None => Ok(Request::Tell(about)),
+        Some(more) => Err(faulty(b"one word too many: ", more.as_bytes())),
     }
 }
 
 // What a command and the words after it ask for.
-fn command_asked<'a>(command: Command, rest: &'a [String]) -> Option<Request<'a>>
-    ensures { option_map request_is result ≡ command_asked (command_is command) (map string_bytes rest.now) }
+fn command_asked<'a>(
+    command: Command,
+    word: &'a [u8],
+    rest: &'a [String],
+) -> Result<Request<'a>, Misuse<'a>>
+    ensures { result_map_both request_is misuse_is result
+        ≡ command_asked (command_is command) word.now (map string_bytes rest.now) }
 {
     match command {
-        Command::Asks(claim) => claim_asked(claim, rest),
-        Command::Surveys => file_asked(Task::Survey, rest),
-        Command::Covers => file_asked(Task::Cover, rest),
-        Command::Compares => comparison_asked(rest),
+        Command::Asks(claim) => claim_asked(claim, word, rest),
+        Command::Surveys => file_asked(Task::Survey, word, rest),
+        Command::Covers => file_asked(Task::Cover, word, rest),
+        Command::Compares => comparison_asked(word, rest),
     }
 }
 
 // What a claim and the words after it ask for: a signal, a file and options.
-fn claim_asked<'a>(claim: Claim, rest: &'a [String]) -> Option<Request<'a>>
-    ensures { option_map request_is result ≡ claim_asked claim (map string_bytes rest.now) }
+fn claim_asked<'a>(
+    claim: Claim,
+    word: &'a [u8],
+    rest: &'a [String],
+) -> Result<Request<'a>, Misuse<'a>>
+    ensures { result_map_both request_is misuse_is result ≡ claim_asked claim word.now (map string_bytes rest.now) }
 {
-    let (signal, more) = rest.split_first()?;
-    let (name, options) = more.split_first()?;
-    if !is_plain(signal.as_bytes()) || !is_plain(name.as_bytes()) {
-        return None;
+    let Some((signal, more)) = rest.split_first() else {
+        return Err(faulty(b"no signal after ", word));
+    };
+    if !is_plain(signal.as_bytes()) {
+        return Err(faulty(b"not a signal: ", signal.as_bytes()));
     }
-    job_asked(Task::Ask(claim, signal.as_bytes()), name, options)
+    file_asked(Task::Ask(claim, signal.as_bytes()), signal.as_bytes(), more)
 }
 
-// What a file and options ask for.
-fn file_asked<'a>(task: Task<'a>, rest: &'a [String]) -> Option<Request<'a>>
-    ensures { option_map request_is result ≡ file_asked (task_is task.entry) (map string_bytes rest.now) }
+// What a file and options ask for, after a word.
+fn file_asked<'a>(
+    task: Task<'a>,
+    before: &'a [u8],
+    rest: &'a [String],
+) -> Result<Request<'a>, Misuse<'a>>
+    ensures { result_map_both request_is misuse_is result
+        ≡ file_asked (task_is task.entry) before.now (map string_bytes rest.now) }
 {
-    let (name, options) = rest.split_first()?;
+    let Some((name, options)) = rest.split_first() else {
+        return Err(faulty(b"no file after ", before));
+    };
     if !is_plain(name.as_bytes()) {
-        return None;
+        return Err(faulty(b"not a file: ", name.as_bytes()));
     }
-    job_asked(task, name, options)
+    job_asked(plain_job(task, name), options)
 }
 
-// What two files and options ask for.
-fn comparison_asked<'a>(rest: &'a [String]) -> Option<Request<'a>>
-    ensures { option_map request_is result ≡ comparison_asked (map string_bytes rest.now) }
+// What two files and options ask for, after a word.
+fn comparison_asked<'a>(before: &'a [u8], rest: &'a [String]) -> Result<Request<'a>, Misuse<'a>>
+    ensures { result_map_both request_is misuse_is result ≡ comparison_asked before.now (map string_bytes rest.now) }
 {
-    let (name, more) = rest.split_first()?;
-    let (other, options) = more.split_first()?;
-    if !is_plain(name.as_bytes()) || !is_plain(other.as_bytes()) {
-        return None;
+    let Some((name, more)) = rest.split_first() else {
+        return Err(faulty(b"no file after ", before));
+    };
+    if !is_plain(name.as_bytes()) {
+        return Err(faulty(b"not a file: ", name.as_bytes()));
     }
-    job_asked(Task::Compare(other), name, options)
+    second_asked(name, more)
 }
 
-// What a task about a file asks for, with options.
-fn job_asked<'a>(task: Task<'a>, name: &'a str, options: &'a [String]) -> Option<Request<'a>>
-    ensures { option_map request_is result
-        ≡ job_asked (task_is task.entry) name.now (map string_bytes options.now) }
+// What a second file and options ask for.
+fn second_asked<'a>(name: &'a str, rest: &'a [String]) -> Result<Request<'a>, Misuse<'a>>
+    ensures { result_map_both request_is misuse_is result ≡ second_asked name.now (map string_bytes rest.now) }
 {
-    let job = job_with(plain_job(task, name), options)?;
-    Some(Request::Do(job))
+    let Some((other, options)) = rest.split_first() else {
+        return Err(faulty(b"no file after ", name.as_bytes()));
+    };
+    if !is_plain(other.as_bytes()) {
+        return Err(faulty(b"not a file: ", other.as_bytes()));
+    }
+    job_asked(plain_job(Task::Compare(other), name), options)
 }
 
 // A task without options.
@@ -195,6 +237,19 @@ fn plain_job<'a>(task: Task<'a>, name: &'a str) -> Job<'a>
         assumed: None,
         main: None,
         level: None,
+    }
+}
+
+// What a word asks about the program.
+fn about_of(word: &[u8]) -> Option<About>
+    ensures { result ≡ about_of word.now }
+{
+    if word == b"--help".as_slice() {
+        Some(About::Commands)
+    } else if word == b"--version".as_slice() {
+        Some(About::Version)
+    } else {
+        None
     }
 }
 
@@ -227,30 +282,59 @@ fn is_plain(word: &[u8]) -> bool
     }
 }
 
-// The task with options: `--text`, and others of two words.
-fn job_with<'a>(job: Job<'a>, options: &'a [String]) -> Option<Job<'a>>
-    ensures { option_map job_is result ≡ job_with (job_is job.entry) None (map string_bytes options.now) }
+// What a task with options asks for: `--text`, and others of two words.
+fn job_asked<'a>(job: Job<'a>, options: &'a [String]) -> Result<Request<'a>, Misuse<'a>>
+    ensures { result_map_both request_is misuse_is result
+        ≡ job_asked (job_is job.entry) None (map string_bytes options.now) }
 {
     let mut with = job;
-    let mut key: Option<&[u8]> = None;
+    let mut key: Option<&'a [u8]> = None;
     for word in options {
         match key {
             None => {
                 if is_flag(word.as_bytes()) {
-                    with = with_text(with)?;
+                    match with_text(with) {
+                        None => return Err(bad_option(word.as_bytes())),
+                        Some(next) => with = next,
+                    }
                 } else {
                     key = Some(word.as_bytes());
                 }
             }
-            Some(name) => {
-                with = with_option(with, name, word.as_bytes())?;
-                key = None;
-            }
+            Some(name) => match with_option(with, name, word.as_bytes()) {
+                None => return Err(bad_option(name)),
+                Some(next) => {
+                    with = next;
+                    key = None;
+                }
+            },
         }
     }
     match key {
-        None => Some(with),
-        Some(_) => None,
+        None => Ok(Request::Do(with)),
+        Some(name) => Err(last_option(name)),
+    }
+}
+
+// What is wrong with a word in the place of an option: a name is one word too many.
+fn bad_option(word: &[u8]) -> Misuse<'_>
+    ensures { misuse_is result ≡ bad_option word.now }
+{
+    if is_plain(word) {
+        faulty(b"one word too many: ", word)
+    } else {
+        faulty(b"bad option: ", word)
+    }
+}
+
+// What is wrong with the last word, in the place of an option.
+fn last_option(word: &[u8]) -> Misuse<'_>
+    ensures { misuse_is result ≡ last_option word.now }
+{
+    if takes_value(word) {
+        faulty(b"no value after ", word)
+    } else {
+        bad_option(word)
     }
 }
 
@@ -372,174 +456,5 @@ fn level_of(word: &[u8]) -> Option<u8>
         Some(*digit - 48)
     } else {
         None
-    }
-}
-
-/// What is wrong with words that have no meaning: the fault, and after it the word that has it.
-#[derive(Clone, Copy)]
-pub(crate) struct Misuse<'a> {
-    /// What is wrong.
-    pub(crate) fault: &'a [u8],
-    /// The word, empty where there is none.
-    pub(crate) word: &'a [u8],
-}
-
-// A fault and its word.
-fn faulty<'a>(fault: &'a [u8], word: &'a [u8]) -> Misuse<'a>
-    ensures { result.fault.now ++ result.word.now ≡ fault.now ++ word.now }
-{
-    Misuse { fault, word }
-}
-
-/// What is wrong with words, where they have no meaning. It takes no memory.
-pub(crate) fn misuse_of(words: &[String]) -> Misuse<'_>
-    ensures { result.fault.now ++ result.word.now ≡ misuse_of (map string_bytes words.now) }
-{
-    match words.split_first() {
-        None => Misuse {
-            fault: b"no command",
-            word: b"",
-        },
-        Some((word, rest)) => misuse_after(word.as_bytes(), rest),
-    }
-}
-
-// The same after a first word.
-fn misuse_after<'a>(word: &'a [u8], rest: &'a [String]) -> Misuse<'a>
-    ensures { result.fault.now ++ result.word.now
-        ≡ misuse_after word.now (command_of word.now) (word_asked word.now) (map string_bytes rest.now) }
-{
-    match command_of(word) {
-        Some(command) => misuse_of_command(command, word, rest),
-        None => match word_asked(word) {
-            Some(_) => misuse_of_own(word, rest),
-            None => faulty(b"unknown word: ", word),
-        },
-    }
-}
-
-// The same after a command.
-fn misuse_of_command<'a>(command: Command, word: &'a [u8], rest: &'a [String]) -> Misuse<'a>
-    ensures { result.fault.now ++ result.word.now
-        ≡ misuse_of_command (command_is command) word.now (map string_bytes rest.now) }
-{
-    match command {
-        Command::Asks(claim) => misuse_of_claim(claim, word, rest),
-        Command::Surveys => misuse_of_file(Task::Survey, word, rest),
-        Command::Covers => misuse_of_file(Task::Cover, word, rest),
-        Command::Compares => misuse_of_comparison(word, rest),
-    }
-}
-
-// The same after a claim: a signal, a file, and options.
-fn misuse_of_claim<'a>(claim: Claim, command: &'a [u8], rest: &'a [String]) -> Misuse<'a>
-    ensures { result.fault.now ++ result.word.now
-        ≡ misuse_of_claim claim command.now (map string_bytes rest.now) }
-{
-    let Some((signal, more)) = rest.split_first() else {
-        return faulty(b"no signal after ", command);
-    };
-    if !is_plain(signal.as_bytes()) {
-        return faulty(b"not a signal: ", signal.as_bytes());
-    }
-    misuse_of_file(Task::Ask(claim, signal.as_bytes()), signal.as_bytes(), more)
-}
-
-// The same in words that begin with a file.
-fn misuse_of_file<'a>(task: Task<'a>, before: &'a [u8], rest: &'a [String]) -> Misuse<'a>
-    ensures { result.fault.now ++ result.word.now
-        ≡ misuse_of_file (task_is task.entry) before.now (map string_bytes rest.now) }
-{
-    let Some((name, options)) = rest.split_first() else {
-        return faulty(b"no file after ", before);
-    };
-    if !is_plain(name.as_bytes()) {
-        return faulty(b"not a file: ", name.as_bytes());
-    }
-    misuse_of_options(plain_job(task, name), options)
-}
-
-// The same after `same`: two files, and options.
-fn misuse_of_comparison<'a>(command: &'a [u8], rest: &'a [String]) -> Misuse<'a>
-    ensures { result.fault.now ++ result.word.now ≡ misuse_of_comparison command.now (map string_bytes rest.now) }
-{
-    let Some((name, more)) = rest.split_first() else {
-        return faulty(b"no file after ", command);
-    };
-    if !is_plain(name.as_bytes()) {
-        return faulty(b"not a file: ", name.as_bytes());
-    }
-    let Some((other, options)) = more.split_first() else {
-        return faulty(b"no file after ", name.as_bytes());
-    };
-    if !is_plain(other.as_bytes()) {
-        return faulty(b"not a file: ", other.as_bytes());
-    }
-    misuse_of_options(plain_job(Task::Compare(other), name), options)
-}
-
-// The same in options.
-fn misuse_of_options<'a>(job: Job<'a>, options: &'a [String]) -> Misuse<'a>
-    ensures { result.fault.now ++ result.word.now
-        ≡ misuse_of_options (job_is job.entry) None (map string_bytes options.now) }
-{
-    let mut with = job;
-    let mut key: Option<&'a [u8]> = None;
-    for word in options {
-        match key {
-            None => {
-                if is_flag(word.as_bytes()) {
-                    match with_text(with) {
-                        None => return bad_option(word.as_bytes()),
-                        Some(next) => with = next,
-                    }
-                } else {
-                    key = Some(word.as_bytes());
-                }
-            }
-            Some(name) => match with_option(with, name, word.as_bytes()) {
-                None => return bad_option(name),
-                Some(next) => {
-                    with = next;
-                    key = None;
-                }
-            },
-        }
-    }
-    match key {
-        None => faulty(b"no fault", b""),
-        Some(name) => last_option(name),
-    }
-}
-
-// The same of a word in the place of an option: a name is one word too many.
-fn bad_option(word: &[u8]) -> Misuse<'_>
-    ensures { result.fault.now ++ result.word.now ≡ bad_option word.now }
-{
-    if is_plain(word) {
-        faulty(b"one word too many: ", word)
-    } else {
-        faulty(b"bad option: ", word)
-    }
-}
-
-// The same of the last word, in the place of an option.
-fn last_option(word: &[u8]) -> Misuse<'_>
-    ensures { result.fault.now ++ result.word.now ≡ last_option word.now }
-{
-    if takes_value(word) {
-        faulty(b"no value after ", word)
-    } else {
-        bad_option(word)
-    }
-}
-
-// The same after a word that asks about the program.
-fn misuse_of_own<'a>(word: &'a [u8], rest: &'a [String]) -> Misuse<'a>
-    ensures { result.fault.now ++ result.word.now ≡ misuse_of_own word.now (map string_bytes rest.now) }
-{
-    match rest.first() {
-        None => faulty(b"unknown word: ", word),
-        Some(more) => faulty(b"one word too many: ", more.as_bytes()),
     }
 }

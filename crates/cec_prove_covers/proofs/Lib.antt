@@ -1,4 +1,3 @@
 mod CoveringLines
-mod Graphs
 mod Joint
 mod NewSignals

@@ -75,7 +75,7 @@ SaysCovering source main assumed p (Partly text) = IsCovering source main assume
 SaysCovering source main assumed p NoAssumed = IsNone p assumed
 
 -- The bytes stand for a program whose graph keeps the limits, and the covering is one of its source. The dependencies
--- of the program may go round in circles.
+-- of the program may have a cycle.
 pub record HasCovering (source : List ℕ) (main assumed : Option (List ℕ)) (covering : Covering) : Type 0 where
   pub program : Program
   pub stands : StandsFor source main program

@@ -28,7 +28,7 @@ pub enum Covering {
 /// written, the place, and a trace whose last reaction starts what is there, or `never`. `never` is proved: no reaction
 /// to events that meet the source's relations starts it, where the signal that is assumed is present in each reaction.
 /// Each point has the effort, which is one of `net_search`. A module that is run several times has the lines of its
-/// points once for each run. The dependencies of the source may go round in circles. Then each schedule by which the
+/// points once for each run. The dependencies of the source may have a cycle. Then each schedule by which the
 /// program may be shown to be constructive has the effort too, and so has each of those of a program with new signals.
 ///
 /// It refuses what `cec_prove_cycles::constructive_verdict_of` refuses.

@@ -86,7 +86,7 @@ fn acyclic_net<P: Picker>(
     }
 }
 
-// The same where the dependencies may go round in circles.
+// The same where the dependencies may have a cycle.
 fn cyclic_net(
     alloc: Global,
     flat: &Flat,
@@ -206,8 +206,18 @@ fn optimized(alloc: Global, compiled: Compiled) -> Result<CoveredNet, NoMemory>
     ensures { (flat : PlainFlat) (p : PlainProgram) → IsCompiled compiled p → IsCoveredProgram flat p
         → IfOk result (IsCoveredNet flat) }
 {
-    let net = optimize(alloc, &compiled.net)?;
-    let Compiled { graph, .. } = compiled;
-    let Graph { program, .. } = graph;
+    let given = program_and_net(compiled);
+    let net = optimize(alloc, &given.net)?;
+    let CoveredNet { program, .. } = given;
     Ok(CoveredNet { program, net })
+}
+
+// The program of a compiled program and its netlist, as it was compiled.
+fn program_and_net(compiled: Compiled) -> CoveredNet
+    ensures program { result.program ≡ compiled.graph.program }
+    ensures net { result.net ≡ compiled.net }
+{
+    let Compiled { graph, net, .. } = compiled;
+    let Graph { program, .. } = graph;
+    CoveredNet { program, net }
 }

@@ -1,4 +1,4 @@
--- Contract: what the answers say of sources whose dependencies may go round in circles. What is said of a program is
+-- Contract: what the answers say of sources whose dependencies may have a cycle. What is said of a program is
 -- what the answers of cec_prove_sources say of it.
 use Rattle.std.specs.Prelude.{ℕ, List, Option}
 use Rattle.est_kernel.specs.Plain.{Program}

@@ -17,9 +17,8 @@ use cec_prove_sources::{Comparison, net_comparison};
 use grc_order::Picker;
 use std::alloc::Global;
 
-/// The program of a source whose dependencies may go round in circles, and a netlist that keeps what it means. Where
-/// the dependencies have no cycle, it is the one that `cec_prove_sources::comparison_of` compares. The effort is that
-/// of `constructive_verdict_of`.
+/// The program of a source whose dependencies may have a cycle, and a netlist that keeps what it means. Where the
+/// dependencies have no cycle, it is that of its BLIF text. The effort is that of `constructive_verdict_of`.
 ///
 /// It refuses what `constructive_verdict_of` refuses.
 pub fn constructive_made<P: Picker>(
@@ -62,12 +61,8 @@ fn compared_with<P: Picker>(
 }
 
 /// Whether two sources do the same, each of them by its module of this name, or by its first one. The dependencies of
-/// either may go round in circles. The comparison says what that of `cec_prove_sources::comparison_of` says. `Same` is
-/// proved. It is about every list of events that meet the relations, and resets: the reactions of both are
-/// constructive, in each one the same outgoing signals are present, and both pause or neither does. `Different` has a
-/// trace, and the last reactions to it differ. The given signals, the outgoing signals and the relations must be the
-/// same, each in order; else the answer is the first of these that differs. `Open` says nothing more. The effort is
-/// that of `constructive_verdict_of`.
+/// either may have a cycle. The comparison is that of their programs (`cec_prove_sources::net_comparison`). The effort
+/// is that of `constructive_verdict_of`.
 ///
 /// It refuses what `constructive_verdict_of` refuses, of the first source, and else of the second one.
 pub fn constructive_comparison_of<P: Picker>(

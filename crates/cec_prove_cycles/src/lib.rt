@@ -1,4 +1,4 @@
-//! Properties of constructive programs whose dependencies may go round in circles: from the bytes of a source to the
+//! Properties of constructive programs whose dependencies may have a cycle: from the bytes of a source to the
 //! answer that an outgoing signal is never, or always, present, to a survey of all outgoing signals, and to the answer
 //! that two sources do the same.
 //!

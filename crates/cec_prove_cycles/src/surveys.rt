@@ -32,7 +32,7 @@ fn cyclic_survey(
     Ok(survey)
 }
 
-/// The survey of all outgoing signals of a source whose dependencies may go round in circles: for each of them, in
+/// The survey of all outgoing signals of a source whose dependencies may have a cycle: for each of them, in
 /// order, whether it is present in no reaction, in each one, or in some and not in others, with a trace to one of each
 /// kind. What it says of a signal is what `constructive_verdict_of` says of it. `Partly` has a signal for which neither
 /// was found. Where the dependencies have no cycle, it is that of `cec_prove_sources::survey_of`. The effort is that of

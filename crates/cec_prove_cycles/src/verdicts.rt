@@ -33,7 +33,7 @@ fn cyclic_verdict(
     Ok(verdict)
 }
 
-/// The answer to a question about an outgoing signal of a source whose dependencies may go round in circles. It says
+/// The answer to a question about an outgoing signal of a source whose dependencies may have a cycle. It says
 /// what the answer of `cec_prove_sources::verdict_of` says. `Holds` is proved. It is about every list of events that
 /// meet the source's relations, and resets: each reaction of the source is constructive. Where the signal that is
 /// assumed is present in all of them, the signal is as claimed in each. `Broken` has a trace, and the last reaction to

@@ -1,19 +1,15 @@
--- To believe: what it means that two programs answer the same, and what a comparison of two sources says.
-use Rattle.std.specs.Prelude.{◌≡◌, ◌≢◌, ℕ, Bool, List, [], ◌∷◌, ◌++◌, map, Option, Some}
+-- To believe: what it means that two programs answer the same, and what a comparison of two says.
+use Rattle.std.specs.Prelude.{◌≡◌, ◌≢◌, ℕ, Bool, List, [], ◌∷◌, ◌++◌, map, Some}
 use Rattle.base_types.specs.Items.{Item}
 use Rattle.est_kernel.specs.Plain.{Program, given_names, outgoing_names}
 use Rattle.est_kernel.specs.Reactions.{Answer, run_of}
-use Rattle.est_front.specs.Sources.{StandsFor}
 use Rattle.net_never.specs.Reached.{items_of}
 use Rattle.cec_compile.specs.Meaning.{AreItems, seen_of}
-use Rattle.cec_compile.specs.Refusals.{Compiles, IsRefused}
 use Rattle.cec_prove_sources.specs.Verdicts.{IsTraceOf}
 use Rattle.cec_prove_sources.specs.declared.questions.Layout.TheVariants.{LinePerInstant}
 use Rattle.cec_prove_sources.specs.declared.questions.Comparison.{Comparison}
 use Rattle.cec_prove_sources.specs.declared.questions.Comparison.TheVariants.{Same, Different, Open, OtherGiven}
 use Rattle.cec_prove_sources.specs.declared.questions.Comparison.TheVariants.{OtherOutgoing, OtherRelations}
-use Rattle.cec_prove_sources.specs.declared.questions.PairRefusal.{PairRefusal}
-use Rattle.cec_prove_sources.specs.declared.questions.PairRefusal.TheVariants.{First, Second}
 
 -- the given signals, the outgoing signals and the relations are the same, each in order
 pub record SharesInterface (p q : Program) : Type 0 where
@@ -56,26 +52,3 @@ IsComparison p q (Open depth) = SharesInterface p q
 IsComparison p q OtherGiven = given_names p ≢ given_names q
 IsComparison p q OtherOutgoing = outgoing_names p ≢ outgoing_names q
 IsComparison p q OtherRelations = p.relations ≢ q.relations
-
--- The bytes of each source stand for a program that compiles, and the comparison is one of the two programs.
-pub record HasComparison (first second : List ℕ) (main : Option (List ℕ)) (comparison : Comparison) : Type 0 where
-  pub left : Program
-  pub left_source : StandsFor first main left
-  pub left_compiles : Compiles left
-  pub right : Program
-  pub right_source : StandsFor second main right
-  pub right_compiles : Compiles right
-  pub says : IsComparison left right comparison
-
--- the bytes of the second source stand for a program that compiles, and the comparison is one of the two programs
-pub record ComparesWith (left : Program) (second : List ℕ) (main : Option (List ℕ)) (comparison : Comparison) :
-    Type 0 where
-  pub right : Program
-  pub right_source : StandsFor second main right
-  pub right_compiles : Compiles right
-  pub says : IsComparison left right comparison
-
--- one of the two sources is refused
-abbrev pub IsPairRefused : (first second : List ℕ) → (main : Option (List ℕ)) → PairRefusal → Type 0
-IsPairRefused first second main (First refusal) = IsRefused first main refusal
-IsPairRefused first second main (Second refusal) = IsRefused second main refusal

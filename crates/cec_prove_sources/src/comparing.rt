@@ -1,25 +1,22 @@
 // Whether two sources do the same.
 
-ghost use Rattle.std.specs.Prelude.{◌≡◌, ◌≤◌, length, None, option_map, IfErr, IfOk, IfSome, IsTrue};
+ghost use Rattle.std.specs.Prelude.{◌≡◌, length, None, IfOk, IfSome, IsTrue};
 ghost use Rattle.est_kernel.specs.Plain.{program_of};
 ghost use Rattle.est_kernel.specs.WellFormed.{IsWellFormed};
 ghost use Rattle.net_ir.specs.Runs.{netlist_of};
 ghost use Rattle.net_never.specs.Reached.{events_of, is_reached};
 ghost use Rattle.cec_compile.specs.NetMeaning.{NetKeeps};
-ghost use Rattle.cec_compile.specs.Refusals.{IsRefused};
 ghost use Rattle.cec_prove_sources.specs.NetClaims.{allowed_clauses, bad_literal};
 ghost use Rattle.cec_prove_sources.specs.PairRuns.{Compares, IsSmallPair};
-ghost use Rattle.cec_prove_sources.specs.Sameness.{ComparesWith, HasComparison, IsComparison, IsPairRefused};
-ghost use Rattle.cec_prove_sources.specs.Sameness.{SharesInterface};
+ghost use Rattle.cec_prove_sources.specs.Sameness.{IsComparison, SharesInterface};
 
 use crate::findings::{allowed_clauses, bad_literal};
 use crate::interfaces::{are_same_names, are_same_outputs, are_same_relations};
-use crate::questions::{Claim, Comparison, Layout, PairRefusal};
+use crate::questions::{Claim, Comparison, Layout};
 use crate::reading::trace_of;
-use base_types::{Limits, NoMemory};
-use cec_compile::{Made, Refusal, TextForm, source_made};
+use base_types::NoMemory;
+use cec_compile::Made;
 use est_kernel::KernelProgram;
-use grc_order::Picker;
 use net_ir::Net;
 use net_opt::optimize;
 use net_pair::paired_net;
@@ -100,8 +97,13 @@ fn paired(alloc: Global, left: &Made, right: &Made, effort: u64) -> Result<Compa
     }
 }
 
-/// Whether two programs do the same, each by a netlist that keeps what it means, however the netlist was made: what
-/// `comparison_of` says of the programs of two sources. The effort is one of `net_search`. The error is out of memory.
+/// Whether two programs do the same, each by a netlist that keeps what it means, however the netlist was made. `Same`
+/// is proved. It is about every list of events that meet the relations, and resets: the reactions of both are
+/// constructive, in each one the same outgoing signals are present, and both pause or neither does. `Different` has a
+/// trace, and the last reactions to it differ. The given signals, the outgoing signals and the relations must be the
+/// same, each in order; else the answer is the first of these that differs. `Open` says nothing more.
+///
+/// The effort is one of `net_search`. The error is out of memory.
 pub fn net_comparison(
     alloc: Global,
     left: &Made,
@@ -124,55 +126,4 @@ pub fn net_comparison(
         return Ok(Comparison::OtherRelations);
     }
     paired(alloc, left, right, effort)
-}
-
-// The comparison of a program with another source.
-fn compared_with<P: Picker>(
-    alloc: Global,
-    left: &Made,
-    text: &[u8],
-    main: Option<&[u8]>,
-    picker: &mut P,
-    effort: u64,
-) -> Result<Comparison, Refusal>
-    requires short { length text.now ≤ Limits.SOURCE_BYTES }
-    requires fits { IsWellFormed (program_of left.now.program) }
-    requires keeps { NetKeeps (netlist_of left.now.net) (program_of left.now.program) }
-    ensures compares { IfOk result (ComparesWith (program_of left.now.program) text.now
-        (option_map (λ m. m.now) main.entry)) }
-    ensures refuses { IfErr result (IsRefused text.now (option_map (λ m. m.now) main.entry)) }
-{
-    let right = source_made(alloc, TextForm::Blif, text, main, picker)?;
-    let comparison = net_comparison(alloc, left, &right, effort)?;
-    Ok(comparison)
-}
-
-/// Whether two sources do the same, each of them by its module of this name, or by its first one. `Same` is proved. It
-/// is about every list of events that meet the relations, and resets: the reactions of both are constructive, in each
-/// one the same outgoing signals are present, and both pause or neither does. `Different` has a trace, and the last
-/// reactions to it differ. The given signals, the outgoing signals and the relations must be the same, each in order;
-/// else the answer is the first of these that differs. `Open` says nothing more.
-///
-/// It refuses what `cec_compile::compile` refuses.
-pub fn comparison_of<P: Picker>(
-    alloc: Global,
-    first: &[u8],
-    second: &[u8],
-    main: Option<&[u8]>,
-    picker: &mut P,
-    effort: u64,
-) -> Result<Comparison, PairRefusal>
-    requires first { length first.now ≤ Limits.SOURCE_BYTES }
-    requires second { length second.now ≤ Limits.SOURCE_BYTES }
-    ensures compares { IfOk result (HasComparison first.now second.now (option_map (λ m. m.now) main.entry)) }
-    ensures refuses { IfErr result (IsPairRefused first.now second.now (option_map (λ m. m.now) main.entry)) }
-{
-    let left = match source_made(alloc, TextForm::Blif, first, main, picker) {
-        Ok(made) => made,
-        Err(refusal) => return Err(PairRefusal::First(refusal)),
-    };
-    match compared_with(alloc, &left, second, main, picker, effort) {
-        Ok(comparison) => Ok(comparison),
-        Err(refusal) => Err(PairRefusal::Second(refusal)),
-    }
 }

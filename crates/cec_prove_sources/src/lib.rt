@@ -20,14 +20,12 @@ mod surveys;
 mod traces;
 mod verdicts;
 
-pub use comparing::{comparison_of, net_comparison, small_pair};
+pub use comparing::{net_comparison, small_pair};
 pub use findings::{PlacedQuestion, assumed_clauses, bad_literal, found};
 pub use interfaces::{are_same_names, are_same_outputs};
 pub use places::{place_among, place_of};
 pub use presences::{Signal, is_known, push_presence, question_about};
-pub use questions::{
-    Claim, Comparison, Finding, Layout, PairRefusal, Presence, Question, Survey, Verdict,
-};
+pub use questions::{Claim, Comparison, Finding, Layout, Presence, Question, Survey, Verdict};
 pub use reading::{is_read_as, trace_of};
 pub use relations::relation_clauses;
 pub use surveys::{net_survey, survey_of};

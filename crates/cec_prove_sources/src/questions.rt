@@ -1,8 +1,5 @@
 // Questions about an outgoing signal, and answers to them.
 
-use cec_compile::Refusal;
-use thiserror::Error;
-
 /// What is claimed of an outgoing signal.
 #[derive(Clone, Copy)]
 pub enum Claim {
@@ -93,15 +90,4 @@ pub enum Comparison {
     OtherOutgoing,
     /// The relations differ, or their order does.
     OtherRelations,
-}
-
-/// Why there is no comparison: one of the sources does not compile.
-#[derive(Debug, Drop, Error)]
-pub enum PairRefusal {
-    /// The first source has no text.
-    #[error(transparent)]
-    First(Refusal),
-    /// The second source has no text.
-    #[error(transparent)]
-    Second(Refusal),
 }

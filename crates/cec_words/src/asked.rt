@@ -1,7 +1,7 @@
 // What words ask for.
 
 /// Which text is run.
-#[derive(Clone, Copy, Debug, PartialEq, Eq)]
+#[derive(Clone, Copy)]
 pub enum Via {
     Blif,
     C,
@@ -10,7 +10,7 @@ pub enum Via {
 }
 
 /// Which of the wires that are ready is placed next in the order of evaluation.
-#[derive(Clone, Copy, Debug, PartialEq, Eq)]
+#[derive(Clone, Copy)]
 pub enum Pick {
     First,
     Last,
@@ -19,14 +19,14 @@ pub enum Pick {
 }
 
 /// The bytes of a word from a byte on, by the word's place among the words.
-#[derive(Clone, Copy, Debug, PartialEq, Eq)]
+#[derive(Clone, Copy)]
 pub struct Value {
     pub word: usize,
     pub start: usize,
 }
 
 /// A source to be compiled. The file is given by its word's place, the module by its name.
-#[derive(Clone, Copy, Debug, PartialEq, Eq)]
+#[derive(Clone, Copy)]
 pub struct Source {
     pub file: usize,
     pub main: Option<Value>,
@@ -38,7 +38,7 @@ pub struct Source {
 }
 
 /// What a list of words asks for. Files are given by the places of their words.
-#[derive(Clone, Copy, Debug, PartialEq, Eq)]
+#[derive(Clone, Copy)]
 pub enum Asked {
     /// The list of the commands.
     Help,

@@ -52,39 +52,14 @@ impl Given {
     {
         match part {
             Part::File(at) => self.with_file(at),
-            Part::Via(via) if self.via.is_none() => Some(Given {
-                via: Some(via),
-                ..self
-            }),
-            Part::Main(main) if self.main.is_none() => Some(Given {
-                main: Some(main),
-                ..self
-            }),
-            Part::Pick(pick) if self.pick.is_none() => Some(Given {
-                pick: Some(pick),
-                ..self
-            }),
-            Part::Start(start) if self.start.is_none() => Some(Given {
-                start: Some(start),
-                ..self
-            }),
-            Part::Branches(branches) if self.branches.is_none() => Some(Given {
-                branches: Some(branches),
-                ..self
-            }),
-            Part::Run(run) if self.run.is_none() => Some(Given {
-                run: Some(run),
-                ..self
-            }),
-            Part::Encode if !self.encode => Some(Given {
-                encode: true,
-                ..self
-            }),
-            Part::Guard if !self.guard => Some(Given {
-                guard: true,
-                ..self
-            }),
-            _ => None,
+            Part::Via(via) => self.with_via(via),
+            Part::Main(main) => self.with_main(main),
+            Part::Pick(pick) => self.with_pick(pick),
+            Part::Start(start) => self.with_start(start),
+            Part::Branches(branches) => self.with_branches(branches),
+            Part::Run(run) => self.with_run(run),
+            Part::Encode => self.with_encode(),
+            Part::Guard => self.with_guard(),
         }
     }
 
@@ -101,6 +76,105 @@ impl Given {
                 ..self
             }),
             Files::Two(_, _) => None,
+        }
+    }
+
+    fn with_via(self, via: Way) -> Option<Given>
+        ensures { MatchOption result (Overfills self (Part.Via via)) (λ new. Fills self new (Part.Via via)) }
+    {
+        match self.via {
+            None => Some(Given {
+                via: Some(via),
+                ..self
+            }),
+            Some(_) => None,
+        }
+    }
+
+    fn with_main(self, main: Value) -> Option<Given>
+        ensures { MatchOption result (Overfills self (Part.Main main)) (λ new. Fills self new (Part.Main main)) }
+    {
+        match self.main {
+            None => Some(Given {
+                main: Some(main),
+                ..self
+            }),
+            Some(_) => None,
+        }
+    }
+
+    fn with_pick(self, pick: Pick) -> Option<Given>
+        ensures { MatchOption result (Overfills self (Part.Pick pick)) (λ new. Fills self new (Part.Pick pick)) }
+    {
+        match self.pick {
+            None => Some(Given {
+                pick: Some(pick),
+                ..self
+            }),
+            Some(_) => None,
+        }
+    }
+
+    fn with_start(self, start: u64) -> Option<Given>
+        ensures { MatchOption result (Overfills self (Part.Start start)) (λ new. Fills self new (Part.Start start)) }
+    {
+        match self.start {
+            None => Some(Given {
+                start: Some(start),
+                ..self
+            }),
+            Some(_) => None,
+        }
+    }
+
+    fn with_branches(self, branches: u32) -> Option<Given>
+        ensures { MatchOption result (Overfills self (Part.Branches branches))
+            (λ new. Fills self new (Part.Branches branches)) }
+    {
+        match self.branches {
+            None => Some(Given {
+                branches: Some(branches),
+                ..self
+            }),
+            Some(_) => None,
+        }
+    }
+
+    fn with_run(self, run: u32) -> Option<Given>
+        ensures { MatchOption result (Overfills self (Part.Run run)) (λ new. Fills self new (Part.Run run)) }
+    {
+        match self.run {
+            None => Some(Given {
+                run: Some(run),
+                ..self
+            }),
+            Some(_) => None,
+        }
+    }
+
+    fn with_encode(self) -> Option<Given>
+        ensures { MatchOption result (Overfills self Part.Encode) (λ new. Fills self new Part.Encode) }
+    {
+        if self.encode {
+            None
+        } else {
+            Some(Given {
+                encode: true,
+                ..self
+            })
+        }
+    }
+
+    fn with_guard(self) -> Option<Given>
+        ensures { MatchOption result (Overfills self Part.Guard) (λ new. Fills self new Part.Guard) }
+    {
+        if self.guard {
+            None
+        } else {
+            Some(Given {
+                guard: true,
+                ..self
+            })
         }
     }
 

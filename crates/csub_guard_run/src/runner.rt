@@ -112,7 +112,7 @@ impl GuardedRun {
     }
 }
 
-// What a machine has beside its program.
+// What a machine has in addition to its program.
 #[derive(Drop)]
 struct Parts {
     plan: CallPlan,

@@ -97,7 +97,7 @@ impl ProgramRun {
     }
 }
 
-// What a machine has beside its program.
+// What a machine has in addition to its program.
 #[derive(Drop)]
 struct Parts {
     plan: CallPlan,

@@ -1,4 +1,4 @@
--- Inner: the circuit of a graph whose equations may go round in circles, along a schedule of its system.
+-- Inner: the circuit of a graph whose equations may have a cycle, along a schedule of its system.
 use Rattle.std.specs.Prelude.{◌≡◌, ℕ, ◌<◌, Bool, true, List, ◌∷◌, ◌++◌, length, map, slice_index_or, All}
 use Rattle.std.specs.Prelude.{IsTrue}
 use Rattle.base_types.specs.declared.indices.NetId.{NetId}

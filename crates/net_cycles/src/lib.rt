@@ -1,4 +1,4 @@
-//! The netlist of a graph whose equations may go round in a circle.
+//! The netlist of a graph whose equations may have a cycle.
 //!
 //! `draw` makes the gates of a netlist along a schedule of the graph's system of three-valued gates (`net_unroll`):
 //! the rows that read no wire, then a gate for each place of the schedule, then the other rows, and at last the

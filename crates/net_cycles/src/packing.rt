@@ -1,4 +1,4 @@
-// The netlist around a drawn circuit, and the one around its alarm.
+// The netlist around the circuit of a schedule, and the one around its alarm.
 
 ghost use Rattle.std.specs.Prelude.{◌≡◌, ◌+◌, ◌≤◌, ◌<◌, ◌^◌, length, map, IfOk, IfSome, IsTrue, All};
 ghost use Rattle.std.specs.List.{range_with_len};
@@ -78,7 +78,7 @@ fn nets_along(
     Ok(CycleNets { net, check })
 }
 
-// The netlist around a drawn circuit.
+// The netlist around the circuit of a schedule.
 fn net_around(
     alloc: Global,
     graph: &Graph,
@@ -167,7 +167,7 @@ fn all_nodes(alloc: Global, count: usize) -> Result<Vec<usize>, NoMemory>
     Ok(nodes)
 }
 
-// The check of the netlist around a drawn circuit.
+// The check of the netlist around the circuit of a schedule.
 fn check_of(
     alloc: Global,
     graph: &Graph,

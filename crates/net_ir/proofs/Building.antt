@@ -1,13 +1,12 @@
 -- For whoever builds a net: what a push, or an append, keeps.
-use Rattle.std.proofs.Common.{◌≡◌, ℕ, ◌+◌, ◌<◌, ◌≤◌, suc, Bool, true, false, not, ◌&&◌, ◌||◌, List, [], ◌∷◌, ◌++◌, length, refl, arith, Some, None, IsTrue}
-use Rattle.std.proofs.Common.{nat_eq, All}
+use Rattle.std.proofs.Common.{◌≡◌, ℕ, ◌+◌, ◌≤◌, suc, Bool, true, false, not, ◌&&◌, ◌||◌, List, [], ◌∷◌, ◌++◌, length, refl, arith, Some, None, IsTrue}
+use Rattle.std.proofs.Common.{All}
 use Rattle.std.specs.List.{list_any}
 use Rattle.std.specs.Option.{option_map}
 use Rattle.std.proofs.lemmas.List.{append-nil}
 use Rattle.std.proofs.lemmas.List.Folds.{list_any-append}
 use Rattle.std.proofs.lemmas.Grind.{elements}
 use Rattle.std.proofs.lemmas.List.Elements.{filter_map-append}
-use Rattle.std.proofs.lemmas.Bool.{ne_eqb}
 use Rattle.base_types.specs.declared.indices.WireId.{WireId}
 use Rattle.net_ir.specs.declared.netlist.Gate.{Gate}
 use Rattle.base_types.specs.Distinct.{all_differ, none_shared}
@@ -56,7 +55,3 @@ carried-silent gates g none =
 pub carried-push : (gates : List Gate) (g : Gate) (w : WireId) → g.wire ≡ Some w → carried (gates ++ g ∷ []) ≡ carried gates ++ w.0 ∷ []
 carried-push gates g w some =
     rw (filter_map-append (λ (h : Gate). option_map (λ (v : WireId). v.0) h.wire) gates (g ∷ []), some) refl
-
--- wires that rise stand once each
-pub all_differ-rising : (ws : List ℕ) (w : ℕ) → IsTrue (all_differ nat_eq ws) → All (λ v. v < w) ws → IsTrue (all_differ nat_eq (ws ++ w ∷ []))
-all_differ-rising ws w differ below = all_differ-push nat_eq ws w differ (λ k d h. let low = below k d h in ne_eqb _ _ (omega arith))

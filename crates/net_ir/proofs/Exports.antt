@@ -1,5 +1,5 @@
 -- What other crates use of these proofs.
-pub use Rattle.net_ir.proofs.Building.{ReadsLower-push, all_differ-append, all_differ-push, all_differ-rising, carried-push, carried-silent}
+pub use Rattle.net_ir.proofs.Building.{ReadsLower-push, all_differ-append, all_differ-push, carried-push, carried-silent}
 pub use Rattle.net_ir.proofs.Values.{ReadsLower-rest, Solves-gate_values, gate_values-append, gate_values-from_Solves, length-gate_values, op_value-same}
 pub use Rattle.net_ir.proofs.Values.{take-gate_values, value_in-gate_values}
 pub use Rattle.net_ir.proofs.Numbered.{All-numbered, get_or-numbered, length-numbered, list_all-flat_map, list_all-from_All, list_all-get_or, list_all-parts}

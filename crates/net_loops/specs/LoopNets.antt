@@ -1,4 +1,4 @@
--- Inner: a netlist of a graph whose equations may go round in circles, and the netlist that checks it.
+-- Inner: a netlist of a graph whose equations may have a cycle, and the netlist that checks it.
 use Rattle.std.specs.Prelude.{◌≡◌, ℕ, ◌<◌, ◌≤◌, Bool, false, List, [], ◌∷◌, ◌++◌, length, All}
 use Rattle.est_kernel.specs.Plain.{Program, interface_count, program_of}
 use Rattle.est_kernel.specs.StaticCodes.{NoInstantLoop}

@@ -1,4 +1,4 @@
-//! The netlist of a program whose dependencies may go round in circles, with the netlist that checks it.
+//! The netlist of a program whose dependencies may have a cycle, with the netlist that checks it.
 //!
 //! `loop_nets` evaluates the program's graph along a schedule (`grc_ternary_schedule`, `net_cycles`). In an instant in
 //! which the output of the check is false, the least solution of the graph knows each wire, and the netlist does what

@@ -1,4 +1,4 @@
-// The command that runs a generated source over drawn events, by its BLIF text and by its C text.
+// The command that runs a generated source over random events, by its BLIF text and by its C text.
 
 ghost use Rattle.std.specs.Prelude.{◌≡◌, ◌+◌, ◌<◌, ◌≤◌, ◌^◌, length, map, count_by, Some, None, IfOk, IfErr};
 ghost use Rattle.base_types.specs.SinkChanges.{change};
@@ -42,8 +42,8 @@ pub(crate) struct Counts {
     pub paused: u64,
 }
 
-/// Runs a generated source over a number of drawn events, and writes the numbers of the run. The words give a number of
-/// branches for which there is a source.
+/// Runs a generated source over a number of random events, and writes the numbers of the run. The words give a number
+/// of branches for which there is a source.
 pub(crate) fn write_load<O: Sink, E: Sink>(
     alloc: Global,
     start: u64,
@@ -84,7 +84,7 @@ pub(crate) fn write_load<O: Sink, E: Sink>(
     outcome
 }
 
-// Runs a generated source over drawn events, writes the numbers of the run, and says how it ended.
+// Runs a generated source over random events, writes the numbers of the run, and says how it ended.
 fn write_summary<O: Sink>(
     alloc: Global,
     source: &[u8],
@@ -105,7 +105,7 @@ fn write_summary<O: Sink>(
     }
 }
 
-// The numbers of a generated source's run over drawn events.
+// The numbers of a generated source's run over random events.
 fn summary(alloc: Global, source: &[u8], draw: Draw, instants: u32) -> Result<Vec<u8>, Refusal>
     requires short { length source.now ≤ Limits.SOURCE_BYTES }
     requires drawn { IsDrawn source.now }
@@ -152,7 +152,7 @@ fn summary_text(alloc: Global, instants: u32, counts: Counts) -> Result<Vec<u8>,
     Ok(text)
 }
 
-// What both texts of a net show over drawn events.
+// What both texts of a net show over random events.
 fn run_both(alloc: Global, net: &Net, draw: Draw, instants: u32) -> Result<Counts, NoMemory>
     requires inputs { length net.now.inputs.items ≡ 8 }
     requires outputs { length net.now.outputs.items ≡ 8 }
@@ -171,7 +171,7 @@ fn run_both(alloc: Global, net: &Net, draw: Draw, instants: u32) -> Result<Count
     Ok(called)
 }
 
-// Runs two machines over the same drawn events.
+// Runs two machines over the same random events.
 fn run_drawn<R: Runner, S: Runner>(
     circuit: &mut R,
     machine: &mut S,

@@ -10,7 +10,7 @@ use Rattle.cec_compile.specs.declared.refusal.Refusal.TheVariants as refusing
 use Rattle.csub_embed.specs.declared.fault.EmbedFault.TheVariants.{NoName, TypeTaken, Reserved}
 use Rattle.csub_embed.specs.declared.layout.EmbedFile.TheVariants.{Header, Declarations, Definitions}
 use Rattle.csub_embed.specs.declared.layout.EmbedLayout.{EmbedLayout}
-use Rattle.cec_opt_texts.specs.declared.fault.OptFault.TheVariants.{Line, TwoDrivers, NoDriver, Circuit}
+use Rattle.cec_opt_texts.specs.declared.fault.OptFault.TheVariants.{Line, TwoDrivers, NoDriver, Circuit, NoInput}
 use Rattle.cec_opt_commands.specs.Answers.{counts_line}
 use Rattle.blif_net.specs.Depths.{op_depth, net_depths, greatest, depth_of}
 use Rattle.cec_opt_commands.specs.Lines.{line_of, named, source_subject}
@@ -59,8 +59,9 @@ counts = refl
 
 -- ---- lines and statuses
 
-statuses : map status_of (Done ∷ Usage ∷ FileFault ∷ BadText (Line 3) ∷ BadComponent NoName ∷ TooLong ∷ WriteFault ∷ NoMemory ∷ [])
-    ≡ 0 ∷ 2 ∷ 3 ∷ 7 ∷ 14 ∷ 8 ∷ 9 ∷ 10 ∷ []
+statuses : map status_of (Done ∷ Usage ∷ FileFault ∷ BadText (Line 3) ∷ BadText (NoInput (codes "a")) ∷ BadComponent NoName ∷ TooLong ∷ WriteFault
+    ∷ NoMemory ∷ [])
+    ≡ 0 ∷ 2 ∷ 3 ∷ 7 ∷ 7 ∷ 14 ∷ 8 ∷ 9 ∷ 10 ∷ []
 statuses = refl
 
 lines : map (line_of (named (codes "p.blif"))) (Done ∷ Usage ∷ FileFault ∷ TooLong ∷ WriteFault ∷ NoMemory ∷ [])
@@ -70,10 +71,10 @@ lines = refl
 
 lines_of_faults : map (λ fault. line_of (named []) (BadText fault)) (Line 12 ∷ TwoDrivers (codes "a") ∷ NoDriver (codes "a") ∷ Circuit NoPause
     ∷ Circuit (Model (codes "a"))
-    ∷ Circuit (Input (codes "a")) ∷ Circuit (Output (codes "a")) ∷ Circuit (Again (codes "a")) ∷ [])
+    ∷ Circuit (Input (codes "a")) ∷ Circuit (Output (codes "a")) ∷ Circuit (Again (codes "a")) ∷ NoInput (codes "a") ∷ [])
     ≡ codes "cec-opt: line 12: not in the profile\n" ∷ codes "cec-opt: two drivers: a\n" ∷ codes "cec-opt: no driver: a\n"
     ∷ codes "cec-opt: last output is not _paused\n" ∷ codes "cec-opt: bad model: a\n" ∷ codes "cec-opt: bad input: a\n" ∷ codes "cec-opt: bad output: a\n"
-    ∷ codes "cec-opt: output twice: a\n" ∷ []
+    ∷ codes "cec-opt: output twice: a\n" ∷ codes "cec-opt: no input: a\n" ∷ []
 unfolding digits
 lines_of_faults = refl
 
@@ -122,7 +123,7 @@ components : map request_by ((codes "c" ∷ codes "--embed" ∷ codes "lift" ∷
     ∷ (codes "c" ∷ codes "--embed" ∷ codes "-l" ∷ codes "p" ∷ []) ∷ (codes "c" ∷ codes "--source" ∷ codes "p" ∷ codes "--embed" ∷ codes "lift" ∷ [])
     ∷ (codes "c" ∷ codes "--embed" ∷ codes "lift" ∷ codes "--embed" ∷ codes "lift" ∷ []) ∷ (codes "blif" ∷ codes "--embed" ∷ codes "lift" ∷ codes "p" ∷ [])
     ∷ [])
-    ≡ Some (Do (Embed (codes "lift") plain) (codes "p")) ∷ Some (Make (Embed (codes "9") plain) (codes "p") None)
+    ≡ Some (Do (Embed (codes "lift") plain) [] (codes "p")) ∷ Some (Make (Embed (codes "9") plain) (codes "p") None)
     ∷ Some (Make (Embed (codes "lift") plain) (codes "p") (Some (codes "M"))) ∷ None ∷ None ∷ None ∷ None ∷ None ∷ None ∷ []
 components = refl
 
@@ -144,8 +145,8 @@ layouts : map (λ words. request_by (lift words)) ((codes "--packed" ∷ codes "
     ∷ (codes "--packed" ∷ codes "--packed" ∷ codes "p" ∷ []) ∷ (codes "--header" ∷ codes "--header" ∷ codes "p" ∷ [])
     ∷ (codes "--declarations" ∷ codes "--definitions" ∷ codes "p" ∷ []) ∷ (codes "--packed" ∷ codes "--header" ∷ codes "--packed" ∷ codes "p" ∷ [])
     ∷ (codes "--packed" ∷ []) ∷ (codes "p" ∷ codes "--packed" ∷ []) ∷ [])
-    ≡ Some (Do (Embed (codes "lift") (record { packed = true; file = Header })) (codes "p")) ∷ Some (Do (Embed (codes "lift") plain) (codes "p"))
-    ∷ Some (Do (Embed (codes "lift") (record { packed = true; file = Declarations })) (codes "p"))
+    ≡ Some (Do (Embed (codes "lift") (record { packed = true; file = Header })) [] (codes "p")) ∷ Some (Do (Embed (codes "lift") plain) [] (codes "p"))
+    ∷ Some (Do (Embed (codes "lift") (record { packed = true; file = Declarations })) [] (codes "p"))
     ∷ Some (Make (Embed (codes "lift") (record { packed = true; file = Definitions })) (codes "p") None)
     ∷ None ∷ None ∷ None ∷ None ∷ None ∷ None ∷ []
 layouts = refl

@@ -1,6 +1,8 @@
 -- Worked requests for Verilog with a reset, by hand, what is amiss with others, and the lines of faults of names.
 use Rattle.std.proofs.Common.{◌≡◌, ℕ, Bool, true, false, List, [], ◌∷◌, map, Option, None, Some, codes, refl}
+use Rattle.vlog_reset.specs.Options.{ModuleOptions}
 use Rattle.vlog_reset.specs.declared.fault.ResetFault.TheVariants.{NoModule, NoReset, Reserved, Twice}
+use Rattle.cec_opt_sources.specs.declared.light.Coding.TheVariants.{Encoded, Lighter}
 use Rattle.cec_opt_commands.specs.Lines.{line_of, named}
 use Rattle.cec_opt_commands.specs.Statuses.{status_of, written_of}
 use Rattle.cec_opt_commands.specs.Words.{Task, Do, Make, Reset, misuse_of, request_by}
@@ -12,13 +14,19 @@ use Rattle.cec_opt_commands.specs.declared.outcome.OptOutcome.TheVariants.{BadMo
 abbrev resets : List (List ℕ) → List (List ℕ)
 resets words = codes "verilog" ∷ codes "--reset" ∷ codes "rst" ∷ words
 
-abbrev with_names : Option (List ℕ) → (asynchronous low initialized prefixes : Bool) → Task
-with_names name asynchronous low initialized prefixes = Reset (record {
+abbrev options : Option (List ℕ) → (asynchronous low initialized prefixes : Bool) → ModuleOptions
+options name asynchronous low initialized prefixes = record {
   name = name;
   reset = codes "rst";
   manner = record { is_asynchronous = asynchronous; is_active_low = low; is_initialized = initialized };
   has_prefixes = prefixes;
-})
+}
+
+abbrev plain_options : ModuleOptions
+plain_options = options None false false false false
+
+abbrev with_names : Option (List ℕ) → (asynchronous low initialized prefixes : Bool) → Task
+with_names name asynchronous low initialized prefixes = Reset (options name asynchronous low initialized prefixes) Lighter
 
 abbrev plain : Task
 plain = with_names None false false false false
@@ -28,10 +36,23 @@ requests : map (λ words. request_by (resets words)) ((codes "p" ∷ []) ∷ (co
     ∷ (codes "--initial" ∷ codes "p" ∷ codes "--active-low" ∷ [])
     ∷ (codes "--prefix" ∷ codes "--module" ∷ codes "top" ∷ codes "p" ∷ [])
     ∷ (codes "p" ∷ codes "--module" ∷ codes "top" ∷ codes "--initial" ∷ codes "--prefix" ∷ codes "--active-low" ∷ codes "--async" ∷ []) ∷ [])
-    ≡ Some (Do plain (codes "p")) ∷ Some (Make plain (codes "p") None) ∷ Some (Make (with_names None true false false false) (codes "p") (Some (codes "M")))
-    ∷ Some (Do (with_names None false true true false) (codes "p")) ∷ Some (Do (with_names (Some (codes "top")) false false false true) (codes "p"))
-    ∷ Some (Do (with_names (Some (codes "top")) true true true true) (codes "p")) ∷ []
+    ≡ Some (Do plain [] (codes "p")) ∷ Some (Make plain (codes "p") None) ∷ Some (Make (with_names None true false false false) (codes "p") (Some (codes "M")))
+    ∷ Some (Do (with_names None false true true false) [] (codes "p")) ∷ Some (Do (with_names (Some (codes "top")) false false false true) [] (codes "p"))
+    ∷ Some (Do (with_names (Some (codes "top")) true true true true) [] (codes "p")) ∷ []
 requests = refl
+
+-- a source alone is encoded
+encoded : map (λ words. request_by (resets words)) ((codes "--encode" ∷ codes "--source" ∷ codes "p" ∷ [])
+    ∷ (codes "--source" ∷ codes "p" ∷ codes "--encode" ∷ []) ∷ (codes "--encode" ∷ codes "p" ∷ []) ∷ (codes "p" ∷ codes "--encode" ∷ [])
+    ∷ (codes "--encode" ∷ codes "--encode" ∷ codes "--source" ∷ codes "p" ∷ []) ∷ (codes "--encode" ∷ []) ∷ [])
+    ≡ Some (Make (Reset plain_options Encoded) (codes "p") None) ∷ Some (Make (Reset plain_options Encoded) (codes "p") None) ∷ None ∷ None ∷ None ∷ None
+    ∷ []
+encoded = refl
+
+misuses_of_encoded : map (λ words. misuse_of (resets words)) ((codes "--encode" ∷ codes "p" ∷ []) ∷ (codes "p" ∷ codes "--encode" ∷ [])
+    ∷ (codes "--encode" ∷ codes "--encode" ∷ codes "--source" ∷ codes "p" ∷ []) ∷ (codes "--encode" ∷ []) ∷ [])
+    ≡ codes "one word too many: p" ∷ codes "bad option: --encode" ∷ codes "bad option: --encode" ∷ codes "no file after verilog" ∷ []
+misuses_of_encoded = refl
 
 -- a word twice, a word that is none, a text with a source or with a main module, no file, a file too many, and no value
 abbrev amiss : List (List (List ℕ))

@@ -15,3 +15,6 @@ returns-in-TwoDrivers g c = rw (c.in-TwoDrivers.is, ← c.bytes.ensures) c.write
 
 pub returns-in-NoDriver : goal.returns-in-NoDriver
 returns-in-NoDriver g c = rw (c.in-NoDriver.is, ← c.bytes-in-NoDriver.ensures) c.write_pieces-in-NoDriver.ensures
+
+pub returns-in-NoInput : goal.returns-in-NoInput
+returns-in-NoInput g c = rw (c.in-NoInput.is, ← c.bytes-in-NoInput.ensures) c.write_pieces-in-NoInput.ensures

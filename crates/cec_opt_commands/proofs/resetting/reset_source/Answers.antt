@@ -14,7 +14,7 @@ returns-in-Ok-clause-says g c =
     let main = option_map (λ m. m.now) c.args.main in
     let is = c.in-Ok.ensures.compiles in
     rw c.from.ensures
-    (source_written (Reset (options_of c.args.options)) c.write_whole.result main source (constructible source main is.net is.stands))
+    (source_written (Reset (options_of c.args.options) c.args.coding) c.write_whole.result main source (constructible source main is.net is.stands))
 
 pub returns-in-Ok-clause-out : goal.returns-in-Ok-clause-out
 returns-in-Ok-clause-out g c =
@@ -22,16 +22,16 @@ returns-in-Ok-clause-out g c =
     let source = c.args.source.now in
     let main = option_map (λ m. m.now) c.args.main in
     rw c.from.ensures
-    (source_whole (λ written. written ≡ c.deref.result.now) (Reset options) source main
+    (source_whole (λ written. written ≡ c.deref.result.now) (Reset options c.args.coding) source main
     (change g.O.Sink.told g.O.Sink.faults c.args.out.now c.write_whole.new.out) c.write_whole.result
-    (λ written is. subst (StandsForReset source main options) (sym (is ∙ c.deref.ensures.value)) c.in-Ok.ensures.compiles) c.write_whole.ensures)
+    (λ written is. subst (StandsForReset source main c.args.coding options) (sym (is ∙ c.deref.ensures.value)) c.in-Ok.ensures.compiles) c.write_whole.ensures)
 
 pub returns-in-Err-clause-says : goal.returns-in-Err-clause-says
 returns-in-Err-clause-says g c =
-    unreset_says (options_of c.args.options) c.in-Err.stop (option_map (λ m. m.now) c.args.main) c.args.source.now
+    unreset_says (options_of c.args.options) c.args.coding c.in-Err.stop (option_map (λ m. m.now) c.args.main) c.args.source.now
     (change g.O.Sink.told g.O.Sink.faults c.args.out.now c.unreset.new.out) c.unreset.result c.in-Err.ensures.fault c.unreset.ensures
 
 pub returns-in-Err-clause-out : goal.returns-in-Err-clause-out
 returns-in-Err-clause-out g c =
-    unreset_leaves (options_of c.args.options) c.in-Err.stop (option_map (λ m. m.now) c.args.main) c.args.source.now
+    unreset_leaves (options_of c.args.options) c.args.coding c.in-Err.stop (option_map (λ m. m.now) c.args.main) c.args.source.now
     (change g.O.Sink.told g.O.Sink.faults c.args.out.now c.unreset.new.out) c.unreset.result c.in-Err.ensures.fault c.unreset.ensures

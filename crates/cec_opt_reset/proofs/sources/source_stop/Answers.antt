@@ -4,4 +4,4 @@ use Rattle.cec_opt_reset.proofs.sources.source_stop.Goals as goal
 
 pub returns-in-Source-clause-fault : goal.returns-in-Source-clause-fault
 returns-in-Source-clause-fault c =
-    λ text main o is. c.refusal_stop.ensures.fault text main o (subst (IsRefusedConstructive text main) c.in-Source.is is)
+    λ text main code o is. c.refusal_stop.ensures.fault text main code o (subst (IsRefusedConstructive text main) c.in-Source.is is)

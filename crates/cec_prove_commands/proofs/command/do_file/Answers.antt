@@ -1,4 +1,4 @@
-use Rattle.std.proofs.Common.{ℕ, ◌≤◌, List, length, Err, Some, subst, sym}
+use Rattle.std.proofs.Common.{ℕ, ◌≤◌, List, length, Err, Ok, subst, sym}
 use Rattle.base_types.proofs.Exports.{appends-nothing}
 use Rattle.base_types.specs.SinkChanges.{change}
 use Rattle.base_types.specs.Reading.{Reads}
@@ -27,15 +27,15 @@ do_text-requires-clause-held g c =
 
 pub returns-in-Ok-clause-agrees : goal.returns-in-Ok-clause-agrees
 returns-in-Ok-clause-agrees g c =
-    subst (λ (k : Content). IsOutcomeOf (Some (Do (job_is c.args.job))) k c.do_text.result) c.in-Ok.ensures.content_stays c.do_text.ensures.agrees
+    subst (λ (k : Content). IsOutcomeOf (Ok (Do (job_is c.args.job))) k c.do_text.result) c.in-Ok.ensures.content_stays c.do_text.ensures.agrees
 
 pub returns-in-Ok-clause-files_counted : goal.returns-in-Ok-clause-files_counted
 returns-in-Ok-clause-files_counted g c =
-    counts-later (Some (Do (job_is c.args.job))) c.do_text.result _ _ _ _ _ _ c.in-Ok.ensures.counts c.do_text.ensures.files_counted
+    counts-later (Ok (Do (job_is c.args.job))) c.do_text.result _ _ _ _ _ _ c.in-Ok.ensures.counts c.do_text.ensures.files_counted
 
 pub returns-in-Ok-clause-out : goal.returns-in-Ok-clause-out
 returns-in-Ok-clause-out g c =
-    subst (λ (k : Content). GainsOut (Some (Do (job_is c.args.job))) k c.do_text.result
+    subst (λ (k : Content). GainsOut (Ok (Do (job_is c.args.job))) k c.do_text.result
     (change g.O.Sink.told g.O.Sink.faults c.args.out.now c.do_text.new.out)) c.in-Ok.ensures.content_stays c.do_text.ensures.out
 
 pub returns-in-Ok-clause-err : goal.returns-in-Ok-clause-err

@@ -1,0 +1,6 @@
+mod Implied
+mod Runs
+mod Said
+mod SmallerGates
+mod Widening
+mod worked
