@@ -3,7 +3,7 @@
 ghost use Rattle.std.specs.Prelude.{◌≡◌, ℕ, ◌<◌, ◌^◌};
 
 /// A set of completion codes below 64. A contract sees it as the test of its `members`.
-#[derive(Clone, Copy, Debug, PartialEq)]
+#[derive(Clone, Copy, PartialEq)]
 pub struct CodeSet {
     bits: u64,
     ghost within: { bits < 2 ^ 64 },

@@ -18,9 +18,9 @@ pub struct PathId(pub u32);
 pub struct InstId(pub u32);
 
 /// A wire of a graph, from 0.
-#[derive(Clone, Copy, Debug, Default, PartialEq, Eq, PartialOrd, Ord)]
+#[derive(Clone, Copy, Default, PartialEq, Eq, PartialOrd, Ord)]
 pub struct WireId(pub u32);
 
 /// A net of a netlist: the inputs, then the latches, then the gates, from 0.
-#[derive(Clone, Copy, Debug, PartialEq, Eq, Hash)]
+#[derive(Clone, Copy, PartialEq, Eq, Hash)]
 pub struct NetId(pub u32);

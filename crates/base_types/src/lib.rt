@@ -29,7 +29,7 @@ pub use code_set::CodeSet;
 pub use draws::Draw;
 pub use files::{DiskFiles, FileEntry, FileFault, Files, MapFiles, SteadyFiles};
 pub use indices::{InstId, ModId, NetId, PathId, SigId, WireId};
-pub use interface::{InputRelation, SignalInfo};
+pub use interface::{InputRelation, SignalInfo, copy_relations};
 pub use memory::NoMemory;
 pub use names::{is_digit, is_letter, is_name_byte};
 pub use place::Span;

@@ -3,7 +3,7 @@
 use base_types::Text;
 
 /// A cell of a table's row: an input of the value 0, one of the value 1, or one of any value fits it.
-#[derive(Clone, Copy, Debug, PartialEq)]
+#[derive(Clone, Copy, PartialEq)]
 pub enum Cell {
     Zero,
     One,

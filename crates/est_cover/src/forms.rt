@@ -367,7 +367,7 @@ pub(crate) fn cover_seq(
     Ok(FlatStmt { span, form })
 }
 
-/// Statements beside one another.
+/// Statements in parallel.
 #[cycle(covering)]
 #[inline(never)]
 #[tactic(auto, using(crate::proofs::Rows::par_rows))]

@@ -1,7 +1,6 @@
 // Covered programs.
 
 ghost use Rattle.std.specs.Prelude.{◌≡◌, ◌+◌, ◌≤◌, ◌++◌, ℕ, [], List, IfOk, OnOk, drop, length, map, take};
-ghost use Rattle.base_types.specs.Relations.{relation_of};
 ghost use Rattle.est_ast.specs.FlatViews.{flat_of, flat_stmt_of};
 ghost use Rattle.est_cover.specs.Covered.{covered, visible_count};
 ghost use Rattle.est_ast.specs.FlatTrees.{Flat as PlainFlat};
@@ -12,7 +11,7 @@ use crate::covering::cover;
 use crate::heads::Head;
 use crate::points::Point;
 use crate::portions::Portion;
-use base_types::{InputRelation, NoMemory, SignalInfo, Text};
+use base_types::{NoMemory, SignalInfo, Text, copy_relations};
 use est_ast::{Flat, FlatStmt};
 use std::alloc::Global;
 
@@ -62,7 +61,7 @@ fn head_of(alloc: Global, flat: &Flat, names: &[SignalInfo]) -> Result<Head, NoM
     let name = Text::from_bytes(alloc, flat.name.bytes())?;
     let seen = flat.inputs + (flat.both + flat.outputs);
     let signals = signals_with(alloc, flat.signals.as_slice(), seen as usize, names)?;
-    let relations = copied_relations(alloc, flat.relations.as_slice())?;
+    let relations = copy_relations(alloc, flat.relations.as_slice())?;
     Ok(Head {
         name,
         signals,
@@ -107,32 +106,6 @@ fn push_signals(
         all.push(SignalInfo { name })?;
     }
     Ok(())
-}
-
-// The same relations, in memory of their own.
-fn copied_relations(
-    alloc: Global,
-    relations: &[InputRelation],
-) -> Result<Vec<InputRelation>, NoMemory>
-    ensures { IfOk result (λ v. map relation_of v.items ≡ map relation_of relations.now) }
-{
-    let mut made = Vec::new(alloc);
-    for relation in relations {
-        made.push(copied_relation(alloc, relation)?)?;
-    }
-    Ok(made)
-}
-
-// The same relation, in memory of its own.
-fn copied_relation(alloc: Global, relation: &InputRelation) -> Result<InputRelation, NoMemory>
-    ensures { IfOk result (λ r. relation_of r ≡ relation_of relation.now) }
-{
-    match relation {
-        InputRelation::Implies(cause, effect) => Ok(InputRelation::Implies(*cause, *effect)),
-        InputRelation::Excludes(inputs) => {
-            Ok(InputRelation::Excludes(Vec::from_slice(alloc, inputs.as_slice())?))
-        }
-    }
 }
 
 // The covered program of its parts.

@@ -12,7 +12,7 @@ tested (Plain event) = expression event
 tested (Immediate event) = expression event
 tested (Count count span event) = expression event
 
--- the body of an abortion beside what watches for the delay, without a test at the start
+-- the body of an abortion in parallel with what watches for the delay, without a test at the start
 abbrev pub aborting_later : Span → Delay → ℕ → ℕ → Term → Term
 aborting_later at (Plain event) x code p = aborting at (expression event) code p
 aborting_later at (Immediate event) x code p = aborting at (expression event) code p

@@ -97,7 +97,7 @@ awaiting_delay at (Plain event) = awaiting at (expression event)
 awaiting_delay at (Immediate event) = awaiting_immediately at (expression event)
 awaiting_delay at (Count count span event) = sequence (times count (awaiting at (expression event)))
 
--- suspend p when e; exit, beside what watches for e: the body of an abortion
+-- suspend p when e; exit, in parallel with what watches for e: the body of an abortion
 abbrev pub aborting : Span → Expression → ℕ → Term → Term
 aborting at e code p = terms.Par (terms.Seq (terms.Suspend e p) (terms.Exit code)) (watching at e)
 

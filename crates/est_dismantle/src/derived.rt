@@ -105,7 +105,7 @@ pub(crate) fn awaiting_delay(
     }
 }
 
-/// The body of an abortion beside what watches for the event.
+/// The body of an abortion, in parallel with what watches for the event.
 pub(crate) fn aborting(
     alloc: Global,
     at: Span,

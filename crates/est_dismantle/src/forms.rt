@@ -377,7 +377,7 @@ pub(crate) fn expand_seq(
     Ok(terms::sequence_of(alloc, parts)?)
 }
 
-/// Statements beside one another.
+/// Statements in parallel.
 #[cycle(expansion)]
 #[inline(never)]
 #[tactic(auto, using(crate::proofs::KernelNodes::kernel_rows))]

@@ -41,7 +41,7 @@ pub(crate) fn awaited_delay(delay: &FlatDelay) -> Extent
     }
 }
 
-/// That of the body of an abortion, beside what watches for the event.
+/// That of the body of an abortion, in parallel with what watches for the event.
 pub(crate) fn aborted(event: Extent, body: Extent) -> Extent
     ensures { (e p : Measures) → IsExtent event e → IsExtent body p → IsExtent result (aborted e p) }
 {

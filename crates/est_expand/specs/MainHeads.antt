@@ -1,4 +1,4 @@
--- Inner: what a flat program has of its main module beside its signals and its body.
+-- Inner: what a flat program has of its main module in addition to its signals and its body.
 use Rattle.std.specs.Prelude.{◌≡◌, map, flat_map, length}
 use Rattle.base_types.specs.Relations.{relation_of}
 use Rattle.est_ast.specs.Trees.{Module}

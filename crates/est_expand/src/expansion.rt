@@ -123,7 +123,7 @@ fn main_scope<'a>(alloc: Global, shown: &Interface<'a>) -> Result<Scope<'a>, NoM
     Ok(scope)
 }
 
-// What a flat program has beside its signals and its body.
+// What a flat program has in addition to its signals and its body.
 #[derive(Drop)]
 struct MainHead {
     name: Text,

@@ -373,7 +373,7 @@ pub fn flat_seq<'a>(
     Ok(FlatStmt { span, form })
 }
 
-/// Statements beside one another.
+/// Statements in parallel.
 #[cycle(walk)]
 #[inline(never)]
 pub fn flat_par<'a>(

@@ -1,4 +1,4 @@
--- To believe: the instants of a generated source's inputs, as they are drawn.
+-- To believe: the instants of a generated source's inputs, made at random from a start number.
 use Rattle.std.specs.Prelude.{ℕ, zero, suc, Bool, ◌==◌, List, [], ◌∷◌}
 use Rattle.base_types.specs.Draws.{next_state, drawn}
 

@@ -1,4 +1,4 @@
-//! Sources and events that are drawn from a start number.
+//! Sources and events that are made at random from a start number.
 //!
 //! The draws are those of `base_types`. `generate_source` draws a Pure Esterel module of parallel branches, each of
 //! which is one of four statements on one of eight inputs and outputs, and `next_event` draws an instant of its

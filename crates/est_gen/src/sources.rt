@@ -28,7 +28,7 @@ pub enum GenFault {
     NoMemory,
 }
 
-/// The source of the module GEN with this many branches, drawn from a start number. It has the inputs
+/// The source of the module GEN with this many branches, made at random from a start number. It has the inputs
 /// `I0` to `I7`, the outputs `O0` to `O7`, and a local signal for each branch.
 /// Its errors are a number of branches that is not 1 to `Limits::BRANCHES`, and out of memory.
 pub fn generate_source(alloc: Global, start: u64, branches: u32) -> Result<Generated, GenFault>

@@ -7,7 +7,7 @@ use base_types::{NoMemory, SigId};
 use std::alloc::Global;
 
 /// A test of signals, read by Kleene's three-valued tables where statuses are unknown.
-#[derive(Debug, PartialEq, Drop)]
+#[derive(Drop)]
 pub enum Test {
     /// Always true.
     Tick,

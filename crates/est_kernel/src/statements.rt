@@ -10,7 +10,7 @@ use std::alloc::Global;
 /// A kernel statement of Pure Esterel (Berry, "The Constructive Semantics of Pure Esterel").
 /// Completion code 0 is termination, 1 a pause, and k of at least 2 leaves the trap that is k - 2
 /// traps further out.
-#[derive(Debug, PartialEq, Drop)]
+#[derive(Drop)]
 pub enum Kernel {
     /// Terminates at once.
     Nothing,

@@ -7,7 +7,7 @@ ghost use Rattle.net_ir.specs.Netlists.{IsNet, first_gate, net_count};
 use base_types::{NetId, Text, WireId};
 
 /// What a gate makes of the nets that it reads.
-#[derive(Clone, Copy, Debug, PartialEq)]
+#[derive(Clone, Copy, PartialEq)]
 pub enum Op {
     Const(bool),
     Copy(NetId),
@@ -17,7 +17,7 @@ pub enum Op {
 }
 
 /// A gate. It may carry a wire of the graph that the netlist was made from.
-#[derive(Clone, Copy, Debug, PartialEq)]
+#[derive(Clone, Copy, PartialEq)]
 pub struct Gate {
     pub op: Op,
     pub wire: Option<WireId>,
@@ -25,7 +25,7 @@ pub struct Gate {
 
 /// A latch. It has the value `init` in the first instant, and in each later one the value that the
 /// net `from` had one instant before.
-#[derive(Clone, Copy, Debug, PartialEq)]
+#[derive(Clone, Copy, PartialEq)]
 pub struct Latch {
     pub init: bool,
     pub from: NetId,

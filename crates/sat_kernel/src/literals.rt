@@ -1,7 +1,7 @@
 // Literals and clauses, and how hints cite a clause.
 
 /// A variable, by its number, or its negation.
-#[derive(Clone, Copy, Debug)]
+#[derive(Clone, Copy)]
 pub struct Literal {
     pub variable: u32,
     pub positive: bool,
@@ -26,7 +26,7 @@ impl Literal {
 pub type Clause = Vec<Literal>;
 
 /// How a hint cites a clause: the number of an assumed or of a derived clause, from 0.
-#[derive(Clone, Copy, Debug)]
+#[derive(Clone, Copy)]
 pub enum Premise {
     Assumed(usize),
     Derived(usize),

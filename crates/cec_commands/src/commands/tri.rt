@@ -24,7 +24,7 @@ use crate::lines::report;
 use crate::outcome::{Outcome, Which};
 use crate::reactions::{ReactionFault, run_reactions};
 use crate::unknown_wires::unknown_wires;
-use base_types::{Files, InputRelation, Limits, NoMemory, SignalInfo, Sink, Text};
+use base_types::{Files, InputRelation, Limits, NoMemory, SignalInfo, Sink, Text, copy_relations};
 use cec_compile::{Limit, graph_of};
 use est_kernel::KernelProgram;
 use grc_graph::Graph;
@@ -168,8 +168,8 @@ fn program_interface(alloc: Global, program: &KernelProgram) -> Result<Interface
     requires { IsWellFormed (program_of program.now) }
     ensures { IfOk result (λ i. IsInterfaceOf (program_of program.now) i) }
 {
-    let copy = program.copy(alloc)?;
-    named_interface(alloc, program, copy.relations)
+    let relations = copy_relations(alloc, program.relations.as_slice())?;
+    named_interface(alloc, program, relations)
 }
 
 // The interface of a program, with these relations.

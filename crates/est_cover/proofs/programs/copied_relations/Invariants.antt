@@ -1,6 +1,0 @@
-use Rattle.std.proofs.Common.{◌≡◌, map, take}
-use Rattle.base_types.specs.Relations.{relation_of}
-use Rattle.est_cover.proofs.programs.copied_relations.Given as goal
-
-abbrev pub invariant-loop-relation : goal.invariant-loop-relation
-invariant-loop-relation l = map relation_of l.made.items ≡ map relation_of (take l.relation-index l.relations)

@@ -1,5 +1,0 @@
-use Rattle.std.proofs.Common.{◌≡◌, map, take}
-use Rattle.est_kernel.proofs.programs.copy_signals.Given as goal
-
-abbrev pub invariant-loop-signal : goal.invariant-loop-signal
-invariant-loop-signal l = map (λ s. s.name) l.copies.items ≡ map (λ s. s.name) (take l.signal-index l.signals)
