@@ -3,11 +3,9 @@ pub use Rattle.grc_graph.proofs.Sums.{sum_both, sum_mapped, sum_none, sum_swap}
 pub use Rattle.grc_graph.proofs.CodeReads.{StandsAt, codes_at, codes_of_body, stands_head, stands_left, stands_right, stands_tail, stands_whole}
 pub use Rattle.grc_graph.proofs.CodeReads.{statement_count-le}
 pub use Rattle.grc_graph.proofs.TreeLaws.{tree_nests, tree_none, tree_numbers}
-pub use Rattle.grc_graph.proofs.TreeJudging.{heads_tree, middle_of, node_there, second_found}
 pub use Rattle.grc_graph.proofs.TreeSelections.{judged_body, leaves_among, leaves_none}
 pub use Rattle.grc_graph.proofs.LiveInstances.{RootsFit, above_above, above_behind, above_within, at_layer, cases_of, enclosing_are_live_lem, from_map}
 pub use Rattle.grc_graph.proofs.LiveInstances.{in_map, instances_among, instances_ascend_lem, of_fewer, own_root, started_in}
-pub use Rattle.grc_graph.proofs.ResidualCodes.{branches_fit}
 pub use Rattle.grc_graph.proofs.ResumedPauses.{leaves_are_resumed_pauses_lem}
 pub use Rattle.grc_graph.proofs.CodesBelow.{codes_below-has, codes_below-lacks, codes_below-none, codes_below-suc, listed-below}
 pub use Rattle.grc_graph.proofs.RowReads.{codes_read, length-program_rows, length-statements, preorder_read, statement_read}

@@ -2,7 +2,6 @@ mod Sums
 mod CodeSets
 mod CodeReads
 mod TreeLaws
-mod TreeJudging
 mod TreeSelections
 mod LiveInstances
 mod ResidualCodes

@@ -1,6 +1,6 @@
 -- To believe: what a graph does from instant to instant. This speaks of the equations and next formulas alone, and
 -- asks nothing of how they were made.
-use Rattle.std.specs.Prelude.{◌≡◌, ℕ, Bool, false, ◌||◌, List, [], ◌∷◌, map, All}
+use Rattle.std.specs.Prelude.{◌≡◌, ℕ, Bool, false, ◌||◌, List, map, All}
 use Rattle.std.specs.List.{list_any}
 use Rattle.base_types.specs.Items.{Item}
 use Rattle.base_machines.specs.Machines.{Machine, IsRunFrom}

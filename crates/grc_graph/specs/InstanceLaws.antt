@@ -1,5 +1,5 @@
 -- Contract: what the live instances and the selection tree of a body must be.
-use Rattle.std.specs.Prelude.{◌≡◌, ℕ, Bool, true, false, ◌&&◌, List, map, filter, All, Contains, slice_index_or}
+use Rattle.std.specs.Prelude.{◌≡◌, ℕ, Bool, true, false, ◌&&◌, map, filter, All, Contains, slice_index_or}
 use Rattle.est_kernel.specs.Terms.{Term, Nothing, Pause, Emit, Exit, Present, Suspend, Seq, Loop, Par, Trap, Local}
 use Rattle.est_kernel.specs.Terms.{Awake}
 use Rattle.est_kernel.specs.Laws.{IsSubset}

@@ -29,8 +29,8 @@ pub mod Reads
 pub mod NumberedEdges
 pub mod GraphShapes
 pub mod TreeForms
+pub mod SelectionFolds
 pub mod TreeJudgements
-pub mod TreeReadings
 pub mod Statements
 pub mod StatementViews
 pub mod InstanceLaws

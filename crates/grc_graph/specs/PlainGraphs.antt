@@ -1,7 +1,7 @@
 -- To believe: the plain form of a graph: its nodes and formulas by name. A number of a wire is read through the list of
 -- wires; a number that is out of range, which no graph has, is read as the `go` of the body's resumed instance.
-use Rattle.std.specs.Prelude.{ℕ, Bool, false, List, [], ◌∷◌, map, zip, slice_index_or}
-use Rattle.est_kernel.specs.Plain.{Program, program_of, interface_of, interface_count}
+use Rattle.std.specs.Prelude.{ℕ, List, map, zip, slice_index_or}
+use Rattle.est_kernel.specs.Plain.{program_of, interface_of, interface_count}
 use Rattle.grc_graph.specs.declared.formulas.Formula.{Formula}
 use Rattle.grc_graph.specs.declared.formulas.Formula.TheVariants as formulas
 use Rattle.grc_graph.specs.declared.wires.Node.{Node}

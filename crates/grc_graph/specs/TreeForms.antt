@@ -1,5 +1,5 @@
 -- To believe: the plain form of a selection tree, and what its list of nodes keeps.
-use Rattle.std.specs.Prelude.{◌≡◌, ℕ, ◌<◌, ◌≤◌, Bool, true, false, ◌==◌, IsTrue, List, length, map, take}
+use Rattle.std.specs.Prelude.{◌≡◌, ℕ, ◌<◌, ◌≤◌, Bool, true, false, ◌==◌, IsTrue, List, length, take}
 use Rattle.std.specs.Prelude.{slice_index_or, count_by}
 use Rattle.grc_graph.specs.declared.trees.SelForm.{SelForm}
 use Rattle.grc_graph.specs.declared.trees.SelForm.TheVariants as forms
@@ -48,10 +48,3 @@ pub record LeavesAscend (nodes : List SelNode) (leaves : ℕ) : Type 0 where
   pub numbered : (i : ℕ) (d : SelNode) → i < length nodes →
       IsTrue (is_numbered (slice_index_or nodes i d).form (leaves_before nodes i))
   pub counted : leaves ≡ count_by (λ x. is_leaf x.form) nodes
-
--- the number of a leaf is below this one
-abbrev pub LeafWithin : SelForm → ℕ → Type 0
-LeafWithin (forms.Leaf k) n = k < n
-LeafWithin forms.Excl n = Unit {0}
-LeafWithin (forms.Par a b) n = Unit {0}
-LeafWithin forms.Pass n = Unit {0}

@@ -11,7 +11,6 @@ mod code_tables;
 mod formulas;
 mod graph;
 mod instances;
-mod judgements;
 mod laws;
 mod layout;
 mod loops;

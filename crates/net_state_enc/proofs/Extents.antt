@@ -1,15 +1,15 @@
 -- Trees of few nodes have small widths.
-use Rattle.std.proofs.Common.{◌≡◌, ℕ, ◌+◌, ◌-◌, ◌*◌, ◌<◌, ◌≤◌, ◌^◌, Bool, true, false, ◌&&◌, ◌==◌, List, length, inl, inr, arith}
+use Rattle.std.proofs.Common.{◌≡◌, ℕ, ◌+◌, ◌-◌, ◌*◌, ◌<◌, ◌≤◌, Bool, true, false, ◌&&◌, ◌==◌, List, length, inl, inr, arith}
 use Rattle.std.specs.Prelude.{if◌then◌else◌, max, nat_lt, slice_index_or}
 use Rattle.std.proofs.lemmas.Bool.{cases_eq, eq-eqb, ne_eqb}
-use Rattle.std.proofs.Math.Nat.{max-le, le-max_left, le-max_right}
+use Rattle.std.proofs.Math.Nat.{max-le}
 use Rattle.grc_graph.specs.declared.trees.SelNode.{SelNode}
 use Rattle.grc_graph.specs.SelectionTrees.{Form, Leaf, Exclusive, Parallel, Passing}
 use Rattle.grc_graph.specs.TreeForms.{SubtreesNest, end_of}
-use Rattle.grc_graph.specs.TreeReadings.{second_place}
+use Rattle.net_state_enc.specs.TreeWalks.{second_place}
 use Rattle.net_state_enc.specs.Extents.{AreNarrow, AreSlight}
 use Rattle.net_state_enc.specs.Shapes.{Shape, joined_shape, widths_of}
-use Rattle.net_state_enc.specs.Widths.{Widths, all_marked, branch_width, exclusive_widths, no_widths, number_width, one_part, parallel_widths, several_parts}
+use Rattle.net_state_enc.specs.Widths.{Widths, all_marked, branch_width, exclusive_widths, no_widths, one_part, parallel_widths, several_parts}
 use Rattle.net_state_enc.proofs.NumberCodes.{width-less}
 
 pub narrow-none : (n : ℕ) → AreNarrow no_widths n

@@ -1,4 +1,5 @@
-pub mod TreeFolds
+mod TreePlaces
+mod TreeFolds
 pub mod CodeValues
 pub mod NumberCodes
 pub mod Extents

@@ -11,7 +11,7 @@ use Rattle.net_state_enc.specs.declared.codes.Way.TheVariants.{Full, Loose, Part
 use Rattle.net_state_enc.specs.Codes.{LeafCode, leaf_codes, with_front, front_code, front_width, part_way, branch_way, width_by}
 use Rattle.net_state_enc.specs.Drafts.{literals_of}
 use Rattle.net_state_enc.specs.Plans.{codes_behind, needs_of, first_way, second_way, IsShort, IsPlan}
-use Rattle.net_state_enc.specs.Shapes.{Shape, NoLeaf, OneLeaf, OneOf, AllOf, widths_of}
+use Rattle.net_state_enc.specs.Shapes.{Shape, NoLeaf, OneOf, AllOf, widths_of}
 use Rattle.net_state_enc.specs.Widths.{Widths, no_widths, exclusive_widths, several_parts, parallel_widths, branch_width, all_marked}
 use Rattle.net_state_enc.proofs.CodeCases.{Coding, second_alone, first_alone, two, coding, no-codes, part-first, part-second, parallel-width, branch-by}
 use Rattle.net_state_enc.proofs.NumberCodes.{width-short}

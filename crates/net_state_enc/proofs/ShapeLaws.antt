@@ -4,18 +4,18 @@ use Rattle.std.proofs.Common.{length-append, slice_index_or}
 use Rattle.std.specs.Prelude.{if◌then◌else◌}
 use Rattle.std.proofs.lemmas.List.{append-nil, map-append, length-map}
 use Rattle.std.proofs.lemmas.Simd.{map-map}
-use Rattle.est_kernel.specs.Terms.{Term, Nothing, Pause, Emit, Exit, Present, Suspend, Seq, Loop, Par, Trap, Local, Awake}
+use Rattle.est_kernel.specs.Terms.{Term, Pause, Present, Suspend, Seq, Loop, Par, Trap, Local}
 use Rattle.est_kernel.specs.Preorder.{statement_count}
 use Rattle.grc_graph.specs.Layers.{can_pass}
 use Rattle.grc_graph.specs.Selections.{well_formed}
 use Rattle.grc_graph.specs.SelectionTrees.{Form, Leaf, Exclusive, Parallel, Passing, resumes, second_resumes, leaf_paths, body_leaves, selecting}
-use Rattle.grc_graph.specs.TreeJudgements.{Judgement, judgement, combined, none_selected}
+use Rattle.grc_graph.specs.TreeJudgements.{Judgement, combined, none_selected}
 use Rattle.grc_graph.proofs.Exports.{judged_body}
 use Rattle.net_ir.specs.Gates.{value_in}
 use Rattle.net_state_enc.specs.declared.codes.Literal.{Literal}
 use Rattle.net_state_enc.specs.declared.codes.Way.{Way}
 use Rattle.net_state_enc.specs.declared.codes.Way.TheVariants.{Full, Loose}
-use Rattle.net_state_enc.specs.SelectionFolds.{fold_tree}
+use Rattle.grc_graph.specs.SelectionFolds.{fold_tree}
 use Rattle.net_state_enc.specs.EncodedCounts.{joined_widths, tree_widths}
 use Rattle.net_state_enc.specs.Widths.{Widths, no_widths, all_marked, branch_width}
 use Rattle.net_state_enc.specs.Shapes.{Shape, NoLeaf, OneLeaf, OneOf, AllOf, widths_of, holds_in, formed_in, joined_shape, shape_of}
@@ -83,36 +83,13 @@ judged-nothing : (bits : List Bool) → judged bits NoLeaf ≡ none_selected
 unfolding judged
 judged-nothing bits = refl
 
-judgement-is-fold : (bits : List Bool) (b : Bool) (t : Term) (n k : ℕ) → judgement bits b t n k ≡ fold_tree none_selected (combined bits) b t n k
-judgement-is-fold bits b (Present x p q) n k =
-    let one = judgement-is-fold bits (resumes p) p (n + 1) k in
-    let other = judgement-is-fold bits (resumes q) q (n + 1 + statement_count p) (k + length (leaf_paths (resumes p) p (n + 1))) in
-    λ i. if b then combined bits Exclusive (one i) (other i) else none_selected
-judgement-is-fold bits b (Suspend x p) n k =
-    let one = judgement-is-fold bits (resumes p) p (n + 1) k in λ i. if b then combined bits Passing (one i) none_selected else none_selected
-judgement-is-fold bits b (Seq p q) n k =
-    let one = judgement-is-fold bits (resumes p) p (n + 1) k in
-    let other = judgement-is-fold bits (second_resumes p q) q (n + 1 + statement_count p) (k + length (leaf_paths (resumes p) p (n + 1))) in
-    λ i. if b then combined bits Exclusive (one i) (other i) else none_selected
-judgement-is-fold bits b (Loop at p) n k =
-    let one = judgement-is-fold bits (resumes p) p (n + 1) k in λ i. if b then combined bits Passing (one i) none_selected else none_selected
-judgement-is-fold bits b (Par p q) n k =
-    let one = judgement-is-fold bits (resumes p) p (n + 1) k in
-    let other = judgement-is-fold bits (resumes q) q (n + 1 + statement_count p) (k + length (leaf_paths (resumes p) p (n + 1))) in
-    λ i. if b then combined bits (Parallel (can_pass p) (can_pass q)) (one i) (other i) else none_selected
-judgement-is-fold bits b (Trap p) n k =
-    let one = judgement-is-fold bits (resumes p) p (n + 1) k in λ i. if b then combined bits Passing (one i) none_selected else none_selected
-judgement-is-fold bits b (Local s p) n k =
-    let one = judgement-is-fold bits (resumes p) p (n + 1) k in λ i. if b then combined bits Passing (one i) none_selected else none_selected
-judgement-is-fold bits b _ n k = refl
-
 -- leaves are selected as the shape wants where they are a well-formed selection of the body
 pub formed-body : (bits : List Bool) (body : Term) → well_formed (selecting (body_leaves body) bits) body 0 ≡ true
     → formed_in (value_in bits) (shape_of (resumes body) body 0 0) ≡ true
 unfolding judged
 formed-body bits body formed =
     ap (λ j. j.formed) (fused NoLeaf joined_shape none_selected (combined bits) (judged bits) (judged-nothing bits) (judged-joined bits) (resumes body) body 0 0
-    ∙ sym (judgement-is-fold bits (resumes body) body 0 0) ∙ judged_body bits body)
+    ∙ judged_body bits body)
     ∙ formed
 
 -- ---- leaves are numbered in order

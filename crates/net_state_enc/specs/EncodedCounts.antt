@@ -2,7 +2,7 @@
 use Rattle.std.specs.Prelude.{ℕ, ◌+◌, min, nat_le, if◌then◌else◌, length}
 use Rattle.est_kernel.specs.Terms.{Term}
 use Rattle.grc_graph.specs.SelectionTrees.{Form, Leaf, Exclusive, Parallel, Passing, resumes, body_leaves}
-use Rattle.net_state_enc.specs.SelectionFolds.{fold_tree}
+use Rattle.grc_graph.specs.SelectionFolds.{fold_tree}
 use Rattle.net_state_enc.specs.Widths.{Widths, no_widths, leaf_widths, exclusive_widths, parallel_widths}
 
 -- the widths of a node from those of its parts

@@ -1,5 +1,4 @@
 pub mod Widths
-pub mod SelectionFolds
 pub mod EncodedCounts
 pub mod Shapes
 pub mod TreeWalks

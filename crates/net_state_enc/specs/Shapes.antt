@@ -3,7 +3,7 @@ use Rattle.std.specs.Prelude.{ℕ, Bool, true, false, ◌&&◌, ◌||◌}
 use Rattle.grc_graph.specs.SelectionTrees.{Form, Leaf, Exclusive, Parallel, Passing}
 use Rattle.grc_graph.specs.Selections.{at_most_one, each_or_over}
 use Rattle.est_kernel.specs.Terms.{Term}
-use Rattle.net_state_enc.specs.SelectionFolds.{fold_tree}
+use Rattle.grc_graph.specs.SelectionFolds.{fold_tree}
 use Rattle.net_state_enc.specs.Widths.{Widths, no_widths, leaf_widths, exclusive_widths, parallel_widths}
 
 -- No node; a leaf with its number; an exclusive node; a parallel with the marks of its branches.

@@ -1,5 +1,5 @@
 -- Worked places, by hand: which instance comes first, what stands around a statement, what a state leaves, which order reads, and runs of a small graph.
-use Rattle.std.proofs.Common.{◌≡◌, ◌<◌, ◌≤◌, ◌⊎◌, ℕ, zero, suc, ◌==◌, true, false, List, [], ◌∷◌, map, None}
+use Rattle.std.proofs.Common.{◌≡◌, ◌<◌, ◌≤◌, ℕ, zero, suc, ◌==◌, true, false, List, [], ◌∷◌, map, None}
 use Rattle.std.proofs.Common.{slice_index_or, codes, refl, inl, inr, ⊎_elim, arith, lit<}
 use Rattle.std.proofs.lemmas.Bool.{false≢true, true≢false}
 use Rattle.std.proofs.lemmas.List.Elements.{All-cons, All-nil}

@@ -5,7 +5,7 @@ use Rattle.grc_graph.specs.declared.trees.SelForm.{SelForm}
 use Rattle.grc_graph.specs.declared.trees.SelForm.TheVariants as forms
 use Rattle.grc_graph.specs.declared.trees.SelNode.{SelNode}
 use Rattle.grc_graph.specs.SelectionTrees.{Leaf, Exclusive, Parallel, Passing}
-use Rattle.grc_graph.specs.TreeForms.{form_of, tree_node, is_leaf, end_of, SubtreesNest, leaves_before, is_numbered, LeavesAscend, LeafWithin}
+use Rattle.grc_graph.specs.TreeForms.{form_of, tree_node, is_leaf, end_of, SubtreesNest, leaves_before, is_numbered, LeavesAscend}
 
 abbrev each : List SelForm
 each = forms.Leaf 4 ∷ forms.Excl ∷ forms.Par true false ∷ forms.Pass ∷ []
@@ -21,12 +21,6 @@ numbered_so = refl
 
 numbered_otherwise : map (λ form. is_numbered form 3) each ≡ false ∷ true ∷ true ∷ true ∷ []
 numbered_otherwise = refl
-
-not_within : LeafWithin (forms.Leaf 4) 4 → ⊥
-not_within low = omega (arith, low)
-
-each_within : LeafWithin (forms.Leaf 4) 5 × LeafWithin forms.Excl 0 × LeafWithin (forms.Par true true) 0 × LeafWithin forms.Pass 0
-each_within = (lit< tt, tt, tt, tt)
 
 -- ---- nodes
 

@@ -1,6 +1,6 @@
 use Rattle.std.proofs.Common.{◌∙◌, sym}
 use Rattle.grc_graph.specs.declared.trees.SelNode.{SelNode}
-use Rattle.grc_graph.proofs.Exports.{second_found}
+use Rattle.net_state_enc.proofs.TreePlaces.{second_found}
 use Rattle.net_state_enc.proofs.trees.second_part.Goals as goal
 
 pub returns-then-is_next : goal.returns-then-is_next

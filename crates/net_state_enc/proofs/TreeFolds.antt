@@ -10,10 +10,10 @@ use Rattle.grc_graph.specs.declared.trees.SelNode.{SelNode}
 use Rattle.grc_graph.specs.Layers.{can_pass}
 use Rattle.grc_graph.specs.SelectionTrees.{Form, Leaf, Exclusive, Parallel, Passing, TreeNode, tree_nodes, leaf_paths, subtree_if, resumes, second_resumes}
 use Rattle.grc_graph.specs.TreeForms.{form_of, tree_node, end_of, SubtreesNest}
-use Rattle.grc_graph.specs.TreeReadings.{second_place}
-use Rattle.grc_graph.proofs.Exports.{tree_none, heads_tree, node_there, middle_of}
-use Rattle.net_state_enc.specs.SelectionFolds.{fold_tree}
-use Rattle.net_state_enc.specs.TreeWalks.{Folds}
+use Rattle.grc_graph.specs.SelectionFolds.{fold_tree}
+use Rattle.net_state_enc.specs.TreeWalks.{Folds, second_place}
+use Rattle.net_state_enc.proofs.TreePlaces.{heads_tree, node_there, middle_of}
+use Rattle.grc_graph.proofs.Exports.{tree_none}
 
 -- where there are no nodes there is nothing
 empty_if : {X : Type 0} (none : X) (b : Bool) (n i : ℕ) (f : Form) (xs : List TreeNode) (j : X) → length (subtree_if b n i f xs) ≡ 0
@@ -111,8 +111,6 @@ row_of none join (Par p q) n i k h = row_two none join (Par p q) p q (resumes q)
 row_of none join (Trap p) n i k h = row_one none join (Trap p) p Passing n i k refl refl
 row_of none join (Local s p) n i k h = row_one none join (Local s p) p Passing n i k refl refl
 row_of none join (Awake e p) n i k h = absurd (omega arith)
-
--- ---- the place of the second part
 
 -- what a subtree comes to, from what its parts do
 pub folds-whole : {X : Type 0} (none : X) (join : Form → X → X → X) (nodes : List SelNode) (nest : SubtreesNest nodes) (i middle : ℕ) (d : SelNode) (l r : X)
