@@ -407,10 +407,6 @@ PROOF_NAMES = re.compile(r"^(?:pub )?use Rattle\.(\w+)\.proofs\.([A-Z]\w*)\.\{(.
 PROOF_RULES = re.compile(r"\busing\((?:[^()]*\b)?(\w+)::proofs::(\w+)::(\w+)")
 
 
-# A lemma that no other crate uses: what callers of `grc_react::react_over` need of a compiled graph.
-LEMMAS_FOR_CALLERS = {("cec_compile", "compiled_differ")}
-
-
 def exports_are_listed():
     """What other crates use of a crate's proofs by name is what its `proofs/Exports.antt` lists; all of `base_facts` is for others."""
     found, listed, used = [], set(), set()
@@ -430,7 +426,7 @@ def exports_are_listed():
                 if module != "Exports":
                     found.append(f"{name}: takes from {other}/proofs/{module}, not from its Exports")
                 used |= {(other, word) for word in words}
-    found += [f"crates/{crate}/proofs/Exports.antt: no other crate uses {word}" for crate, word in sorted(listed - used - LEMMAS_FOR_CALLERS)]
+    found += [f"crates/{crate}/proofs/Exports.antt: no other crate uses {word}" for crate, word in sorted(listed - used)]
     return found
 
 

@@ -352,9 +352,6 @@ names_differ : (shared : Bool) (p : Program) → programs.IsKernel p.body → pr
 names_differ false p kernel formed = (wires_differ_lem p (program_kernel p formed kernel)).1
 names_differ true p kernel formed = shared-differ p kernel formed.body
 
-pub compiled_differ : (c : Compiled) (p : Program) → IsCompiled c p → Differ (names_of c.graph)
-compiled_differ c p h = subst Differ (sym h.wires) (names_differ (is_shared c.graph) p (kernel_of c.graph p h.program) h.formed)
-
 -- the text of a compiled program whose wires are shared where they can be names its wires
 net_wires : (c : Compiled) (p : Program) → IsCompiled c p → SharesWires p (is_shared c.graph) → FollowsGraph c → (written : List ℕ)
     → Means written (netlist_of c.net) → TextNames (one_per_leaf p) written p

@@ -2,4 +2,3 @@ pub mod GraphWires
 pub mod Solutions
 pub mod NumberedGraphs
 pub mod Evaluations
-pub mod Evaluating

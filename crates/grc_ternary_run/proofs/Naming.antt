@@ -22,8 +22,8 @@ use Rattle.grc_graph.specs.Walk.{State}
 use Rattle.grc_graph.specs.Wires.{Wire, End, Go, same_wire}
 use Rattle.grc_graph.specs.Layers.{Resumed}
 use Rattle.grc_solutions.proofs.Exports.{is_given, unnamed}
-use Rattle.grc_react.specs.Evaluations.{IsKnown}
-use Rattle.grc_react.proofs.Exports.{plain-formulas, plain-wires}
+use Rattle.grc_evaluate.specs.Evaluations.{IsKnown}
+use Rattle.grc_evaluate.proofs.Exports.{plain-formulas, plain-wires}
 use Rattle.grc_solutions.specs.GraphWires.{Differ, equation_wires}
 use Rattle.grc_ternary.specs.LeastSolutions.{IsLeast, Statuses, formula_status, is_plus, kleene_interpretation, upto_status}
 use Rattle.grc_formulas.specs.declared.table.Words.{Words}

@@ -15,7 +15,7 @@ use Rattle.grc_graph.specs.PlainGraphs.{formula_of, instances_of, names_of, plai
 use Rattle.grc_graph.specs.Reads.{ReadsOnly}
 use Rattle.grc_graph.specs.Wires.{Wire, Go}
 use Rattle.grc_graph.specs.Selected.{HasExitCodes}
-use Rattle.grc_react.specs.Evaluations.{IsKnown}
+use Rattle.grc_evaluate.specs.Evaluations.{IsKnown}
 use Rattle.grc_solutions.specs.GraphWires.{Differ, ReadsAreEdges, WiresDiffer}
 use Rattle.grc_ternary_run.specs.Systems.{equation_at}
 use Rattle.grc_ternary_run.proofs.Naming.{formula-of-equation, many-equations}

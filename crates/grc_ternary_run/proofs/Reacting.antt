@@ -11,8 +11,8 @@ use Rattle.grc_graph.specs.declared.graph.Graph.{Graph}
 use Rattle.grc_graph.specs.GraphRuns.{formula_value, shown}
 use Rattle.grc_graph.specs.PlainGraphs.{names_of, plain_graph}
 use Rattle.grc_graph.specs.Readings.{Valuation}
-use Rattle.grc_react.specs.declared.rows.Start.{Start}
-use Rattle.grc_react.specs.Evaluations.{formula_under, start_state}
+use Rattle.grc_evaluate.specs.declared.rows.Start.{Start}
+use Rattle.grc_evaluate.specs.Evaluations.{formula_under, start_state}
 use Rattle.grc_solutions.specs.Evaluations.{valuation_of}
 use Rattle.grc_solutions.specs.GraphWires.{Differ}
 use Rattle.grc_ternary.specs.LeastSolutions.{IsLeast, true_wires}

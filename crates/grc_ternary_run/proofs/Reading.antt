@@ -10,9 +10,9 @@ use Rattle.grc_graph.specs.GraphRuns.{shown}
 use Rattle.grc_graph.specs.PlainGraphs.{names_of, plain_graph}
 use Rattle.grc_graph.specs.Wires.{Wire, Go, same_wire}
 use Rattle.grc_graph.specs.Layers.{Resumed}
-use Rattle.grc_react.specs.declared.rows.Start.{Start}
-use Rattle.grc_react.specs.Evaluations.{Begins, Late, surroundings_of}
-use Rattle.grc_react.proofs.Exports.{false-off, occasion, source-known}
+use Rattle.grc_evaluate.specs.declared.rows.Start.{Start}
+use Rattle.grc_evaluate.specs.Evaluations.{Begins, Late, surroundings_of}
+use Rattle.grc_evaluate.proofs.Exports.{false-off, occasion, source-known}
 use Rattle.grc_solutions.specs.Evaluations.{valuation_of}
 use Rattle.grc_solutions.specs.GraphWires.{Differ}
 use Rattle.grc_ternary.specs.LeastSolutions.{IsKnown, is_plus, true_wires}

@@ -8,9 +8,9 @@ use Rattle.est_kernel.specs.Statuses.{Status}
 use Rattle.grc_graph.specs.declared.graph.Graph.{Graph}
 use Rattle.grc_graph.specs.PlainGraphs.{names_of, plain_graph}
 use Rattle.grc_graph.specs.Readings.{state_holds_at}
-use Rattle.grc_react.specs.declared.rows.Start.{Start}
-use Rattle.grc_react.specs.Evaluations.{Begins, IsKnown, Stage, start_state, surroundings_of}
-use Rattle.grc_react.proofs.Exports.{source-agrees, begun, boot-is, selected-means}
+use Rattle.grc_evaluate.specs.declared.rows.Start.{Start}
+use Rattle.grc_evaluate.specs.Evaluations.{Begins, IsKnown, Stage, start_state, surroundings_of}
+use Rattle.grc_evaluate.proofs.Exports.{source-agrees, begun, boot-is, selected-means}
 use Rattle.grc_ternary.specs.LeastSolutions.{IsLeast}
 use Rattle.grc_formulas.specs.declared.table.Source.TheVariants as sources
 use Rattle.grc_formulas.specs.declared.table.Words.{Words}

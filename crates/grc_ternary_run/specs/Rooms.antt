@@ -2,8 +2,8 @@
 use Rattle.std.specs.Prelude.{◌≡◌, ℕ, Bool, true, false, List, [], ◌∷◌, ◌++◌, length, map, take}
 use Rattle.grc_graph.specs.declared.graph.Graph.{Graph}
 use Rattle.grc_graph.specs.PlainGraphs.{names_of, plain_graph}
-use Rattle.grc_react.specs.declared.rows.Start.{Start}
-use Rattle.grc_react.specs.Evaluations.{start_state, surroundings_of}
+use Rattle.grc_evaluate.specs.declared.rows.Start.{Start}
+use Rattle.grc_evaluate.specs.Evaluations.{start_state, surroundings_of}
 use Rattle.grc_ternary.specs.LeastSolutions.{IsLeast}
 use Rattle.grc_formulas.specs.Rows.{source_value}
 use Rattle.grc_formulas.specs.declared.table.Words.{Words}

@@ -7,7 +7,7 @@ use Rattle.grc_graph.specs.BuiltGraphs.{IsGraphOf}
 use Rattle.grc_graph.specs.declared.graph.Graph.{Graph}
 use Rattle.grc_graph.specs.PlainGraphs.{names_of}
 use Rattle.grc_graph.specs.Selected.{IsState}
-use Rattle.grc_react.specs.Evaluations.{IsKnown}
+use Rattle.grc_evaluate.specs.Evaluations.{IsKnown}
 use Rattle.grc_solutions_laws.specs.GraphWalks.{SelectsLeaves}
 use Rattle.grc_solutions.specs.GraphWires.{Differ}
 use Rattle.grc_formulas.specs.WordLaws.{AreWordsOf}

@@ -2,7 +2,7 @@
 
 ghost use Rattle.std.specs.Prelude.{◌≡◌, ◌<◌, length, All, IsTrue, IfOk};
 ghost use Rattle.grc_graph.specs.GraphShapes.{formula_fits};
-ghost use Rattle.grc_react.specs.Evaluations.{IsKnown};
+ghost use Rattle.grc_evaluate.specs.Evaluations.{IsKnown};
 ghost use Rattle.grc_ternary_run.specs.Meanings.{GateMade, NodeMade, PairMade, Ready, any_meaning};
 ghost use Rattle.grc_ternary_run.specs.Meanings.{constant_gate, meaning_of, upto_gate};
 ghost use Rattle.grc_formulas.specs.WordLaws.{AreWordsOf};

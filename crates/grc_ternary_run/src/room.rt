@@ -6,20 +6,20 @@ ghost use Rattle.std.specs.List.{list_any};
 ghost use Rattle.grc_graph.specs.GraphRuns.{shown};
 ghost use Rattle.grc_graph.specs.PlainGraphs.{names_of, plain_graph};
 ghost use Rattle.grc_solutions.specs.Evaluations.{valuation_of};
-ghost use Rattle.grc_react.specs.Evaluations.{Begins, Late, bounds_of, formula_under, start_state, surroundings_of};
+ghost use Rattle.grc_evaluate.specs.Evaluations.{Begins, Late, bounds_of, formula_under, start_state, surroundings_of};
 ghost use Rattle.grc_formulas.specs.Rows.{row_fits, row_values, source_fits, source_value};
 ghost use Rattle.grc_formulas.specs.declared.table.Row.{Row};
 ghost use Rattle.grc_formulas.specs.declared.table.Source.{Source};
-ghost use Rattle.grc_react.specs.Evaluations.{IsKnown};
+ghost use Rattle.grc_evaluate.specs.Evaluations.{IsKnown};
 ghost use Rattle.grc_ternary_gates.specs.Systems.{is_unknown};
 ghost use Rattle.grc_ternary_run.specs.Rooms.{HasRoom, Settled, are_true, are_unknown, is_true, sources_in};
 ghost use Rattle.grc_ternary_run.specs.Systems.{IsSystemOf};
 
 use crate::numbers::{BOOT, FALSE, INPUTS, TRUE};
 use base_types::NoMemory;
+use grc_evaluate::{Start, evaluate, row_value, source_value};
 use grc_formulas::{Row, Source, Words};
 use grc_graph::Graph;
-use grc_react::{Start, evaluate, row_value, source_value};
 use grc_ternary_gates::{Solver, System, Value};
 use std::alloc::Global;
 

@@ -7,9 +7,9 @@ ghost use Rattle.grc_ternary_run.specs.States.{KeepsState, ReadsGraph, runner_wi
 
 use crate::room::{Room, make_room, mark_unknown};
 use base_types::NoMemory;
+use grc_evaluate::Start;
 use grc_formulas::Words;
 use grc_graph::Graph;
-use grc_react::Start;
 use grc_ternary_gates::System;
 use std::alloc::Global;
 

@@ -3,7 +3,7 @@
 ghost use Rattle.std.specs.Prelude.{◌≡◌, ◌++◌, length, All, IfOk, OnOk};
 ghost use Rattle.est_kernel.specs.Plain.{program_of};
 ghost use Rattle.grc_graph.specs.BuiltGraphs.{IsGraphOf};
-ghost use Rattle.grc_react.specs.Evaluations.{IsKnown};
+ghost use Rattle.grc_evaluate.specs.Evaluations.{IsKnown};
 ghost use Rattle.grc_formulas.specs.WordLaws.{AreWordsOf};
 ghost use Rattle.grc_ternary_run.specs.Meanings.{Ready};
 ghost use Rattle.grc_ternary_run.specs.States.{ReadsGraph};

@@ -10,7 +10,7 @@ use Rattle.est_kernel.specs.Reactions.{is_given}
 use Rattle.grc_graph.specs.declared.graph.Graph.{Graph}
 use Rattle.grc_graph.specs.PlainGraphs.{plain_graph}
 use Rattle.grc_graph.specs.Readings.{state_holds_at}
-use Rattle.grc_react.proofs.Exports.{boot-is}
+use Rattle.grc_evaluate.proofs.Exports.{boot-is}
 use Rattle.grc_formulas.specs.declared.table.Source.{Source}
 use Rattle.grc_formulas.specs.declared.table.Source.TheVariants as sources
 use Rattle.grc_formulas.specs.declared.table.Words.{Words}

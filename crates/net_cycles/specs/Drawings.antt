@@ -7,7 +7,7 @@ use Rattle.grc_graph.specs.declared.graph.Graph.{Graph}
 use Rattle.grc_graph.specs.GraphRuns.{shown}
 use Rattle.grc_graph.specs.PlainGraphs.{names_of, plain_graph}
 use Rattle.grc_graph.specs.Readings.{Valuation}
-use Rattle.grc_react.specs.Evaluations as evaluations
+use Rattle.grc_evaluate.specs.Evaluations as evaluations
 use Rattle.grc_solutions.specs.GraphWires.{Differ}
 use Rattle.grc_ternary.specs.LeastSolutions.{IsKnown, IsLeast, Statuses, true_wires}
 use Rattle.grc_formulas.specs.Occasions.{Occasion, state_of}

@@ -4,7 +4,7 @@ use Rattle.base_types.specs.declared.indices.NetId.{NetId}
 use Rattle.grc_graph.specs.declared.graph.Graph.{Graph}
 use Rattle.grc_graph.specs.PlainGraphs.{names_of, plain_graph, wire_at}
 use Rattle.grc_graph.specs.Walk.{State}
-use Rattle.grc_react.specs.Evaluations as evaluations
+use Rattle.grc_evaluate.specs.Evaluations as evaluations
 use Rattle.grc_solutions.specs.GraphWires.{Differ}
 use Rattle.grc_ternary.specs.LeastSolutions.{IsKnown, IsLeast, Statuses, true_wires}
 use Rattle.grc_formulas.specs.Occasions.{state_of}

@@ -2,7 +2,7 @@
 
 ghost use Rattle.std.specs.Prelude.{◌≤◌, length};
 
-use crate::passes::{kernel_text, reaction_text};
+use crate::passes::kernel_text;
 use base_types::Limits;
 use cec_commands::{blif_of, c_of, encoded_blif_of, guarded_c_of, verilog_of};
 use cec_opt_sources::{small_blif_of, small_c_of, small_verilog_of};
@@ -25,10 +25,9 @@ pub(crate) enum Form {
     SmallC,
     SmallVerilog,
     Kernel,
-    Reaction,
 }
 
-const FORMS: [(&str, Form); 13] = [
+const FORMS: [(&str, Form); 12] = [
     ("blif m", Form::Blif),
     ("blif --encode m", Form::EncodedBlif),
     ("c m", Form::C),
@@ -41,7 +40,6 @@ const FORMS: [(&str, Form); 13] = [
     ("call small_c_of m", Form::SmallC),
     ("call small_verilog_of m", Form::SmallVerilog),
     ("call front m", Form::Kernel),
-    ("call react m", Form::Reaction),
 ];
 
 /// The text that some words ask for, if one call gives it.
@@ -80,6 +78,5 @@ pub(crate) fn text_of(alloc: Global, form: Form, source: &[u8]) -> Option<Vec<u8
         Form::SmallC => small_c_of(alloc, source, None, &mut First).ok(),
         Form::SmallVerilog => small_verilog_of(alloc, source, None, &mut First).ok(),
         Form::Kernel => kernel_text(alloc, source),
-        Form::Reaction => reaction_text(alloc, source),
     }
 }

@@ -25,9 +25,8 @@
 //!
 //! The answer to a block is else its number and words, a line with the status and the numbers of bytes, and the
 //! bytes of `out` and `err`. Words after `cec-opt` are those of the optimizer. `call NAME m` calls a function that no
-//! command shows: `small_blif_of`, `small_c_of` or `small_verilog_of`; `front`, with the numbers of signals and nodes
-//! of the kernel program and its height; or `react`, with the value of each wire in the first instant, where no input
-//! is present, and the completion code. All others are words of the compiler.
+//! command shows: `small_blif_of`, `small_c_of` or `small_verilog_of`; or `front`, with the numbers of signals and
+//! nodes of the kernel program and its height. All others are words of the compiler.
 //!
 //! Where `out` is to fail, the command runs once more without that, and the answer says whether `out` is
 //! a beginning of what it has then. Where it is done, it runs once more by `cec_steadily`, and a text of `blif m`,

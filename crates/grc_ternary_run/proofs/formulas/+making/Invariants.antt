@@ -1,5 +1,5 @@
 use Rattle.std.proofs.Common.{◌+◌, ◌*◌}
-use Rattle.grc_react.proofs.Exports.{weight}
+use Rattle.grc_evaluate.proofs.Exports.{weight}
 use Rattle.grc_ternary_run.proofs.formulas.+making.Given as goal
 
 abbrev pub decreases-make_gate : goal.decreases-make_gate

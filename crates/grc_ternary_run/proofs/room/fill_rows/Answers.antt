@@ -4,7 +4,7 @@ use Rattle.grc_formulas.specs.declared.table.Row.TheVariants.{Not}
 use Rattle.grc_formulas.specs.declared.table.Source.TheVariants.{Const}
 use Rattle.grc_formulas.specs.Rows.{row_value, row_values}
 use Rattle.grc_formulas.proofs.Exports.{row_values-append}
-use Rattle.grc_react.specs.Evaluations.{surroundings_of}
+use Rattle.grc_evaluate.specs.Evaluations.{surroundings_of}
 use Rattle.grc_ternary_run.proofs.room.fill_rows.Goals as goal
 
 pub loop-k-preserved : goal.loop-k-preserved

@@ -1,6 +1,6 @@
 use Rattle.std.proofs.Common.{◌≡◌, [], length, take}
 use Rattle.grc_formulas.specs.Rows.{row_values}
-use Rattle.grc_react.specs.Evaluations.{surroundings_of}
+use Rattle.grc_evaluate.specs.Evaluations.{surroundings_of}
 use Rattle.grc_ternary_run.proofs.room.fill_rows.Given as goal
 
 abbrev pub invariant-loop-k : goal.invariant-loop-k

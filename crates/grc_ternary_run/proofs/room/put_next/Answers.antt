@@ -3,8 +3,8 @@ use Rattle.std.proofs.lemmas.List.{map_more, take_all, take_more_set, length-set
 use Rattle.base_facts.proofs.Lists.{map-composed}
 use Rattle.grc_graph.specs.declared.formulas.Formula.{Formula}
 use Rattle.grc_graph.specs.PlainGraphs.{formula_of, instances_of, names_of}
-use Rattle.grc_react.specs.Evaluations.{formula_under}
-use Rattle.grc_react.proofs.Exports.{known-late}
+use Rattle.grc_evaluate.specs.Evaluations.{formula_under}
+use Rattle.grc_evaluate.proofs.Exports.{known-late}
 use Rattle.grc_ternary_run.proofs.room.put_next.Goals as goal
 
 pub evaluate-requires-clause-known : goal.evaluate-requires-clause-known

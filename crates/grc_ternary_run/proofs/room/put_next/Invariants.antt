@@ -1,6 +1,6 @@
 use Rattle.std.proofs.Common.{◌≡◌, length, map, take}
 use Rattle.grc_graph.specs.PlainGraphs.{formula_of, instances_of, names_of}
-use Rattle.grc_react.specs.Evaluations.{formula_under}
+use Rattle.grc_evaluate.specs.Evaluations.{formula_under}
 use Rattle.grc_ternary_run.proofs.room.put_next.Given as goal
 
 abbrev pub invariant-loop-leaf : goal.invariant-loop-leaf

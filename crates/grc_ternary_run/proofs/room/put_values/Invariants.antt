@@ -1,6 +1,6 @@
 use Rattle.std.proofs.Common.{◌≡◌, ◌+◌, ◌++◌, length, map, take}
 use Rattle.grc_formulas.specs.Rows.{source_value}
-use Rattle.grc_react.specs.Evaluations.{surroundings_of}
+use Rattle.grc_evaluate.specs.Evaluations.{surroundings_of}
 use Rattle.grc_ternary_run.proofs.room.put_values.Given as goal
 
 abbrev pub invariant-loop-k : goal.invariant-loop-k

@@ -1,5 +1,5 @@
 use Rattle.std.proofs.Common.{[], length, take, ap, ◌∙◌}
-use Rattle.grc_react.specs.Evaluations.{surroundings_of}
+use Rattle.grc_evaluate.specs.Evaluations.{surroundings_of}
 use Rattle.grc_formulas.specs.Rows.{row_values}
 use Rattle.grc_ternary_gates.specs.Systems.{statuses_of}
 use Rattle.grc_ternary_run.proofs.Settling.{settled-by}

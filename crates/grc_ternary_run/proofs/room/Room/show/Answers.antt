@@ -1,7 +1,7 @@
 use Rattle.std.proofs.Common.{map, ap, ◌∙◌}
 use Rattle.grc_formulas.specs.Rows.{source_value}
-use Rattle.grc_react.specs.Evaluations.{surroundings_of}
-use Rattle.grc_react.proofs.Exports.{outputs-mean}
+use Rattle.grc_evaluate.specs.Evaluations.{surroundings_of}
+use Rattle.grc_evaluate.proofs.Exports.{outputs-mean}
 use Rattle.grc_ternary_run.proofs.Reading.{paused-means}
 use Rattle.grc_ternary_run.proofs.room.Room.show.Goals as goal
 

@@ -1,6 +1,6 @@
 use Rattle.std.proofs.Common.{length, refl, sym, ap, ◌∙◌}
 use Rattle.std.proofs.lemmas.Bool.{false≢true}
-use Rattle.grc_react.specs.declared.rows.Start.{Start}
+use Rattle.grc_evaluate.specs.declared.rows.Start.{Start}
 use Rattle.grc_ternary_run.specs.Rooms.{are_unknown}
 use Rattle.grc_ternary_run.proofs.Reacting.{found-by, found-many, keeps-by, stays-by, steps-by}
 use Rattle.grc_ternary_run.proofs.state.State.react.Goals as goal

@@ -1,0 +1,7 @@
+mod Agreement
+mod Stages
+mod Meanings
+mod Ends
+mod Steps
+mod Wholes
+pub mod Exports

@@ -1,5 +1,0 @@
-use Rattle.grc_react.proofs.Steps.{weight}
-use Rattle.grc_react.proofs.formulas.+evaluate.Given as goal
-
-abbrev pub decreases-evaluate : goal.decreases-evaluate
-decreases-evaluate l = weight l.formula.now

@@ -1,3 +1,0 @@
-pub mod Evaluations
-pub mod Codes
-pub mod Reactions
