@@ -19,12 +19,12 @@ use Rattle.grc_graph.specs.PlainInstances.{instance_of}
 use Rattle.grc_graph.specs.Wires.{Wire, same_wire}
 use Rattle.grc_graph.specs.WireTables.{IsNumberOf}
 use Rattle.grc_share.specs.declared.graphs.GraphParts.{GraphParts}
-use Rattle.grc_share.specs.declared.graphs.Numbered.{Numbered}
-use Rattle.grc_share.specs.Renamings.{AreLeastMembers, AreNumbersOf, formula_at, formula_in}
+use Rattle.grc_share.specs.LeastMembers.{AreLeast}
+use Rattle.grc_share.specs.Renamings.{AreInstanceNumbers, AreLeastMembers, AreNumbersOf, formula_at, formula_in}
 use Rattle.grc_share.specs.SharedGraphs.{shared_formula, shared_instances}
 use Rattle.grc_share.specs.SharedInstances.{body_sharing}
 use Rattle.grc_share.specs.SharedNumbers.{AreSharedWires}
-use Rattle.grc_share.specs.SharedParts.{AreGraphParts, AreNumbered}
+use Rattle.grc_share.specs.SharedParts.{AreGraphParts}
 use Rattle.grc_share.specs.SharedWires.{shared_wire, shared_wires}
 use Rattle.grc_share.proofs.EquationLists.{equations-fit, formula-found}
 use Rattle.grc_share.proofs.Ranks.{rank-all, rank-few}
@@ -48,14 +48,18 @@ module _ (g : Graph) (built : IsGraphOf g (program_of g.program)) (least : List 
       let names = program_wires (program_of g.program) in
       omega (arith, least-many, rank-few S names (length names), rank-all S names, ap length built.wires, length-map g.wires.items (wire_of (instances_of g)))
 
-  pub numbers-of : (s : Numbered) → AreNumbered g s → AreNumbersOf g s.least.items s.instances.numbers.items numbers
-  numbers-of s are = record {
-    each_least = are.each_least;
-    least_instances = are.least;
+  pub numbers-of : (own instances : List InstId) → length own ≡ length g.instances.list.items
+      → AreLeast (body_sharing (program_of g.program).body) g.instances.list.items own
+      → length instances ≡ length g.instances.list.items
+      → AreInstanceNumbers (body_sharing (program_of g.program).body) (instances_of g) (shared_instances (program_of g.program)) instances
+      → AreNumbersOf g own instances numbers
+  numbers-of own instances each_least are_least each are = record {
+    each_least = each_least;
+    least_instances = are_least;
     numbers = record {
-      each_instance = are.each ∙ sym (length-map g.instances.list.items instance_of);
+      each_instance = each ∙ sym (length-map g.instances.list.items instance_of);
       each_wire = shared.each_wire ∙ sym (ap length built.wires);
-      instance_numbers = are.numbers;
+      instance_numbers = are;
       wire_numbers = λ w l.
           let p = program_of g.program in
           let K = body_sharing p.body in

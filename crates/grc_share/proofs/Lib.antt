@@ -11,9 +11,6 @@ mod WireMembers
 mod WireLeast
 mod SharedNumbering
 mod SharedPairing
-mod Places
-mod MemberLists
-mod MemberRuns
 mod Ranks
 mod FirstWires
 mod WireRanks

@@ -21,7 +21,15 @@ use Rattle.grc_share.specs.Renamings.{AreLeastMembers, GainsNode, by_instance, n
 use Rattle.grc_share.specs.SharedGraphs.{is_least, names_itself, shared_instances, shared_nodes}
 use Rattle.grc_share.specs.SharedInstances.{Sharing, body_sharing, key}
 use Rattle.grc_share.specs.SharedWires.{shared_layer, shared_wire, shared_wires, status_layer}
-use Rattle.grc_share.proofs.MemberLists.{passes}
+
+-- what a filter lets through passes the test
+pub passes : {X : Type 0} (p : X → Bool) (xs : List X) → All (λ x. p x ≡ true) (filter p xs)
+passes p [] = All-nil (λ x. p x ≡ true)
+passes p (x ∷ xs) = by (p x) refl (passes p xs)
+  where
+    by : (b : Bool) → p x ≡ b → All (λ x. p x ≡ true) (filter p xs) → All (λ x. p x ≡ true) (cond b (x ∷ filter p xs) (filter p xs))
+    by true e h = All-cons (λ x. p x ≡ true) x (filter p xs) e h
+    by false e h = h
 
 -- ---- wires that are their own shared wires
 

@@ -72,8 +72,3 @@ abbrev pub HasResumedStatus : Sharing → List Wire → Instance → Option Wire
 HasResumedStatus K names x r =
     MatchOption r (K.resumed x.path ≡ key K x.path x.layer → ¬ Contains names (StatusOf x.path Resumed))
     (λ w. (K.resumed x.path ≡ key K x.path x.layer) × IsNumberOf names w.0 (StatusOf x.path Resumed))
-
--- the places of a list that have this number, where the first is the place i
-abbrev pub places_of : (k i : ℕ) → List ℕ → List WireId
-places_of k i [] = []
-places_of k i (x ∷ xs) = if x == k then record { 0 = i } ∷ places_of k (i + 1) xs else places_of k (i + 1) xs

@@ -6,8 +6,6 @@ pub mod SharedNumbers
 pub mod SharedPairs
 pub mod SharedGraphs
 pub mod Renamings
-pub mod MemberRuns
-pub mod MembersAt
 pub mod Tables
 pub mod SharedGraphForms
 pub mod SharedParts

@@ -1,6 +1,5 @@
 -- Contract: the shared wires of a program by number, and what is found of the edges between them.
-use Rattle.std.specs.Prelude.{◌≡◌, ℕ, ◌+◌, ◌-◌, ◌<◌, List, [], length, map, slice_index, All, Contains}
-use Rattle.std.specs.Prelude.{slice_index_or}
+use Rattle.std.specs.Prelude.{◌≡◌, ℕ, ◌+◌, ◌-◌, ◌<◌, List, length, map, slice_index, All, Contains}
 use Rattle.base_digraph.specs.declared.ranking.RanksOrCycle.{RanksOrCycle}
 use Rattle.base_digraph.specs.declared.ranking.RanksOrCycle.TheVariants.{Ranks, Cycle}
 use Rattle.base_digraph.specs.Walks.{IsOrderOf}
@@ -10,7 +9,7 @@ use Rattle.grc_graph.specs.GraphRuns.{program_wires}
 use Rattle.grc_graph.specs.NumberedEdges.{named_edge}
 use Rattle.grc_graph.specs.PlainGraphs.{wire_at}
 use Rattle.grc_share.specs.SharedInstances.{body_sharing}
-use Rattle.grc_share.specs.SharedWires.{members, shared_edges, shared_wire, shared_wires}
+use Rattle.grc_share.specs.SharedWires.{shared_edges, shared_wire, shared_wires}
 
 -- The shared wires of a program: the numbers of their least members, in order, and for each wire of the program the
 -- number of its shared wire.
@@ -22,13 +21,6 @@ pub record AreSharedWires (p : Program) (least : List WireId) (numbers : List �
   pub named : (w : ℕ) → w < length (program_wires p)
       → wire_at (shared_wires p) (slice_index numbers w)
       ≡ shared_wire (body_sharing p.body) (wire_at (program_wires p) w)
-
--- The members of each shared wire, ascending.
-pub record AreMemberLists (p : Program) (lists : List (List WireId)) : Type 0 where
-  pub each_wire : length lists ≡ length (shared_wires p)
-  pub all_members : (k : ℕ) → k < length (shared_wires p)
-      → map (λ w. wire_at (program_wires p) w.0) (slice_index_or lists k [])
-      ≡ members p (wire_at (shared_wires p) k)
 
 -- there is an edge between the shared wires with these numbers
 pub record HasSharedEdge (p : Program) (from to : ℕ) : Type 0 where

@@ -1,42 +1,39 @@
 -- Inner: what a shared graph is made of.
-use Rattle.std.specs.Prelude.{◌≡◌, ℕ, ◌<◌, Bool, true, false, List, length, map, All, IsTrue}
+use Rattle.std.specs.Prelude.{◌≡◌, Bool, true, false, List, length, map, All, IsTrue}
 use Rattle.est_kernel.specs.Plain.{Program, program_of}
 use Rattle.est_kernel.specs.Preorder.{statement_count}
 use Rattle.grc_graph.specs.declared.graph.Graph.{Graph}
 use Rattle.grc_graph.specs.declared.instances.Instance.{Instance}
-use Rattle.grc_graph.specs.GraphRuns.{program_wires}
 use Rattle.grc_graph.specs.GraphShapes.{formula_fits, node_fits, wire_fits}
 use Rattle.grc_graph.specs.LoopTables.{AreLoopCounts}
 use Rattle.grc_graph.specs.NumberedEdges.{AreEdgesOf}
-use Rattle.grc_graph.specs.PlainGraphs.{formula_of, instances_of, names_of, node_form, plain_graph, wire_at, wire_of}
+use Rattle.grc_graph.specs.PlainGraphs.{formula_of, instances_of, names_of, node_form, plain_graph, wire_of}
 use Rattle.grc_graph.specs.PlainInstances.{instance_of}
 use Rattle.grc_graph.specs.WireOrders.{AreRanks}
 use Rattle.grc_graph.specs.WireTables.{AreFirsts}
 use Rattle.grc_share.specs.declared.graphs.Formulas.{Formulas}
 use Rattle.grc_share.specs.declared.graphs.GraphParts.{GraphParts}
 use Rattle.grc_share.specs.declared.graphs.Named.{Named}
-use Rattle.grc_share.specs.declared.graphs.Numbered.{Numbered}
 use Rattle.grc_share.specs.declared.graphs.Parts as parts
 use Rattle.grc_share.specs.declared.graphs.PartsOrWalk.{PartsOrWalk}
 use Rattle.grc_share.specs.declared.graphs.PartsOrWalk.TheVariants.{Parts, Walk}
+use Rattle.grc_share.specs.declared.sharing.SharedWires.{SharedWires}
 use Rattle.grc_share.specs.declared.tables.Tables.{Tables}
 use Rattle.grc_share.specs.LeastMembers.{AreLeast}
-use Rattle.grc_share.specs.MemberRuns.{AreMemberRuns, member_run}
-use Rattle.grc_share.specs.Renamings.{AreInstanceNumbers, AreSharedFormulas}
+use Rattle.grc_share.specs.Renamings.{AreSharedFormulas}
 use Rattle.grc_share.specs.SharedGraphs.{shared_graph, shared_instances, shared_nodes}
 use Rattle.grc_share.specs.SharedInstances.{body_sharing}
-use Rattle.grc_share.specs.SharedNumbers.{IsSharedWalk}
-use Rattle.grc_share.specs.SharedWires.{members, shared_edges, shared_wires}
+use Rattle.grc_share.specs.SharedNumbers.{AreSharedWires, IsSharedWalk}
+use Rattle.grc_share.specs.SharedWires.{shared_edges, shared_wires}
 use Rattle.grc_share.specs.Tables.{AreFirstWires}
 
--- the shared instances of a graph, by number
-pub record AreNumbered (g : Graph) (s : Numbered) : Type 0 where
-  pub each_least : length s.least.items ≡ length g.instances.list.items
-  pub least : AreLeast (body_sharing (program_of g.program).body) g.instances.list.items s.least.items
-  pub list : map instance_of s.instances.list.items ≡ shared_instances (program_of g.program)
-  pub each : length s.instances.numbers.items ≡ length g.instances.list.items
-  pub numbers : AreInstanceNumbers (body_sharing (program_of g.program).body) (instances_of g)
-      (shared_instances (program_of g.program)) s.instances.numbers.items
+-- what is found of a graph before its shared graph is made
+pub record AreFound (g : Graph) (s : SharedWires) : Type 0 where
+  pub wires : AreSharedWires (program_of g.program) s.least.items s.numbers.items
+  pub each_instance : length s.instances.items ≡ length g.instances.list.items
+  pub least : AreLeast (body_sharing (program_of g.program).body) g.instances.list.items s.instances.items
+  pub each_statement : length s.loops.items ≡ statement_count (program_of g.program).body
+  pub counts : AreLoopCounts (program_of g.program).body s.loops.items
 
 -- the shared wires and nodes of a program
 pub record AreNamed (p : Program) (s : Named) : Type 0 where
@@ -68,11 +65,6 @@ pub record AreGraphParts (g : Graph) (s : GraphParts) : Type 0 where
 -- what a graph's shared graph is made of
 pub record AreParts (g : Graph) (s : parts.Parts) : Type 0 where
   pub graph : AreGraphParts g s.graph
-  pub runs : AreMemberRuns (length (shared_wires (program_of g.program))) s.members.list.items s.members.firsts.items
-  pub members : (k : ℕ) → k < length (shared_wires (program_of g.program))
-      → map (λ w. wire_at (program_wires (program_of g.program)) w.0)
-      (member_run s.members.list.items s.members.firsts.items k)
-      ≡ members (program_of g.program) (wire_at (shared_wires (program_of g.program)) k)
   pub count : s.edges.count ≡ length (shared_wires (program_of g.program))
   pub edges : AreEdgesOf (shared_wires (program_of g.program)) (shared_edges (program_of g.program))
       s.edges.pairs.items

@@ -1,25 +1,20 @@
 // The graph of a program's shared wires.
 
-ghost use Rattle.std.specs.Prelude.{◌≡◌, ◌↔◌, ℕ, List, length, IfOk, IsTrue};
-ghost use Rattle.est_kernel.specs.Plain.{program_of, term_of};
-ghost use Rattle.est_kernel.specs.Preorder.{statement_count};
+ghost use Rattle.std.specs.Prelude.{◌≡◌, ◌↔◌, ℕ, List, IfOk, IsTrue};
+ghost use Rattle.est_kernel.specs.Plain.{program_of};
 ghost use Rattle.grc_graph.specs.BuiltGraphs.{IsGraphOf};
 ghost use Rattle.grc_graph.specs.GraphRuns.{program_edges};
 ghost use Rattle.grc_graph.specs.NumberedEdges.{AreEdgesOf};
 ghost use Rattle.grc_graph.specs.PlainGraphs.{names_of};
-ghost use Rattle.grc_share.specs.LoopCounts.{AreLoopCounts};
 ghost use Rattle.grc_share.specs.Renamings.{AreLeastMembers, AreNumbersOf};
 ghost use Rattle.grc_share.specs.SharedGraphForms.{IsSharedGraphOf, IsSharedOrFull, is_full};
-ghost use Rattle.grc_share.specs.SharedNumbers.{AreSharedWires, IsSharedWalk};
-ghost use Rattle.grc_share.specs.SharedParts.{AreFormulas, AreGraphParts, AreNamed, AreNumbered, AreParts};
+ghost use Rattle.grc_share.specs.SharedNumbers.{IsSharedWalk};
+ghost use Rattle.grc_share.specs.SharedParts.{AreFormulas, AreFound, AreGraphParts, AreNamed, AreParts};
 ghost use Rattle.grc_share.specs.SharedParts.{ArePartsOrWalk, IsGraphOfShared, is_walk};
 
 use crate::edges::shared_edges;
 use crate::equations::shared_equations;
-use crate::instances::{SharedInstances, shared_instances};
-use crate::least_members::least_instances;
-use crate::loop_counts::loop_bodies;
-use crate::members::{Members, joined_lists};
+use crate::instances::shared_instances;
 use crate::naming::{shared_node_list, shared_wire_list};
 use crate::next::next_formulas;
 use crate::renaming::Numbers;
@@ -28,8 +23,8 @@ use crate::sharing::{SharedWires, shared_wires};
 use crate::tables::{Tables, place_tables};
 use crate::walking::ranks_or_walk;
 use base_digraph::RanksOrCycle;
-use base_types::{InstId, NoMemory, WireId};
-use grc_graph::{Edges, Formula, Graph, Instance, Instances, LoopBodies, Node, Ranks, Wire};
+use base_types::{NoMemory, WireId};
+use grc_graph::{Edges, Formula, Graph, Instance, Instances, Node, Ranks, Wire};
 use std::alloc::Global;
 
 /// The graph of a program's shared wires, or why there is none.
@@ -74,7 +69,6 @@ enum PartsOrWalk {
 #[derive(Drop)]
 struct Parts {
     graph: GraphParts,
-    members: Members,
     edges: Edges,
     ranks: Ranks,
 }
@@ -93,12 +87,10 @@ fn shared_parts(alloc: Global, graph: &Graph, edges: &Edges) -> Result<PartsOrWa
         RanksOrCycle::Cycle(walk) => Ok(PartsOrWalk::Walk(walk)),
         RanksOrCycle::Ranks(ranking) => {
             let edges = shared_edges(alloc, graph, edges, &shared)?;
-            let parts = graph_parts(alloc, graph, &shared)?;
-            let members = joined_lists(alloc, &shared.members)?;
+            let parts = graph_parts(alloc, graph, shared)?;
             let ranks = Ranks { of: ranking.ranks };
             Ok(PartsOrWalk::Parts(Parts {
                 graph: parts,
-                members,
                 edges,
                 ranks,
             }))
@@ -115,16 +107,15 @@ struct GraphParts {
     tables: Tables,
 }
 
-// The lists of a shared graph, from the numbers of its wires.
-fn graph_parts(alloc: Global, graph: &Graph, shared: &SharedWires) -> Result<GraphParts, NoMemory>
+// The lists of a shared graph, from its shared wires.
+fn graph_parts(alloc: Global, graph: &Graph, shared: SharedWires) -> Result<GraphParts, NoMemory>
     requires built { IsGraphOf graph.now (program_of graph.now.program) }
-    requires wires { AreSharedWires (program_of graph.now.program) shared.now.least.items shared.now.numbers.items }
+    requires found { AreFound graph.now shared }
     ensures { IfOk result (AreGraphParts graph.now) }
 {
-    let loops = loop_bodies(alloc, &graph.program)?;
-    let Numbered { least, instances } = number_instances(alloc, graph, &loops)?;
+    let instances = shared_instances(alloc, graph, &shared.instances)?;
     let numbers = Numbers {
-        least: &least,
+        least: &shared.instances,
         instances: &instances.numbers,
         wires: &shared.numbers,
     };
@@ -136,7 +127,7 @@ fn graph_parts(alloc: Global, graph: &Graph, shared: &SharedWires) -> Result<Gra
         &numbers,
         &instances.list,
         shared.least.len() as u32,
-        loops,
+        shared.loops,
     )?;
     Ok(GraphParts {
         instances: instances.list,
@@ -144,28 +135,6 @@ fn graph_parts(alloc: Global, graph: &Graph, shared: &SharedWires) -> Result<Gra
         formulas,
         tables,
     })
-}
-// The shared instances of a graph, with the least member of each instance's shared one.
-#[derive(Drop)]
-struct Numbered {
-    least: Vec<InstId>,
-    instances: SharedInstances,
-}
-
-// The shared instances of a graph.
-fn number_instances(
-    alloc: Global,
-    graph: &Graph,
-    loops: &[LoopBodies],
-) -> Result<Numbered, NoMemory>
-    requires built { IsGraphOf graph.now (program_of graph.now.program) }
-    requires each { length loops.now ≡ statement_count (term_of graph.now.program.body) }
-    requires counts { AreLoopCounts (term_of graph.now.program.body) loops.now }
-    ensures { IfOk result (AreNumbered graph.now) }
-{
-    let least = least_instances(alloc, graph, loops)?;
-    let instances = shared_instances(alloc, graph, &least)?;
-    Ok(Numbered { least, instances })
 }
 
 // The wires and nodes of a shared graph.
@@ -224,13 +193,11 @@ fn joined(graph: Graph, parts: Parts) -> SharedGraph
 {
     let Parts {
         graph: lists,
-        members,
         edges,
         ranks,
     } = parts;
     SharedGraph {
         graph: joined_graph(graph, lists),
-        members,
         edges,
         ranks,
     }

@@ -3,8 +3,8 @@
 //! A statement of a kernel body is started at each root that can start it, and has an instance for each. Where one
 //! of two roots stands above the other and no loop body between them, they never start the statement in one
 //! instant, so that one instance can stand for both. The graph follows Potop-Butucaru, Edwards and Berry,
-//! "Compiling Esterel", where the surface of a statement is drawn once. One call numbers the shared wires of a graph,
-//! another finds ranks of them along the edges between them, or a closed walk.
+//! "Compiling Esterel", where the surface of a statement is drawn once. `share` makes the graph of the shared wires, or
+//! finds a closed walk of the edges between them.
 #![tactic(auto)]
 
 mod edges;
@@ -16,7 +16,6 @@ mod guards;
 mod instances;
 mod least_members;
 mod loop_counts;
-mod members;
 mod naming;
 mod next;
 mod numbering;
@@ -28,8 +27,4 @@ mod tables;
 mod walking;
 
 pub use graphs::{SharedOrFull, share};
-pub use members::Members;
-pub use placing::FewWires;
 pub use shared_graph::SharedGraph;
-pub use sharing::{SharedWires, shared_wires};
-pub use walking::shared_ranks_or_walk;

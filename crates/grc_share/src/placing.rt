@@ -1,33 +1,13 @@
-// The members of shared wires.
+// Lists of a few wires.
 
-ghost use Rattle.std.specs.Prelude.{◌≡◌, ◌++◌, ◌<◌, ◌^◌, [], ◌∷◌, ℕ, length, map, slice_index_or, slice_set, All, IfOk};
-ghost use Rattle.grc_share.specs.LeastMembers.{places_of};
+ghost use Rattle.std.specs.Prelude.{◌≡◌, ◌++◌, ◌<◌, [], ◌∷◌, length, map, slice_index_or, slice_set, All, IfOk};
 
 use base_types::{NoMemory, WireId};
 use smallvec::SmallVec;
 use std::alloc::Global;
 
 /// A few wires. Most such lists are in the value itself, and need no memory.
-pub type FewWires = SmallVec<WireId, 4>;
-
-/// For each number the places that have it, ascending.
-pub(crate) fn places_by_number(
-    alloc: Global,
-    count: usize,
-    numbers: &[u32],
-) -> Result<Vec<FewWires>, NoMemory>
-    requires few { length numbers.now < 2 ^ 32 }
-    requires within { All (λ k. k < count) numbers.now }
-    ensures each { IfOk result (λ v. length v.items ≡ count) }
-    ensures places { IfOk result (λ v. (k : ℕ) → k < count
-        → slice_index_or (map (λ list. list.items) v.items) k [] ≡ places_of k 0 numbers.now) }
-{
-    let mut lists = empty_lists(alloc, count)?;
-    for w in 0..numbers.len() {
-        push_wire(&mut lists, numbers[w] as usize, WireId(w as u32))?;
-    }
-    Ok(lists)
-}
+pub(crate) type FewWires = SmallVec<WireId, 4>;
 
 /// This many empty lists.
 pub(crate) fn empty_lists(alloc: Global, count: usize) -> Result<Vec<FewWires>, NoMemory>

@@ -1,8 +1,5 @@
-// A graph of shared wires, with their members and edges.
+// A graph of shared wires, with the edges between them.
 
-ghost use Rattle.std.specs.Prelude.{◌≡◌, ◌+◌, length};
-
-use crate::members::Members;
 use grc_graph::{Edges, Graph, Ranks};
 
 /// The graph of a program's shared wires, with the edges between them.
@@ -11,10 +8,7 @@ pub struct SharedGraph {
     /// The graph: an equation for each shared wire. Each shared instance and each shared wire has the name of its least
     /// member.
     pub graph: Graph,
-    /// The wires of the given graph that each shared wire stands for.
-    pub members: Members,
     /// The edges between the shared wires, and ranks that grow along them.
     pub edges: Edges,
     pub ranks: Ranks,
-    ghost each: { length members.firsts.items ≡ length graph.wires.items + 1 },
 }

@@ -10,7 +10,7 @@ ghost use Rattle.grc_graph.specs.PlainGraphs.{names_of};
 ghost use Rattle.grc_share.specs.SharedNumbers.{AreSharedWires, IsSharedAnswer, IsSharedWalk};
 ghost use Rattle.grc_share.specs.SharedPairs.{numbered_pairs};
 
-use crate::sharing::{SharedWires, shared_wires};
+use crate::sharing::SharedWires;
 use base_digraph::{RanksOrCycle, ranks_or_cycle};
 use base_types::{NoMemory, WireId};
 use grc_graph::{Edges, Graph};
@@ -18,26 +18,7 @@ use grc_solutions::edges_join_wires;
 use std::alloc::{AllocError, Global};
 
 /// Ranks of the shared wires of a graph, which each edge between them goes up in, or a closed walk, exactly where there
-/// is one. The edges are those of the graph. The time is linear in the wires and edges except for the search of status
-/// wires; the error is out of memory.
-pub fn shared_ranks_or_walk(
-    alloc: Global,
-    graph: &Graph,
-    edges: &Edges,
-) -> Result<RanksOrCycle, NoMemory>
-    requires built { IsGraphOf graph.now (program_of graph.now.program) }
-    requires edges { AreEdgesOf (names_of graph.now) (program_edges (program_of graph.now.program))
-        edges.now.pairs.items }
-    ensures found { IfOk result (IsSharedAnswer (program_of graph.now.program)) }
-    // The answer is a closed walk exactly where there is one.
-    ensures cyclic { IfOk result (λ r. IsTrue (is_cycle r)
-        ↔ ((walk : List ℕ) × IsSharedWalk (program_of graph.now.program) walk)) }
-{
-    let shared = shared_wires(alloc, graph)?;
-    ranks_or_walk(alloc, graph, edges, &shared)
-}
-
-/// The same from the shared wires.
+/// is one. The edges are those of the graph. The time is linear in the wires and edges; the error is out of memory.
 pub(crate) fn ranks_or_walk(
     alloc: Global,
     graph: &Graph,
