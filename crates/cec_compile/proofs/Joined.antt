@@ -36,7 +36,6 @@ use Rattle.grc_graph.specs.Layers.{Resumed}
 use Rattle.grc_graph.specs.Wires.{Wire, Go}
 use Rattle.grc_graph.specs.WireOrders.{WireEdge, AreRanks, IsWireOrder}
 use Rattle.grc_solutions_laws.proofs.Exports.{program_kernel}
-use Rattle.grc_share.specs.declared.members.Members.{Members}
 use Rattle.grc_share.specs.declared.shared_graph.SharedGraph.{SharedGraph}
 use Rattle.grc_share.specs.SharedGraphForms.{IsSharedGraphOf}
 use Rattle.grc_share.specs.SharedNumbers.{IsSharedWalk}
@@ -64,7 +63,7 @@ use Rattle.cec_compile.specs.Limits.{copying_refusal}
 use Rattle.cec_compile.specs.Graphs.{HasNoGraph, IsBuilt}
 use Rattle.cec_compile.specs.GraphsMade.{IsGraphIn, IsOwnOrShared, IsRanked, IsSharedOf}
 use Rattle.cec_compile.specs.Refusals.{Compiles}
-use Rattle.cec_compile.specs.WireGroups.{GivesMembers, HasSharedRank, SharesWires, graph_edges, graph_wires, is_shared, wire_groups}
+use Rattle.cec_compile.specs.WireGroups.{HasSharedRank, SharesWires, graph_edges, graph_wires, is_shared, wire_groups}
 use Rattle.cec_compile.proofs.GraphFacts.{acyclic, reading_order, shared_cycle}
 use Rattle.cec_compile.proofs.GraphsRead.{ReadsIn, graph_reads, next_count, shared_loops}
 use Rattle.cec_compile.proofs.Simplified.{interface_stays, instants_stay, runs_stay}
@@ -195,33 +194,6 @@ shared_ranked given s h ranked reading is =
 pub shared_shares : (p : Program) (s : SharedGraph) → IsSharedGraphOf p s → HasSharedRank p → SharesWires p (is_shared s.graph)
 shared_shares p s is ranked = subst (SharesWires p) (sym (shared_loops s.graph p is.program is.graph)) ranked
 
--- ---- the members of a graph's wires
-
-own_members : (p : Program) → GivesMembers false p None
-own_members p = record {
-  given_where_shared = refl;
-  each = tt;
-  stand = λ k l. sym (get_or-map (λ (w : Wire). w ∷ []) (program_wires p) k (Go 0 Resumed) [] l);
-}
-
--- each wire of a program's own graph stands for itself
-pub own_gives : (g : Graph) (p : Program) → is_shared g ≡ false → GivesMembers (is_shared g) p None
-own_gives g p own = subst (λ shared. GivesMembers shared p None) (sym own) (own_members p)
-
-shared_members : (p : Program) (s : SharedGraph) → IsSharedGraphOf p s → length s.members.firsts.items ≡ length s.graph.wires.items + 1
-    → GivesMembers true p (Some s.members)
-shared_members p s is each = record {
-  given_where_shared = refl;
-  each = omega (arith, each, length-map s.graph.wires.items (wire_of (instances_of s.graph)), ap length is.wires);
-  stand = λ k l. is.members k l ∙ sym (get_or-map (members p) (shared_wires p) k (Go 0 Resumed) [] l);
-}
-
--- a shared wire stands for its members
-pub shared_gives : (p : Program) (s : SharedGraph) → IsSharedGraphOf p s → length s.members.firsts.items ≡ length s.graph.wires.items + 1
-    → GivesMembers (is_shared s.graph) p (Some s.members)
-shared_gives p s is each =
-    subst (λ shared. GivesMembers shared p (Some s.members)) (sym (shared_loops s.graph p is.program is.graph)) (shared_members p s is each)
-
 -- a graph that is the program's, or that of its shared wires, has the program and names its wires
 pub its_program : (g : Graph) (p : Program) → IsOwnOrShared g p → program_of g.program ≡ p
 its_program g p is = by (is_shared g) is.graph
@@ -258,12 +230,12 @@ latches_stand g p net is interface = interface.latches ∙ ap (λ bits. true ∷
     same_bits (x ∷ xs) (y ∷ ys) e = ap (λ bits. false ∷ bits) (same_bits xs ys (omega (arith, e)))
 
 -- it follows the graph as the one does that it is made from
-pub simplified_follows : (g : Graph) (order : Order) (net new : Net) (given : Option Members) → IsOwnOrShared g (program_of g.program)
+pub simplified_follows : (g : Graph) (order : Order) (net new : Net) → IsOwnOrShared g (program_of g.program)
     → HasInterfaceOf g (netlist_of net) → length net.gates.items ≤ gates_at_most g (rows_at_most g) order.list.items
     → FollowsInstants g (netlist_of net) → FollowsRuns g (netlist_of net)
     → SameParts (netlist_of net) (netlist_of new) → SameInstants (netlist_of net) (netlist_of new) → SameRuns (netlist_of net) (netlist_of new)
-    → FollowsGraph (record { graph = g; members = given; order = order; net = new })
-simplified_follows g order net new given graph interface size instants runs parts same alike =
+    → FollowsGraph (record { graph = g; order = order; net = new })
+simplified_follows g order net new graph interface size instants runs parts same alike =
     let few = given-few (program_of g.program) g.laid_out.formed in
     record {
       graph = graph;
@@ -291,13 +263,13 @@ shared_gates g p order gates is shared reads few =
     )
 
 -- a graph with an order along its edges, and a netlist that follows it
-pub compiled_is : (g : Graphed) (order : Order) (net : Net) (given : Option Members) → IsRanked g (program_of g.graph.program)
+pub compiled_is : (g : Graphed) (order : Order) (net : Net) → IsRanked g (program_of g.graph.program)
     → IsWireOrder g.edges.count g.edges.pairs.items order.list.items
     → carried net.gates.items ≡ map (λ v. v.0) order.list.items
     → length net.gates.items ≤ linear_bound (program_of g.graph.program)
-    → FollowsGraph (record { graph = g.graph; members = given; order = order; net = net })
-    → IsSimple (netlist_of net) → IsCompiled (record { graph = g.graph; members = given; order = order; net = net }) (program_of g.graph.program)
-compiled_is g order net given h along carries linear follows simple =
+    → FollowsGraph (record { graph = g.graph; order = order; net = net })
+    → IsSimple (netlist_of net) → IsCompiled (record { graph = g.graph; order = order; net = net }) (program_of g.graph.program)
+compiled_is g order net h along carries linear follows simple =
     let p = program_of g.graph.program in
     let kernel = kernel_of g.graph p refl in
     record {

@@ -1,5 +1,5 @@
 -- The texts of each form that are written of a compiled source.
-use Rattle.std.proofs.Common.{◌≡◌, ℕ, ◌≤◌, List, [], length, Option, Some, sym, ap, ◌∙◌, subst}
+use Rattle.std.proofs.Common.{◌≡◌, ℕ, ◌≤◌, List, length, Option, sym, ap, ◌∙◌, subst}
 use Rattle.base_types.specs.declared.bounds.TheConstants.Limits.{SOURCE_BYTES}
 use Rattle.est_kernel.specs.Plain.{Program}
 use Rattle.net_ir.specs.Netlists.{Netlist}
@@ -8,8 +8,6 @@ use Rattle.blif_text.specs.Written as blif_texts
 use Rattle.csub_text.specs.Written as c_texts
 use Rattle.vlog_text.specs.Written as verilog_texts
 use Rattle.cec_text_io.specs.NetWriting.{IsWrittenIn}
-use Rattle.cec_text_io.specs.Writings.{LeavesPieces}
-use Rattle.cec_text_io.specs.declared.writing.Written.TheVariants.{Done}
 use Rattle.cec_compile.specs.declared.passes.Compiled.{Compiled}
 use Rattle.cec_compile.specs.declared.forms.TextForm.{TextForm}
 use Rattle.cec_compile.specs.declared.forms.TextForm.TheVariants as forms
@@ -98,8 +96,3 @@ made_keeps form bytes main made m = net_keeps form m.compiled m.source.program (
     net_keeps forms.C c p net h own = subst (λ n. NetKeeps n p) (sym own) h.keeps
     net_keeps forms.Guarded c p net h own = subst (λ n. NetKeeps n p) (sym own) h.keeps
     net_keeps forms.Verilog c p net h own = subst (λ n. NetKeeps n p) (sym own) h.keeps
-
--- what was collected of a text
-pub collected : (P : List ℕ → Type 0) (bytes : List ℕ) (before now : ℕ)
-    → LeavesPieces P (record { before = Some []; after = Some bytes; faults_before = before; faults_now = now }) (Some Done) → P bytes
-collected P bytes before now l = subst P (sym l.2.whole) l.1

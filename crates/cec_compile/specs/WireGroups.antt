@@ -3,18 +3,13 @@
 -- Wires that cannot be true in one instant except for one of them, as those of two starts of a statement under as many
 -- loops, are one shared wire (`one_wire` in grc_share). The graph that is compiled is that of the shared wires, where
 -- the edges between them have no cycle, and else the program's own, each wire of which stands for itself.
-use Rattle.std.specs.Prelude.{◌≡◌, ◌<◌, ◌+◌, ℕ, Bool, true, false, List, [], ◌∷◌, length, map, slice_index_or}
-use Rattle.std.specs.Prelude.{Option, Some, None, IfSome, is_some}
-use Rattle.base_types.specs.declared.indices.WireId.{WireId}
+use Rattle.std.specs.Prelude.{ℕ, Bool, true, false, List, [], ◌∷◌, map, is_some}
 use Rattle.est_kernel.specs.Plain.{Program}
 use Rattle.grc_graph.specs.declared.graph.Graph.{Graph}
 use Rattle.grc_graph.specs.Edges.{Edge}
 use Rattle.grc_graph.specs.GraphRuns.{program_edges, program_wires}
 use Rattle.grc_graph.specs.Orders.{GoUp}
-use Rattle.grc_graph.specs.PlainGraphs.{wire_at}
 use Rattle.grc_graph.specs.Wires.{Wire}
-use Rattle.grc_share.specs.declared.members.Members.{Members}
-use Rattle.grc_share.specs.MembersAt.{members_at}
 use Rattle.grc_share.specs.SharedWires.{members, shared_edges, shared_wires}
 use Rattle.cec_compile.specs.Cycles.{IsCycle}
 
@@ -49,17 +44,3 @@ pub record HasSharedCycle (p : Program) : Type 0 where
 abbrev pub SharesWires : Program → Bool → Type 0
 SharesWires p true = HasSharedRank p
 SharesWires p false = HasSharedCycle p
-
--- the numbers, in the program's own graph, of the wires that the wire with this number stands for: itself, where no
--- members are given
-abbrev pub stood_for : Option Members → ℕ → List WireId
-stood_for None k = record { 0 = k } ∷ []
-stood_for (Some given) k = members_at given k
-
--- Members are given where wires are shared, and there alone, for each wire, and they name the wires of the program that
--- it stands for.
-pub record GivesMembers (shared : Bool) (p : Program) (given : Option Members) : Type 0 where
-  pub given_where_shared : is_some given ≡ shared
-  pub each : IfSome given (λ m. length m.firsts.items ≡ length (graph_wires shared p) + 1)
-  pub stand : (k : ℕ) → k < length (graph_wires shared p)
-      → map (λ w. wire_at (program_wires p) w.0) (stood_for given k) ≡ slice_index_or (wire_groups shared p) k []

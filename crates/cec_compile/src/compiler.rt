@@ -38,10 +38,7 @@ pub fn blif_of<P: Picker>(
     ensures made { IfOk result (λ written. IsBlifOf text.now (option_map (λ m. m.now) main.entry) written.items) }
     ensures refuses { IfErr result (IsRefused text.now (option_map (λ m. m.now) main.entry)) }
 {
-    match text_of::<BlifWriter, P>(alloc, TextForm::Blif, text, main, picker) {
-        Ok(written) => Ok(written),
-        Err(refusal) => Err(refusal),
-    }
+    text_of::<BlifWriter, P>(alloc, TextForm::Blif, text, main, picker)
 }
 
 /// The BLIF text of a source, with latches that hold the state in a code: pauses that can never be selected together
@@ -62,10 +59,7 @@ pub fn encoded_blif_of<P: Picker>(
         (option_map (λ m. m.now) main.entry) written.items) }
     ensures refuses { IfErr result (IsRefused text.now (option_map (λ m. m.now) main.entry)) }
 {
-    match text_of::<BlifWriter, P>(alloc, TextForm::EncodedBlif, text, main, picker) {
-        Ok(written) => Ok(written),
-        Err(refusal) => Err(refusal),
-    }
+    text_of::<BlifWriter, P>(alloc, TextForm::EncodedBlif, text, main, picker)
 }
 
 /// The C text of a source, in the same way (`CTextKeeps`). The text is in the C subset, with one variable for each
@@ -83,10 +77,7 @@ pub fn c_of<P: Picker>(
     ensures made { IfOk result (λ written. IsCOf text.now (option_map (λ m. m.now) main.entry) written.items) }
     ensures refuses { IfErr result (IsRefused text.now (option_map (λ m. m.now) main.entry)) }
 {
-    match text_of::<CWriter, P>(alloc, TextForm::C, text, main, picker) {
-        Ok(written) => Ok(written),
-        Err(refusal) => Err(refusal),
-    }
+    text_of::<CWriter, P>(alloc, TextForm::C, text, main, picker)
 }
 
 /// The Verilog text of a source, in the same way (`VerilogTextKeeps`). The text describes a module `m_NAME` with the
@@ -105,8 +96,5 @@ pub fn verilog_of<P: Picker>(
     ensures made { IfOk result (λ written. IsVerilogOf text.now (option_map (λ m. m.now) main.entry) written.items) }
     ensures refuses { IfErr result (IsRefused text.now (option_map (λ m. m.now) main.entry)) }
 {
-    match text_of::<VlogWriter, P>(alloc, TextForm::Verilog, text, main, picker) {
-        Ok(written) => Ok(written),
-        Err(refusal) => Err(refusal),
-    }
+    text_of::<VlogWriter, P>(alloc, TextForm::Verilog, text, main, picker)
 }

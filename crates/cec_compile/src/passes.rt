@@ -12,7 +12,7 @@
 //
 // `made` encodes the state where that is asked for, and `source_texts` writes the netlist in a form.
 
-ghost use Rattle.std.specs.Prelude.{◌≡◌, ◌≤◌, false, Option, Some, length, map, IfOk, IfErr, option_map};
+ghost use Rattle.std.specs.Prelude.{◌≡◌, ◌≤◌, false, length, map, IfOk, IfErr, option_map};
 ghost use Rattle.est_kernel.specs.CodeLists.{AreCodesOf};
 ghost use Rattle.est_kernel.specs.Plain.{program_of, term_of};
 ghost use Rattle.est_kernel.specs.StaticCodes.{NoInstantLoop};
@@ -31,7 +31,7 @@ ghost use Rattle.cec_compile.specs.Following.{FollowsGraph};
 ghost use Rattle.cec_compile.specs.Graphs.{IsBuilt};
 ghost use Rattle.cec_compile.specs.GraphsMade.{IsOwnOrShared, IsRanked};
 ghost use Rattle.cec_compile.specs.Refusals.{DoesNotCompile, IsRefused};
-ghost use Rattle.cec_compile.specs.WireGroups.{GivesMembers, SharesWires, is_shared};
+ghost use Rattle.cec_compile.specs.WireGroups.{SharesWires, is_shared};
 
 use crate::cycles::cycle_of;
 use crate::graphs::built_graph;
@@ -41,7 +41,7 @@ use est_front::{Analysed, analyse};
 use grc_dep::{Ranked, cycle_or_rank, edges};
 use grc_graph::{Edges, Graph, Order, Ranks};
 use grc_order::{Picker, order};
-use grc_share::{Members, SharedGraph, SharedOrFull, share};
+use grc_share::{SharedGraph, SharedOrFull, share};
 use grc_share_laws::{shared_orders_are_reading_orders, shared_ranks_go_up};
 use net_gen::generate;
 use net_ir::Net;
@@ -61,9 +61,6 @@ pub struct Graphed {
 #[derive(Drop)]
 pub struct Compiled {
     pub graph: Graph,
-    /// Of a graph of shared wires, the wires of the program's own graph that each of them stands for. None where each
-    /// wire of the graph stands for itself.
-    pub members: Option<Members>,
     pub order: Order,
     pub net: Net,
 }
@@ -80,7 +77,6 @@ pub fn compile<P: Picker>(
     requires { length text.now ≤ Limits.SOURCE_BYTES }
     ensures compiles { IfOk result (StandsForNet text.now (option_map (λ m. m.now) main.entry)) }
     ensures shares { IfOk result (λ c. SharesWires (program_of c.graph.program) (is_shared c.graph)) }
-    ensures members { IfOk result (λ c. GivesMembers (is_shared c.graph) (program_of c.graph.program) c.members) }
     ensures follows { IfOk result FollowsGraph }
     ensures refuses { IfErr result (IsRefused text.now (option_map (λ m. m.now) main.entry)) }
 {
@@ -117,33 +113,20 @@ fn compile_graph<P: Picker>(
     requires { IsGraphed found (program_of found.graph.program) }
     ensures compiled { IfOk result (λ c. IsCompiled c (program_of found.graph.program)) }
     ensures shares { IfOk result (λ c. SharesWires (program_of found.graph.program) (is_shared c.graph)) }
-    ensures members { IfOk result (λ c. GivesMembers (is_shared c.graph) (program_of found.graph.program)
-        c.members) }
     ensures follows { IfOk result FollowsGraph }
 {
     let shared = shared_where_possible(alloc, found)?;
-    let made = ordered_net(alloc, &shared.ranked, picker)?;
+    let made = ordered_net(alloc, &shared, picker)?;
     Ok(compiled_of(shared, made))
 }
 
 // A compiled program, of these parts.
-fn compiled_of(shared: Sharing, made: OrderedNet) -> Compiled
-    ensures { result ≡ record {
-      graph = shared.ranked.graph;
-      members = shared.members;
-      order = made.order;
-      net = made.net;
-    } }
+fn compiled_of(ranked: Graphed, made: OrderedNet) -> Compiled
+    ensures { result ≡ record { graph = ranked.graph; order = made.order; net = made.net } }
 {
-    let Sharing { ranked, members } = shared;
     let Graphed { graph, .. } = ranked;
     let OrderedNet { order, net } = made;
-    Compiled {
-        graph,
-        members,
-        order,
-        net,
-    }
+    Compiled { graph, order, net }
 }
 
 /// A source compiled by its program's own graph, whose wires are not shared. The errors are those of `blif_of`.
@@ -161,28 +144,15 @@ pub fn compile_unshared<P: Picker>(
 {
     let found = source_graph(alloc, text, main)?;
     let made = ordered_net(alloc, &found, picker)?;
-    let own = Sharing {
-        ranked: found,
-        members: None,
-    };
-    Ok(compiled_of(own, made))
-}
-
-/// A graph that a program is compiled by, with the members of its wires where these are shared.
-#[derive(Drop)]
-struct Sharing {
-    ranked: Graphed,
-    members: Option<Members>,
+    Ok(compiled_of(found, made))
 }
 
 // The graph of the shared wires, where the edges between these have no cycle, else the program's own as it is.
-fn shared_where_possible(alloc: Global, found: Graphed) -> Result<Sharing, NoMemory>
+fn shared_where_possible(alloc: Global, found: Graphed) -> Result<Graphed, NoMemory>
     requires { IsGraphed found (program_of found.graph.program) }
-    ensures program { IfOk result (λ s. program_of s.ranked.graph.program ≡ program_of found.graph.program) }
-    ensures ranked { IfOk result (λ s. IsRanked s.ranked (program_of found.graph.program)) }
-    ensures shares { IfOk result (λ s. SharesWires (program_of found.graph.program) (is_shared s.ranked.graph)) }
-    ensures members { IfOk result (λ s. GivesMembers (is_shared s.ranked.graph) (program_of found.graph.program)
-        s.members) }
+    ensures program { IfOk result (λ g. program_of g.graph.program ≡ program_of found.graph.program) }
+    ensures ranked { IfOk result (λ g. IsRanked g (program_of found.graph.program)) }
+    ensures shares { IfOk result (λ g. SharesWires (program_of found.graph.program) (is_shared g.graph)) }
 {
     shared_ranks_go_up();
     shared_orders_are_reading_orders();
@@ -192,38 +162,28 @@ fn shared_where_possible(alloc: Global, found: Graphed) -> Result<Sharing, NoMem
         ranks,
     } = found;
     match share(alloc, graph, &edges)? {
-        SharedOrFull::Shared(shared) => Ok(sharing_of(shared)),
-        SharedOrFull::Full(graph, _) => Ok(Sharing {
-            ranked: Graphed {
-                graph,
-                edges,
-                ranks,
-            },
-            members: None,
+        SharedOrFull::Shared(shared) => Ok(ranked_of(shared)),
+        SharedOrFull::Full(graph, _) => Ok(Graphed {
+            graph,
+            edges,
+            ranks,
         }),
     }
 }
 
-// A graph of shared wires, with their members.
-fn sharing_of(shared: SharedGraph) -> Sharing
-    ensures { result ≡ record {
-      ranked = record { graph = shared.graph; edges = shared.edges; ranks = shared.ranks };
-      members = Some shared.members;
-    } }
+// A graph of shared wires, with the edges between them.
+fn ranked_of(shared: SharedGraph) -> Graphed
+    ensures { result ≡ record { graph = shared.graph; edges = shared.edges; ranks = shared.ranks } }
 {
     let SharedGraph {
         graph,
-        members,
         edges,
         ranks,
     } = shared;
-    Sharing {
-        ranked: Graphed {
-            graph,
-            edges,
-            ranks,
-        },
-        members: Some(members),
+    Graphed {
+        graph,
+        edges,
+        ranks,
     }
 }
 
@@ -241,11 +201,11 @@ fn ordered_net<P: Picker>(
     picker: &mut P,
 ) -> Result<OrderedNet, NoMemory>
     requires { IsRanked found.now (program_of found.now.graph.program) }
-    ensures compiled { IfOk result (λ made. (members : Option Members) → IsCompiled
-        (record { graph = found.now.graph; members = members; order = made.order; net = made.net })
+    ensures compiled { IfOk result (λ made. IsCompiled
+        (record { graph = found.now.graph; order = made.order; net = made.net })
         (program_of found.now.graph.program)) }
-    ensures follows { IfOk result (λ made. (members : Option Members) → FollowsGraph
-        (record { graph = found.now.graph; members = members; order = made.order; net = made.net })) }
+    ensures follows { IfOk result (λ made. FollowsGraph
+        (record { graph = found.now.graph; order = made.order; net = made.net })) }
 {
     let order = order(alloc, &found.edges, &found.ranks, picker)?;
     let net = graph_net(alloc, &found.graph, &order)?;
@@ -261,8 +221,8 @@ fn graph_net(alloc: Global, graph: &Graph, order: &Order) -> Result<Net, NoMemor
         order.now.list.items }
     ensures order { IfOk result (λ net. carried net.gates.items ≡ map (λ v. v.0) order.now.list.items) }
     ensures linear { IfOk result (λ net. length net.gates.items ≤ linear_bound (program_of graph.now.program)) }
-    ensures follows { IfOk result (λ net. (members : Option Members) → FollowsGraph
-        (record { graph = graph.now; members = members; order = order.now; net = net })) }
+    ensures follows { IfOk result (λ net. FollowsGraph
+        (record { graph = graph.now; order = order.now; net = net })) }
     ensures simple { IfOk result (λ net. IsSimple (netlist_of net)) }
 {
     let drawn = generate(alloc, graph, order)?;

@@ -13,9 +13,9 @@ use crate::forms::TextForm;
 use crate::made::source_made;
 use crate::refusal::Refusal;
 use base_types::{Limits, Sink};
-use cec_text_io::{Collected, Written, write_net_in_pieces};
+use cec_text_io::{Written, write_net_in_pieces};
 use grc_order::Picker;
-use net_writer::NetText;
+use net_writer::{NetText, write_net};
 use std::alloc::Global;
 
 /// Compiles a source and writes its text of a form, in a language, to `out`, piece by piece, and says how the writing
@@ -42,7 +42,7 @@ pub fn write_source_text<T: NetText + Drop, P: Picker, O: Sink>(
     }
 }
 
-/// The text of a source of a form, in a language: what `write_source_text` writes, collected.
+/// The text of a source of a form, in a language: what `write_source_text` writes, in one piece.
 pub(crate) fn text_of<T: NetText + Drop, P: Picker>(
     alloc: Global,
     form: TextForm,
@@ -55,11 +55,7 @@ pub(crate) fn text_of<T: NetText + Drop, P: Picker>(
         (option_map (λ m. m.now) main.entry) text.items) }
     ensures refuses { IfErr result (IsRefused source.now (option_map (λ m. m.now) main.entry)) }
 {
-    let mut text = Collected::new(alloc);
-    match write_source_text::<T, P, Collected>(alloc, form, source, main, picker, &mut text) {
-        Ok(Written::Done) => Ok(text.into_bytes()),
-        // What is collected is refused because memory ran out alone.
-        Ok(Written::WriteFault | Written::NoMemory) => Err(Refusal::NoMemory),
-        Err(refusal) => Err(refusal),
-    }
+    let made = source_made(alloc, form, source, main, picker)?;
+    let text = write_net::<T>(alloc, &made.net)?;
+    Ok(text)
 }

@@ -5,7 +5,6 @@ ghost use Rattle.est_kernel.specs.Plain.{program_of};
 ghost use Rattle.net_ir.specs.Runs.{netlist_of};
 ghost use Rattle.cec_compile.specs.Following.{FollowsGraph};
 ghost use Rattle.cec_compile.specs.Refusals.{IsRefused};
-ghost use Rattle.cec_compile.specs.WireGroups.{GivesMembers, is_shared};
 ghost use Rattle.cec_opt_sources.specs.SmallTexts.{StandsForSmallNet, StandsForSmallBlif, StandsForSmallC};
 ghost use Rattle.cec_opt_sources.specs.SmallTexts.{StandsForSmallVerilog, IsSmallSource, IsSmallBlifOf, IsSmallCOf};
 ghost use Rattle.cec_opt_sources.specs.SmallTexts.{IsSmallVerilogOf};
@@ -105,8 +104,6 @@ pub fn small_net<P: Picker>(
     ensures compiles { IfOk result (λ s. StandsForSmallNet text.now
         (option_map (λ m. m.now) main.entry) (netlist_of s.net)) }
     ensures made { IfOk result (IsSmallSource text.now (option_map (λ m. m.now) main.entry)) }
-    ensures members { IfOk result (λ s. GivesMembers (is_shared s.compiled.graph)
-        (program_of s.compiled.graph.program) s.compiled.members) }
     ensures follows { IfOk result (λ s. FollowsGraph s.compiled) }
     ensures refuses { IfErr result (IsRefused text.now (option_map (λ m. m.now) main.entry)) }
 {

@@ -2,4 +2,3 @@ pub mod Contents
 pub mod Writings
 pub mod ErrorLines
 pub mod NetWriting
-pub mod CollectedBytes

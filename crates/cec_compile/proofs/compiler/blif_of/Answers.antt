@@ -1,11 +1,14 @@
 use Rattle.std.specs.Prelude.{option_map}
+use Rattle.std.proofs.lemmas.Result.{IfOk-weaker}
 use Rattle.cec_compile.proofs.NetTexts.{blif_answers}
 use Rattle.cec_compile.proofs.compiler.blif_of.Goals as goal
 
-pub returns-in-Ok-clause-compiles : goal.returns-in-Ok-clause-compiles
-returns-in-Ok-clause-compiles g c =
-    (blif_answers c.args.text.now (option_map (λ m. m.now) c.args.main) c.in-Ok.written.items c.in-Ok.ensures.written).0
+pub returns-clause-compiles : goal.returns-clause-compiles
+returns-clause-compiles g c =
+    IfOk-weaker c.text_of.result _ _ (λ text written. (blif_answers c.args.text.now (option_map (λ m. m.now) c.args.main) text.items written).0)
+    c.text_of.ensures.written
 
-pub returns-in-Ok-clause-made : goal.returns-in-Ok-clause-made
-returns-in-Ok-clause-made g c =
-    (blif_answers c.args.text.now (option_map (λ m. m.now) c.args.main) c.in-Ok.written.items c.in-Ok.ensures.written).1
+pub returns-clause-made : goal.returns-clause-made
+returns-clause-made g c =
+    IfOk-weaker c.text_of.result _ _ (λ text written. (blif_answers c.args.text.now (option_map (λ m. m.now) c.args.main) text.items written).1)
+    c.text_of.ensures.written

@@ -1,6 +1,6 @@
 use Rattle.std.proofs.Common.{sym, subst}
 use Rattle.cec_compile.specs.Compiling.{IsCompiled}
-use Rattle.cec_compile.specs.WireGroups.{GivesMembers, SharesWires, is_shared}
+use Rattle.cec_compile.specs.WireGroups.{SharesWires, is_shared}
 use Rattle.cec_compile.proofs.Joined.{own_graph, compiled_stands}
 use Rattle.cec_compile.proofs.passes.compile.Goals as goal
 
@@ -19,9 +19,3 @@ pub returns-clause-shares : goal.returns-clause-shares
 returns-clause-shares g c =
     let e = c.in_ok-compiled.ensures in
     subst (λ p. SharesWires p (is_shared c.in_ok-compiled.compiled.graph)) (sym e.compiled.program) e.shares
-
-pub returns-clause-members : goal.returns-clause-members
-returns-clause-members g c =
-    let e = c.in_ok-compiled.ensures in
-    let made = c.in_ok-compiled.compiled in
-    subst (λ p. GivesMembers (is_shared made.graph) p made.members) (sym e.compiled.program) e.members

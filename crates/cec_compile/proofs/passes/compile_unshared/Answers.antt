@@ -1,5 +1,5 @@
 use Rattle.std.proofs.Common.{◌≡◌, Bool, false, refl, sym, ap, subst}
-use Rattle.std.specs.Prelude.{None, is_some}
+use Rattle.std.specs.Prelude.{is_some}
 use Rattle.est_kernel.specs.Plain.{program_of}
 use Rattle.cec_compile.specs.Compiling.{StandsForNet}
 use Rattle.cec_compile.specs.Following.{FollowsGraph}
@@ -19,12 +19,12 @@ returns-clause-compiles g c =
     let found = c.in_ok-found.found in
     subst (StandsForNet _ _) (sym c.compiled_of.ensures)
     (compiled_stands _ _ found
-    (record { graph = found.graph; members = None; order = c.in_ok-made.made.order; net = c.in_ok-made.made.net })
-    c.in_ok-found.ensures.compiles refl (c.in_ok-made.ensures.compiled None))
+    (record { graph = found.graph; order = c.in_ok-made.made.order; net = c.in_ok-made.made.net })
+    c.in_ok-found.ensures.compiles refl c.in_ok-made.ensures.compiled)
 
 pub returns-clause-own : goal.returns-clause-own
 returns-clause-own g c =
     subst (λ (k : Compiled). is_shared k.graph ≡ false) (sym c.compiled_of.ensures) (ap is_some c.in_ok-found.ensures.compiles.graphed.graph.own)
 
 pub returns-clause-follows : goal.returns-clause-follows
-returns-clause-follows g c = subst FollowsGraph (sym c.compiled_of.ensures) (c.in_ok-made.ensures.follows None)
+returns-clause-follows g c = subst FollowsGraph (sym c.compiled_of.ensures) c.in_ok-made.ensures.follows

@@ -1,12 +1,11 @@
 use Rattle.std.proofs.Common.{◌≡◌, sym, ap, subst}
-use Rattle.std.specs.Prelude.{None, is_some}
 use Rattle.est_kernel.specs.Plain.{program_of}
 use Rattle.est_kernel.proofs.Exports.{trees_are_kernels_lem}
 use Rattle.grc_share.specs.SharedGraphForms.{IsSharedOrFull}
 use Rattle.cec_compile.specs.GraphsMade.{IsRanked}
-use Rattle.cec_compile.specs.WireGroups.{GivesMembers, SharesWires, is_shared}
-use Rattle.cec_compile.specs.declared.passes.Sharing.{Sharing}
-use Rattle.cec_compile.proofs.Joined.{own_gives, own_ranked, own_shares, shared_gives, shared_rank, shared_ranked, shared_shares}
+use Rattle.cec_compile.specs.WireGroups.{SharesWires, is_shared}
+use Rattle.cec_compile.specs.declared.passes.Graphed.{Graphed}
+use Rattle.cec_compile.proofs.Joined.{own_ranked, own_shares, shared_rank, shared_ranked, shared_shares}
 use Rattle.cec_compile.proofs.passes.shared_where_possible.Goals as goal
 
 pub returns-in-Shared-clause-ranked : goal.returns-in-Shared-clause-ranked
@@ -16,7 +15,7 @@ returns-in-Shared-clause-ranked c =
     let is = subst (IsSharedOrFull given.graph) c.in-Shared.is c.in_ok-shared.ensures.found in
     let ranked = shared_rank p c.in-Shared.shared c.shared_ranks_go_up.ensures (trees_are_kernels_lem given.graph.program.body)
     c.requires.formed.body is in
-    subst (λ (s : Sharing). IsRanked s.ranked p) (sym c.sharing_of.ensures)
+    subst (λ (g : Graphed). IsRanked g p) (sym c.ranked_of.ensures)
     (shared_ranked given c.in-Shared.shared c.requires ranked c.shared_orders_are_reading_orders.ensures is)
 
 pub returns-in-Shared-clause-shares : goal.returns-in-Shared-clause-shares
@@ -24,14 +23,14 @@ returns-in-Shared-clause-shares c =
     let given = c.args.found in
     let p = program_of given.graph.program in
     let is = subst (IsSharedOrFull given.graph) c.in-Shared.is c.in_ok-shared.ensures.found in
-    subst (λ (s : Sharing). SharesWires p (is_shared s.ranked.graph)) (sym c.sharing_of.ensures) (shared_shares p c.in-Shared.shared is
+    subst (λ (g : Graphed). SharesWires p (is_shared g.graph)) (sym c.ranked_of.ensures) (shared_shares p c.in-Shared.shared is
     (shared_rank p c.in-Shared.shared c.shared_ranks_go_up.ensures (trees_are_kernels_lem given.graph.program.body) c.requires.formed.body is))
 
 pub returns-in-Shared-clause-program : goal.returns-in-Shared-clause-program
 returns-in-Shared-clause-program c =
     let given = c.args.found in
     let is = subst (IsSharedOrFull given.graph) c.in-Shared.is c.in_ok-shared.ensures.found in
-    subst (λ (s : Sharing). program_of s.ranked.graph.program ≡ program_of given.graph.program) (sym c.sharing_of.ensures) is.program
+    subst (λ (g : Graphed). program_of g.graph.program ≡ program_of given.graph.program) (sym c.ranked_of.ensures) is.program
 
 pub returns-in-Full-clause-ranked : goal.returns-in-Full-clause-ranked
 returns-in-Full-clause-ranked c =
@@ -46,18 +45,3 @@ returns-in-Full-clause-shares c =
     let p = program_of given.graph.program in
     let is = subst (IsSharedOrFull given.graph) c.in-Full.is c.in_ok-shared.ensures.found in
     subst (λ g. SharesWires p (is_shared g)) (sym is.0) (own_shares given p _ c.requires is.1)
-
-pub returns-in-Full-clause-members : goal.returns-in-Full-clause-members
-returns-in-Full-clause-members c =
-    let given = c.args.found in
-    let p = program_of given.graph.program in
-    let is = subst (IsSharedOrFull given.graph) c.in-Full.is c.in_ok-shared.ensures.found in
-    subst (λ g. GivesMembers (is_shared g) p None) (sym is.0) (own_gives given.graph p (ap is_some c.requires.graph.own))
-
-pub returns-in-Shared-clause-members : goal.returns-in-Shared-clause-members
-returns-in-Shared-clause-members c =
-    let given = c.args.found in
-    let p = program_of given.graph.program in
-    let shared = c.in-Shared.shared in
-    let is = subst (IsSharedOrFull given.graph) c.in-Shared.is c.in_ok-shared.ensures.found in
-    subst (λ (s : Sharing). GivesMembers (is_shared s.ranked.graph) p s.members) (sym c.sharing_of.ensures) (shared_gives p shared is shared.each)
