@@ -12,24 +12,19 @@
 //
 // `made` encodes the state where that is asked for, and `source_texts` writes the netlist in a form.
 
-ghost use Rattle.std.specs.Prelude.{◌≡◌, ◌≤◌, false, length, map, IfOk, IfErr, option_map};
+ghost use Rattle.std.specs.Prelude.{◌≡◌, ◌≤◌, false, length, IfOk, IfErr, option_map};
 ghost use Rattle.est_kernel.specs.CodeLists.{AreCodesOf};
 ghost use Rattle.est_kernel.specs.Plain.{program_of, term_of};
 ghost use Rattle.est_kernel.specs.StaticCodes.{NoInstantLoop};
 ghost use Rattle.est_kernel.specs.WellFormed.{IsWellFormed, HasNames};
 ghost use Rattle.grc_graph.specs.GraphRuns.{program_edges};
 ghost use Rattle.grc_graph.specs.NumberedEdges.{AreEdgesOf};
-ghost use Rattle.grc_graph.specs.PlainGraphs.{formula_of, instances_of, names_of};
-ghost use Rattle.grc_graph.specs.Reads.{IsReadingOrder};
+ghost use Rattle.grc_graph.specs.PlainGraphs.{names_of};
 ghost use Rattle.grc_graph.specs.WireOrders.{AreRanks};
-ghost use Rattle.net_gen.specs.Costs.{linear_bound};
-ghost use Rattle.net_ir.specs.Gates.{carried};
-ghost use Rattle.net_ir.specs.Runs.{netlist_of};
-ghost use Rattle.net_simp.specs.SimpleNets.{IsSimple};
 ghost use Rattle.cec_compile.specs.Compiling.{IsGraphed, IsCompiled, StandsForGraph, StandsForNet};
 ghost use Rattle.cec_compile.specs.Following.{FollowsGraph};
 ghost use Rattle.cec_compile.specs.Graphs.{IsBuilt};
-ghost use Rattle.cec_compile.specs.GraphsMade.{IsOwnOrShared, IsRanked};
+ghost use Rattle.cec_compile.specs.GraphsMade.{IsRanked};
 ghost use Rattle.cec_compile.specs.Refusals.{DoesNotCompile, IsRefused};
 ghost use Rattle.cec_compile.specs.WireGroups.{SharesWires, is_shared};
 
@@ -80,9 +75,8 @@ pub fn compile<P: Picker>(
     ensures follows { IfOk result FollowsGraph }
     ensures refuses { IfErr result (IsRefused text.now (option_map (λ m. m.now) main.entry)) }
 {
-    let found = source_graph(alloc, text, main)?;
-    let compiled = compile_graph(alloc, found, picker)?;
-    Ok(compiled)
+    let analysed = analyse(alloc, text, main)?;
+    compile_program(alloc, analysed, picker)
 }
 
 /// A kernel program with its static codes, compiled: the same, from the pass after `analyse` on. It is refused where a
@@ -97,36 +91,14 @@ pub fn compile_program<P: Picker>(
     requires no_loop { NoInstantLoop (term_of analysed.program.body) }
     requires codes { AreCodesOf analysed.codes (term_of analysed.program.body) }
     ensures compiled { IfOk result (λ c. IsCompiled c (program_of analysed.program)) }
+    ensures shares { IfOk result (λ c. SharesWires (program_of c.graph.program) (is_shared c.graph)) }
+    ensures follows { IfOk result FollowsGraph }
     ensures refuses { IfErr result (DoesNotCompile (program_of analysed.program)) }
 {
     let found = program_graph(alloc, analysed)?;
-    let compiled = compile_graph(alloc, found, picker)?;
-    Ok(compiled)
-}
-
-// A compiled program from its graph on.
-fn compile_graph<P: Picker>(
-    alloc: Global,
-    found: Graphed,
-    picker: &mut P,
-) -> Result<Compiled, NoMemory>
-    requires { IsGraphed found (program_of found.graph.program) }
-    ensures compiled { IfOk result (λ c. IsCompiled c (program_of found.graph.program)) }
-    ensures shares { IfOk result (λ c. SharesWires (program_of found.graph.program) (is_shared c.graph)) }
-    ensures follows { IfOk result FollowsGraph }
-{
     let shared = shared_where_possible(alloc, found)?;
-    let made = ordered_net(alloc, &shared, picker)?;
-    Ok(compiled_of(shared, made))
-}
-
-// A compiled program, of these parts.
-fn compiled_of(ranked: Graphed, made: OrderedNet) -> Compiled
-    ensures { result ≡ record { graph = ranked.graph; order = made.order; net = made.net } }
-{
-    let Graphed { graph, .. } = ranked;
-    let OrderedNet { order, net } = made;
-    Compiled { graph, order, net }
+    let compiled = compile_graph(alloc, shared, picker)?;
+    Ok(compiled)
 }
 
 /// A source compiled by its program's own graph, whose wires are not shared. The errors are those of `blif_of`.
@@ -143,8 +115,8 @@ pub fn compile_unshared<P: Picker>(
     ensures refuses { IfErr result (IsRefused text.now (option_map (λ m. m.now) main.entry)) }
 {
     let found = source_graph(alloc, text, main)?;
-    let made = ordered_net(alloc, &found, picker)?;
-    Ok(compiled_of(found, made))
+    let compiled = compile_graph(alloc, found, picker)?;
+    Ok(compiled)
 }
 
 // The graph of the shared wires, where the edges between these have no cycle, else the program's own as it is.
@@ -187,47 +159,22 @@ fn ranked_of(shared: SharedGraph) -> Graphed
     }
 }
 
-/// An evaluation order of a graph's wires, and the simplified netlist along it.
-#[derive(Drop)]
-struct OrderedNet {
-    order: Order,
-    net: Net,
-}
-
-// The order that the picker makes of a graph, and its netlist.
-fn ordered_net<P: Picker>(
+// A graph with an evaluation order, which the picker chooses, and its simplified netlist.
+fn compile_graph<P: Picker>(
     alloc: Global,
-    found: &Graphed,
+    found: Graphed,
     picker: &mut P,
-) -> Result<OrderedNet, NoMemory>
-    requires { IsRanked found.now (program_of found.now.graph.program) }
-    ensures compiled { IfOk result (λ made. IsCompiled
-        (record { graph = found.now.graph; order = made.order; net = made.net })
-        (program_of found.now.graph.program)) }
-    ensures follows { IfOk result (λ made. FollowsGraph
-        (record { graph = found.now.graph; order = made.order; net = made.net })) }
+) -> Result<Compiled, NoMemory>
+    requires { IsRanked found (program_of found.graph.program) }
+    ensures graph { IfOk result (λ c. c.graph ≡ found.graph) }
+    ensures compiled { IfOk result (λ c. IsCompiled c (program_of found.graph.program)) }
+    ensures follows { IfOk result FollowsGraph }
 {
     let order = order(alloc, &found.edges, &found.ranks, picker)?;
-    let net = graph_net(alloc, &found.graph, &order)?;
-    Ok(OrderedNet { order, net })
-}
-
-// The simplified netlist of a graph along an order in which its equations read.
-fn graph_net(alloc: Global, graph: &Graph, order: &Order) -> Result<Net, NoMemory>
-    requires names { HasNames (program_of graph.now.program) }
-    requires graph { IsOwnOrShared graph.now (program_of graph.now.program) }
-    requires order { IsReadingOrder (names_of graph.now)
-        (map (formula_of (instances_of graph.now) (names_of graph.now)) graph.now.equations.items)
-        order.now.list.items }
-    ensures order { IfOk result (λ net. carried net.gates.items ≡ map (λ v. v.0) order.now.list.items) }
-    ensures linear { IfOk result (λ net. length net.gates.items ≤ linear_bound (program_of graph.now.program)) }
-    ensures follows { IfOk result (λ net. FollowsGraph
-        (record { graph = graph.now; order = order.now; net = net })) }
-    ensures simple { IfOk result (λ net. IsSimple (netlist_of net)) }
-{
-    let drawn = generate(alloc, graph, order)?;
+    let drawn = generate(alloc, &found.graph, &order)?;
     let net = simplify(alloc, drawn)?;
-    Ok(net)
+    let Graphed { graph, .. } = found;
+    Ok(Compiled { graph, order, net })
 }
 
 /// The graph of a source, whose dependencies have no cycle. The errors are those of `blif_of`.

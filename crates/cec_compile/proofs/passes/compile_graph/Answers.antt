@@ -1,29 +1,20 @@
-use Rattle.std.proofs.Common.{sym, subst}
-use Rattle.est_kernel.specs.Plain.{program_of}
-use Rattle.cec_compile.specs.Compiling.{IsCompiled}
-use Rattle.cec_compile.specs.Following.{FollowsGraph}
-use Rattle.cec_compile.specs.GraphsMade.{IsRanked}
-use Rattle.cec_compile.specs.WireGroups.{SharesWires, is_shared}
-use Rattle.cec_compile.specs.declared.passes.Compiled.{Compiled}
+use Rattle.std.proofs.Common.{◌∙◌, arith}
+use Rattle.cec_compile.proofs.Joined.{compiled_is, simplified_follows}
 use Rattle.cec_compile.proofs.passes.compile_graph.Goals as goal
 
-pub ordered_net-requires : goal.ordered_net-requires
-ordered_net-requires g c =
-    let e = c.in_ok-shared.ensures in
-    subst (IsRanked c.in_ok-shared.shared) (sym e.program) e.ranked
+pub generate-requires-clause-order : goal.generate-requires-clause-order
+generate-requires-clause-order g c = c.requires.orders c.in_ok-order.order.list.items c.in_ok-order.ensures
+
+pub returns-clause-follows : goal.returns-clause-follows
+returns-clause-follows g c =
+    let e = c.in_ok-drawn.ensures in
+    let f = c.in_ok-net.ensures in
+    simplified_follows c.args.found.graph c.in_ok-order.order c.in_ok-drawn.drawn c.in_ok-net.net c.requires.graph e.interface e.size e.instants e.runs
+    f.parts f.instants f.runs
 
 pub returns-clause-compiled : goal.returns-clause-compiled
 returns-clause-compiled g c =
-    let s = c.in_ok-shared.shared in
-    let made = c.in_ok-made.made in
-    let whole : Compiled = record { graph = s.graph; order = made.order; net = made.net } in
-    subst (λ k. IsCompiled k (program_of c.args.found.graph.program)) (sym c.compiled_of.ensures)
-    (subst (IsCompiled whole) c.in_ok-shared.ensures.program c.in_ok-made.ensures.compiled)
-
-pub returns-clause-shares : goal.returns-clause-shares
-returns-clause-shares g c =
-    subst (λ (k : Compiled). SharesWires (program_of c.args.found.graph.program) (is_shared k.graph)) (sym c.compiled_of.ensures)
-    c.in_ok-shared.ensures.shares
-
-pub returns-clause-follows : goal.returns-clause-follows
-returns-clause-follows g c = subst FollowsGraph (sym c.compiled_of.ensures) c.in_ok-made.ensures.follows
+    let e = c.in_ok-drawn.ensures in
+    let f = c.in_ok-net.ensures in
+    compiled_is c.args.found c.in_ok-order.order c.in_ok-net.net c.requires c.in_ok-order.ensures (f.parts.carries ∙ e.order)
+    (omega (arith, f.parts.fewer, e.linear)) (returns-clause-follows g c) f.simple
