@@ -113,21 +113,27 @@ fn graph_parts(alloc: Global, graph: &Graph, shared: SharedWires) -> Result<Grap
     requires found { AreFound graph.now shared }
     ensures { IfOk result (AreGraphParts graph.now) }
 {
-    let instances = shared_instances(alloc, graph, &shared.instances)?;
+    let SharedWires {
+        least,
+        numbers,
+        instances: own,
+        loops,
+    } = shared;
+    let instances = shared_instances(alloc, graph, &own)?;
     let numbers = Numbers {
-        least: &shared.instances,
+        least: &own,
         instances: &instances.numbers,
-        wires: &shared.numbers,
+        wires: &numbers,
     };
-    let named = name_parts(alloc, graph, &shared.least, &numbers)?;
-    let formulas = shared_formulas(alloc, graph, &shared.least, &numbers)?;
+    let named = name_parts(alloc, graph, &least, &numbers)?;
+    let formulas = shared_formulas(alloc, graph, &least, &numbers)?;
     let tables = place_tables(
         alloc,
         graph,
         &numbers,
         &instances.list,
-        shared.least.len() as u32,
-        shared.loops,
+        least.len() as u32,
+        loops,
     )?;
     Ok(GraphParts {
         instances: instances.list,

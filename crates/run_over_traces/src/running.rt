@@ -20,7 +20,7 @@ use std::alloc::Global;
 use thiserror::Error;
 
 /// What a trace and the lines are read and written by.
-#[derive(Debug, Drop)]
+#[derive(Drop)]
 pub struct Interface {
     /// The names of the given signals, in order.
     pub given: Vec<Text>,

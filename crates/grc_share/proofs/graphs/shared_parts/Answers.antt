@@ -5,8 +5,8 @@ use Rattle.grc_share.specs.SharedNumbers.{IsSharedAnswer}
 use Rattle.grc_share.proofs.SharedPairing.{ranks-along}
 use Rattle.grc_share.proofs.graphs.shared_parts.Goals as goal
 
-pub returns-clause-found : goal.returns-clause-found
-returns-clause-found c =
+pub returns-in_ok-parts-in-Ranks-clause-found : goal.returns-in_ok-parts-in-Ranks-clause-found
+returns-in_ok-parts-in-Ranks-clause-found c =
     let g = c.args.graph.now in
     let p = program_of g.program in
     let found = subst (IsSharedAnswer p) c.in-Ranks.is c.in_ok-walk.ensures.found in
