@@ -1,5 +1,5 @@
 -- What the answers of the steps say of the whole call.
-use Rattle.std.proofs.Common.{◌≡◌, ℕ, ◌≤◌, Bool, false, List, [], length, Option, Some, None, Err, inl, inr, refl, sym, subst}
+use Rattle.std.proofs.Common.{◌≡◌, ℕ, ◌≤◌, Bool, false, List, [], length, Option, Some, None, Ok, Err, inl, inr, refl, sym, subst}
 use Rattle.std.proofs.lemmas.Bool.{false≢true}
 use Rattle.base_types.specs.declared.bounds.TheConstants.Limits.{SOURCE_BYTES, TEXT_BYTES}
 use Rattle.base_types.specs.declared.files.reading.FileFault as unread
@@ -295,17 +295,17 @@ file_agrees content name Says WriteFault bytes held says apart = (bytes, held, s
 file_agrees content name Says NoMemory bytes held says apart = (bytes, held, says)
 
 pub read_agrees : (content : Content) (task : Task) (given : List GivenRelation) (name : List ℕ) (outcome : OptOutcome) (text : List ℕ)
-    → IsHeld content name text → SaysOf task given outcome text → IsOptOutcomeOf (Some (Do task given name)) content outcome
+    → IsHeld content name text → SaysOf task given outcome text → IsOptOutcomeOf (Ok (Do task given name)) content outcome
 read_agrees content task given name outcome text held says = file_agrees content name (SaysOf task given) outcome text held says (λ none. none)
 
 pub source_agrees : (content : Content) (task : Task) (name : List ℕ) (main : Option (List ℕ)) (outcome : OptOutcome) (source : List ℕ)
-    → IsHeld content name source → SourceSays task main outcome source → IsOptOutcomeOf (Some (Make task name main)) content outcome
+    → IsHeld content name source → SourceSays task main outcome source → IsOptOutcomeOf (Ok (Make task name main)) content outcome
 source_agrees content task name main outcome source held says =
     file_agrees content name (SourceSays task main) outcome source held says (λ none. none)
 
 pub read_counts : (task : Task) (given : List GivenRelation) (name : List ℕ) (outcome : OptOutcome) (text : List ℕ) (before now : ℕ)
     (failed_before failed_now : List ℕ) → SaysOf task given outcome text → KeepsFaults before now failed_before failed_now
-    → CountsFiles (Some (Do task given name)) outcome before now failed_before failed_now
+    → CountsFiles (Ok (Do task given name)) outcome before now failed_before failed_now
 read_counts task given name Done text before now failed_before failed_now says k = k
 read_counts task given name Usage text before now failed_before failed_now says k = k
 read_counts task given name FileFault text before now failed_before failed_now says k = absurd says
@@ -322,7 +322,7 @@ read_counts task given name NoMemory text before now failed_before failed_now sa
 
 pub source_read_counts : (task : Task) (name : List ℕ) (main : Option (List ℕ)) (outcome : OptOutcome) (source : List ℕ) (before now : ℕ)
     (failed_before failed_now : List ℕ) → SourceSays task main outcome source → KeepsFaults before now failed_before failed_now
-    → CountsFiles (Some (Make task name main)) outcome before now failed_before failed_now
+    → CountsFiles (Ok (Make task name main)) outcome before now failed_before failed_now
 source_read_counts task name main Done source before now failed_before failed_now says k = k
 source_read_counts task name main Usage source before now failed_before failed_now says k = k
 source_read_counts task name main FileFault source before now failed_before failed_now says k = absurd says
@@ -345,13 +345,13 @@ answer_as (Reset options coding) P Q s outcome f l = texts.text_as P Q s (writte
 answer_as Check P Q s outcome f l = texts.text_as P Q s (written_of outcome) f l
 
 pub read_out : (content : Content) (task : Task) (given : List GivenRelation) (name : List ℕ) (outcome : OptOutcome) (text : List ℕ) (s : SinkChange)
-    → IsHeld content name text → LeavesAnswer task (IsAnswer task text given) s outcome → GainsOut (Some (Do task given name)) content outcome s
+    → IsHeld content name text → LeavesAnswer task (IsAnswer task text given) s outcome → GainsOut (Ok (Do task given name)) content outcome s
 read_out content task given name outcome text s held l =
     answer_as task (IsAnswer task text given) (IsTextOf task given name content) s outcome (λ written is. (text, held, is)) l
 
 pub source_out : (content : Content) (task : Task) (name : List ℕ) (main : Option (List ℕ)) (outcome : OptOutcome) (source : List ℕ) (s : SinkChange)
     → IsHeld content name source → LeavesSourceAnswer task source main s outcome
-    → GainsOut (Some (Make task name main)) content outcome s
+    → GainsOut (Ok (Make task name main)) content outcome s
 source_out content task name main outcome source s held l =
     answer_as task (IsSourceTextBy outcome task source main) (IsSourceTextOf outcome task name main content) s outcome
     (λ written is. (source, held, is)) l
@@ -389,33 +389,33 @@ none_waits progress s line gains = record { waits = false; wanted = λ waits. ab
 -- ---- a file that was not read
 
 pub unread_agrees : (content : Content) (task : Task) (given : List GivenRelation) (name : List ℕ) (fault : unread.FileFault)
-    → Reads content name TEXT_BYTES (Err fault) → IsOptOutcomeOf (Some (Do task given name)) content (unread_outcome fault)
+    → Reads content name TEXT_BYTES (Err fault) → IsOptOutcomeOf (Ok (Do task given name)) content (unread_outcome fault)
 unread_agrees content task given name reading.Failed read = tt
 unread_agrees content task given name reading.TooLong read = long_unread content name TEXT_BYTES read
 unread_agrees content task given name reading.NoMemory read = some_bytes content name
 
 pub source_unread_agrees : (content : Content) (task : Task) (name : List ℕ) (main : Option (List ℕ)) (fault : unread.FileFault)
-    → Reads content name SOURCE_BYTES (Err fault) → IsOptOutcomeOf (Some (Make task name main)) content (source_unread_outcome fault)
+    → Reads content name SOURCE_BYTES (Err fault) → IsOptOutcomeOf (Ok (Make task name main)) content (source_unread_outcome fault)
 source_unread_agrees content task name main reading.Failed read = tt
 source_unread_agrees content task name main reading.TooLong read = long_unread content name SOURCE_BYTES read
 source_unread_agrees content task name main reading.NoMemory read = some_bytes content name
 
 pub unread_counts : (task : Task) (given : List GivenRelation) (name : List ℕ) (fault : unread.FileFault) (before now : ℕ)
     (failed_before failed_now : List ℕ) → Counts before now failed_before failed_now name (Err fault)
-    → CountsFiles (Some (Do task given name)) (unread_outcome fault) before now failed_before failed_now
+    → CountsFiles (Ok (Do task given name)) (unread_outcome fault) before now failed_before failed_now
 unread_counts task given name reading.Failed before now failed_before failed_now k = k
 unread_counts task given name reading.TooLong before now failed_before failed_now k = k
 unread_counts task given name reading.NoMemory before now failed_before failed_now k = k
 
 pub source_unread_counts : (task : Task) (name : List ℕ) (main : Option (List ℕ)) (fault : unread.FileFault) (before now : ℕ)
     (failed_before failed_now : List ℕ) → Counts before now failed_before failed_now name (Err fault)
-    → CountsFiles (Some (Make task name main)) (source_unread_outcome fault) before now failed_before failed_now
+    → CountsFiles (Ok (Make task name main)) (source_unread_outcome fault) before now failed_before failed_now
 source_unread_counts task name main reading.Failed before now failed_before failed_now k = k
 source_unread_counts task name main reading.TooLong before now failed_before failed_now k = k
 source_unread_counts task name main reading.NoMemory before now failed_before failed_now k = k
 
 pub unread_out : (content : Content) (task : Task) (given : List GivenRelation) (name : List ℕ) (fault : unread.FileFault) (s : SinkChange)
-    → Appends s.before s.after s.faults_before s.faults_now [] → GainsOut (Some (Do task given name)) content (unread_outcome fault) s
+    → Appends s.before s.after s.faults_before s.faults_now [] → GainsOut (Ok (Do task given name)) content (unread_outcome fault) s
 unread_out content (Write form) given name reading.Failed s a = a
 unread_out content (Write form) given name reading.TooLong s a = a
 unread_out content (Write form) given name reading.NoMemory s a = inl a
@@ -430,7 +430,7 @@ unread_out content Check given name reading.TooLong s a = a
 unread_out content Check given name reading.NoMemory s a = a
 
 pub source_unread_out : (content : Content) (task : Task) (name : List ℕ) (main : Option (List ℕ)) (fault : unread.FileFault) (s : SinkChange)
-    → Appends s.before s.after s.faults_before s.faults_now [] → GainsOut (Some (Make task name main)) content (source_unread_outcome fault) s
+    → Appends s.before s.after s.faults_before s.faults_now [] → GainsOut (Ok (Make task name main)) content (source_unread_outcome fault) s
 source_unread_out content (Write form) name main reading.Failed s a = a
 source_unread_out content (Write form) name main reading.TooLong s a = a
 source_unread_out content (Write form) name main reading.NoMemory s a = inl a
@@ -452,7 +452,7 @@ source_unread_err progress content name main reading.TooLong s gains = record { 
 source_unread_err progress content name main reading.NoMemory s gains = record { source = []; held = tt; gains = none_waits progress s _ gains }
 
 -- no request ends as words without a meaning do
-pub no_usage : (request : Request) (content : Content) → IsOptOutcomeOf (Some request) content Usage → ⊥
+pub no_usage : (request : Request) (content : Content) → IsOptOutcomeOf (Ok request) content Usage → ⊥
 no_usage (Tell about) content a = a
 no_usage (Do task given name) content a = a.2
 no_usage (Make task name main) content a = a.2
