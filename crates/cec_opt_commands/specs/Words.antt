@@ -1,5 +1,5 @@
 -- To believe: what the words of a command line ask for, or what is wrong with them.
-use Rattle.std.specs.Prelude.{ℕ, Bool, true, false, not, ◌||◌, if◌then◌else◌, List, [], ◌∷◌, ◌++◌, codes, Option, Some}
+use Rattle.std.specs.Prelude.{ℕ, Bool, false, not, ◌||◌, if◌then◌else◌, List, [], ◌∷◌, ◌++◌, codes, Option, Some}
 use Rattle.std.specs.Prelude.{None, is_some, option_map, ok_or, Result, Ok, Err}
 use Rattle.base_types.specs.Names.{is_same_name}
 use Rattle.csub_embed.specs.declared.layout.EmbedLayout.{EmbedLayout}

@@ -1,5 +1,5 @@
 -- Worked words that give relations of inputs, by hand, and what is amiss with others.
-use Rattle.std.proofs.Common.{◌≡◌, ℕ, List, [], ◌∷◌, map, None, Ok, Err, codes, refl}
+use Rattle.std.proofs.Common.{◌≡◌, [], ◌∷◌, map, None, Ok, Err, codes, refl}
 use Rattle.cec_opt_texts.specs.Related.{Never, Implication}
 use Rattle.cec_opt_commands.specs.Relations.{given_by, rest_by}
 use Rattle.cec_opt_commands.specs.Words.{Make, Do, Check, request_by}
