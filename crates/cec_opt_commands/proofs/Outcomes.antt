@@ -16,22 +16,12 @@ use Rattle.cec_cycles.specs.Constructive.{IsOtherRefusal, IsRefusedConstructive,
 use Rattle.cec_cycles.specs.declared.findings.CycleRefusal.{CycleRefusal}
 use Rattle.cec_cycles.specs.declared.findings.CycleRefusal.TheVariants as causes
 use Rattle.cec_cycles.specs.declared.findings.Stuck.{Stuck}
-use Rattle.cec_opt_embed.specs.Faults.{IsSourceEmbedFault, IsTextEmbedFault}
-use Rattle.cec_opt_embed.specs.declared.faults.SourceEmbedFault.{SourceEmbedFault}
-use Rattle.cec_opt_embed.specs.declared.faults.SourceEmbedFault.TheVariants as source_faults
-use Rattle.cec_opt_embed.specs.declared.faults.TextEmbedFault.{TextEmbedFault}
-use Rattle.cec_opt_embed.specs.declared.faults.TextEmbedFault.TheVariants as text_faults
+use Rattle.cec_opt_faults.specs.Causes.{IsSourceCause, IsUnmade}
+use Rattle.cec_opt_faults.specs.declared.unmade.Unmade.{Unmade}
+use Rattle.cec_opt_faults.specs.declared.unmade.Unmade.TheVariants.{NoNet, NoText}
 use Rattle.cec_opt_texts.specs.Faults.{IsGivenFault}
 use Rattle.cec_opt_texts.specs.Related.{GivenRelation}
 use Rattle.cec_opt_texts.specs.declared.fault.OptFault.{OptFault}
-use Rattle.csub_embed.specs.declared.layout.EmbedLayout.{EmbedLayout}
-use Rattle.vlog_reset.specs.Options.{ModuleOptions}
-use Rattle.cec_opt_sources.specs.declared.light.Coding.{Coding}
-use Rattle.cec_opt_reset.specs.Faults.{IsSourceResetFault, IsTextResetFault}
-use Rattle.cec_opt_reset.specs.declared.faults.SourceResetFault.{SourceResetFault}
-use Rattle.cec_opt_reset.specs.declared.faults.SourceResetFault.TheVariants as source_names
-use Rattle.cec_opt_reset.specs.declared.faults.TextResetFault.{TextResetFault}
-use Rattle.cec_opt_reset.specs.declared.faults.TextResetFault.TheVariants as text_names
 use Rattle.cec_text_io.proofs.Pieces as texts
 use Rattle.cec_text_io.proofs.Exports.{long_unread, some_bytes}
 use Rattle.cec_text_io.specs.Contents.{Content, IsHeld}
@@ -43,9 +33,9 @@ use Rattle.cec_opt_commands.specs.Answers.{IsAnswer, IsSourceAnswer}
 use Rattle.cec_opt_commands.specs.Lines.{GainsAfter, GainsSourceErr, SpeaksOf, line_of, source_subject}
 use Rattle.cec_opt_commands.specs.Outcomes.{HasNet, SaysOf, IsConstructible, SourceSays, AgreesOnFile, IsWriting, IsOptOutcomeOf}
 use Rattle.cec_opt_commands.specs.Outcomes.{CountsFiles, LeavesAnswer, LeavesSourceAnswer, IsTextOf, IsSourceTextBy, IsSourceTextOf, GainsOut}
-use Rattle.cec_opt_commands.specs.Stopping.{IsEmbedStopOutcome, IsRefusedOutcome, IsResetStopOutcome}
+use Rattle.cec_opt_commands.specs.Stopping.{IsRefusedOutcome, IsUnmadeOutcome}
 use Rattle.cec_opt_commands.specs.Statuses.{written_of, written_outcome, stop_outcome, unread_outcome, refusal_outcome, source_unread_outcome, stuck_outcome}
-use Rattle.cec_opt_commands.specs.Statuses.{embed_outcome, reset_outcome}
+use Rattle.cec_opt_commands.specs.Statuses.{unmade_outcome}
 use Rattle.cec_opt_commands.specs.Words.{Request, Task, Tell, Do, Make, Write, Embed, Reset, Check}
 use Rattle.cec_opt_commands.specs.declared.outcome.OptOutcome.{OptOutcome}
 use Rattle.cec_opt_commands.specs.declared.outcome.OptOutcome.TheVariants.{Done, Usage, FileFault, BadText, TooLong, Refused, WriteFault, NoMemory}
@@ -125,32 +115,27 @@ stop_leaves (Reset options coding) P stops.NoMemory s a = a
 stop_leaves Check P (stops.Fault fault) s a = a
 stop_leaves Check P stops.NoMemory s a = a
 
--- or without embedded C
-pub embed_says : (component : List ℕ) (layout : EmbedLayout) (given : List GivenRelation) (stop : Stop TextEmbedFault) (text : List ℕ)
-    → length text ≤ TEXT_BYTES → FaultIs (IsTextEmbedFault text given component) stop
-    → SaysOf (Embed component layout) given (embed_outcome stop) text
-embed_says component layout given (stops.Fault (text_faults.Text fault)) text short is = (short, is)
-embed_says component layout given (stops.Fault (text_faults.Component fault)) text short is = (short, is)
-embed_says component layout given stops.NoMemory text short is = tt
+silent_leaves : (task : Task) (P : List ℕ → Type 0) (outcome : OptOutcome) (s : SinkChange) → written_of outcome ≡ None
+    → Appends s.before s.after s.faults_before s.faults_now [] → LeavesAnswer task P s outcome
+silent_leaves (Write form) P outcome s none a = subst (LeavesPieces P s) (sym none) a
+silent_leaves (Embed component layout) P outcome s none a = subst (LeavesText P s) (sym none) a
+silent_leaves (Reset options coding) P outcome s none a = subst (LeavesText P s) (sym none) a
+silent_leaves Check P outcome s none a = subst (LeavesText P s) (sym none) a
 
-pub embed_leaves : (component : List ℕ) (layout : EmbedLayout) (P : List ℕ → Type 0) (stop : Stop TextEmbedFault) (s : SinkChange)
-    → Appends s.before s.after s.faults_before s.faults_now [] → LeavesAnswer (Embed component layout) P s (embed_outcome stop)
-embed_leaves component layout P (stops.Fault (text_faults.Text fault)) s a = a
-embed_leaves component layout P (stops.Fault (text_faults.Component fault)) s a = a
-embed_leaves component layout P stops.NoMemory s a = a
+-- or of which no embedded C, or no Verilog with a reset, is made
+pub unmade_says : {F : Type 0} (task : Task) (given : List GivenRelation) (outcome_of : F → OptOutcome) (IsFault : F → Type 0)
+    (stop : Stop (Unmade OptFault F)) (text : List ℕ) → length text ≤ TEXT_BYTES → ((fault : F) → IsFault fault → SaysOf task given (outcome_of fault) text)
+    → FaultIs (IsUnmade (IsGivenFault text given) IsFault) stop → SaysOf task given (unmade_outcome outcome_of stop) text
+unmade_says task given outcome_of IsFault (stops.Fault (NoNet fault)) text short says is = (short, is)
+unmade_says task given outcome_of IsFault (stops.Fault (NoText fault)) text short says is = says fault is
+unmade_says task given outcome_of IsFault stops.NoMemory text short says is = tt
 
--- or without Verilog with a reset
-pub reset_says : (options : ModuleOptions) (coding : Coding) (given : List GivenRelation) (stop : Stop TextResetFault) (text : List ℕ)
-    → length text ≤ TEXT_BYTES → FaultIs (IsTextResetFault text given options) stop → SaysOf (Reset options coding) given (reset_outcome stop) text
-reset_says options coding given (stops.Fault (text_names.Text fault)) text short is = (short, is)
-reset_says options coding given (stops.Fault (text_names.Module fault)) text short is = (short, is)
-reset_says options coding given stops.NoMemory text short is = tt
-
-pub reset_leaves : (options : ModuleOptions) (coding : Coding) (P : List ℕ → Type 0) (stop : Stop TextResetFault) (s : SinkChange)
-    → Appends s.before s.after s.faults_before s.faults_now [] → LeavesAnswer (Reset options coding) P s (reset_outcome stop)
-reset_leaves options coding P (stops.Fault (text_names.Text fault)) s a = a
-reset_leaves options coding P (stops.Fault (text_names.Module fault)) s a = a
-reset_leaves options coding P stops.NoMemory s a = a
+pub unmade_leaves : {F : Type 0} (task : Task) (P : List ℕ → Type 0) (outcome_of : F → OptOutcome) (stop : Stop (Unmade OptFault F)) (s : SinkChange)
+    → ((fault : F) → written_of (outcome_of fault) ≡ None) → Appends s.before s.after s.faults_before s.faults_now []
+    → LeavesAnswer task P s (unmade_outcome outcome_of stop)
+unmade_leaves task P outcome_of (stops.Fault (NoNet fault)) s none a = stop_leaves task P (stops.Fault fault) s a
+unmade_leaves task P outcome_of (stops.Fault (NoText fault)) s none a = silent_leaves task P (outcome_of fault) s (none fault) a
+unmade_leaves task P outcome_of stops.NoMemory s none a = stop_leaves task P stops.NoMemory s a
 
 -- ---- a source that does not compile
 
@@ -203,13 +188,6 @@ stuck_leaves Check stuck ends.Done main source s is l = l
 stuck_leaves Check stuck ends.WriteFault main source s is l = (l.0, inr (stuck, is, l.1), l.2)
 stuck_leaves Check stuck ends.NoMemory main source s is l = l
 
-silent_leaves : (task : Task) (P : List ℕ → Type 0) (outcome : OptOutcome) (s : SinkChange) → written_of outcome ≡ None
-    → Appends s.before s.after s.faults_before s.faults_now [] → LeavesAnswer task P s outcome
-silent_leaves (Write form) P outcome s none a = subst (LeavesPieces P s) (sym none) a
-silent_leaves (Embed component layout) P outcome s none a = subst (LeavesText P s) (sym none) a
-silent_leaves (Reset options coding) P outcome s none a = subst (LeavesText P s) (sym none) a
-silent_leaves Check P outcome s none a = subst (LeavesText P s) (sym none) a
-
 pub refused_says : (task : Task) (refusal : CycleRefusal) (main : Option (List ℕ)) (source : List ℕ) (s : SinkChange) (outcome : OptOutcome)
     → IsRefusedConstructive source main refusal → IsRefusedOutcome refusal s outcome → SourceSays task main outcome source
 refused_says task (causes.Source refusal) main source s outcome is o =
@@ -233,47 +211,30 @@ refused_leaves task (causes.TooManyNets cycle) main source s outcome is o =
     subst (LeavesSourceAnswer task source main s) (sym o.is)
     (silent_leaves task (IsSourceTextBy (TooManyNets cycle) task source main) (TooManyNets cycle) s refl o.silent)
 
--- a source without embedded C under a name
-pub unembedded_says : (component : List ℕ) (layout : EmbedLayout) (stop : Stop SourceEmbedFault) (main : Option (List ℕ)) (source : List ℕ) (s : SinkChange)
-    (outcome : OptOutcome) → FaultIs (IsSourceEmbedFault source main component) stop → IsEmbedStopOutcome stop s outcome
-    → SourceSays (Embed component layout) main outcome source
-unembedded_says component layout (stops.Fault (source_faults.Source refusal)) main source s outcome is o =
-    refused_says (Embed component layout) refusal main source s outcome is.1 o
-unembedded_says component layout (stops.Fault (source_faults.Component fault)) main source s outcome is o =
-    subst (λ x. SourceSays (Embed component layout) main x source) (sym o.is) is
-unembedded_says component layout stops.NoMemory main source s outcome is o =
-    subst (λ x. SourceSays (Embed component layout) main x source) (sym o.is) tt
+-- a source of which no embedded C, or no Verilog with a reset, is made
+pub unmade_source_says : {F : Type 0} (task : Task) (outcome_of : F → OptOutcome) (IsFault : F → Type 0) (stop : Stop (Unmade CycleRefusal F))
+    (main : Option (List ℕ)) (source : List ℕ) (s : SinkChange) (outcome : OptOutcome)
+    → ((fault : F) → IsFault fault → SourceSays task main (outcome_of fault) source) → FaultIs (IsUnmade (IsSourceCause source main) IsFault) stop
+    → IsUnmadeOutcome outcome_of stop s outcome → SourceSays task main outcome source
+unmade_source_says task outcome_of IsFault (stops.Fault (NoNet refusal)) main source s outcome says is o =
+    refused_says task refusal main source s outcome is.1 o
+unmade_source_says task outcome_of IsFault (stops.Fault (NoText fault)) main source s outcome says is o =
+    subst (λ x. SourceSays task main x source) (sym o.is) (says fault is)
+unmade_source_says task outcome_of IsFault stops.NoMemory main source s outcome says is o =
+    subst (λ x. SourceSays task main x source) (sym o.is) tt
 
-pub unembedded_leaves : (component : List ℕ) (layout : EmbedLayout) (stop : Stop SourceEmbedFault) (main : Option (List ℕ)) (source : List ℕ) (s : SinkChange)
-    (outcome : OptOutcome) → FaultIs (IsSourceEmbedFault source main component) stop → IsEmbedStopOutcome stop s outcome
-    → LeavesSourceAnswer (Embed component layout) source main s outcome
-unembedded_leaves component layout (stops.Fault (source_faults.Source refusal)) main source s outcome is o =
-    refused_leaves (Embed component layout) refusal main source s outcome is.1 o
-unembedded_leaves component layout (stops.Fault (source_faults.Component fault)) main source s outcome is o =
-    subst (LeavesSourceAnswer (Embed component layout) source main s) (sym o.is) o.silent
-unembedded_leaves component layout stops.NoMemory main source s outcome is o =
-    subst (LeavesSourceAnswer (Embed component layout) source main s) (sym o.is) o.silent
-
--- a source without Verilog with a reset
-pub unreset_says : (options : ModuleOptions) (coding : Coding) (stop : Stop SourceResetFault) (main : Option (List ℕ)) (source : List ℕ) (s : SinkChange)
-    (outcome : OptOutcome) → FaultIs (IsSourceResetFault source main coding options) stop → IsResetStopOutcome stop s outcome
-    → SourceSays (Reset options coding) main outcome source
-unreset_says options coding (stops.Fault (source_names.Source refusal)) main source s outcome is o =
-    refused_says (Reset options coding) refusal main source s outcome is.1 o
-unreset_says options coding (stops.Fault (source_names.Module fault)) main source s outcome is o =
-    subst (λ x. SourceSays (Reset options coding) main x source) (sym o.is) is
-unreset_says options coding stops.NoMemory main source s outcome is o =
-    subst (λ x. SourceSays (Reset options coding) main x source) (sym o.is) tt
-
-pub unreset_leaves : (options : ModuleOptions) (coding : Coding) (stop : Stop SourceResetFault) (main : Option (List ℕ)) (source : List ℕ) (s : SinkChange)
-    (outcome : OptOutcome) → FaultIs (IsSourceResetFault source main coding options) stop → IsResetStopOutcome stop s outcome
-    → LeavesSourceAnswer (Reset options coding) source main s outcome
-unreset_leaves options coding (stops.Fault (source_names.Source refusal)) main source s outcome is o =
-    refused_leaves (Reset options coding) refusal main source s outcome is.1 o
-unreset_leaves options coding (stops.Fault (source_names.Module fault)) main source s outcome is o =
-    subst (LeavesSourceAnswer (Reset options coding) source main s) (sym o.is) o.silent
-unreset_leaves options coding stops.NoMemory main source s outcome is o =
-    subst (LeavesSourceAnswer (Reset options coding) source main s) (sym o.is) o.silent
+pub unmade_source_leaves : {F : Type 0} (task : Task) (outcome_of : F → OptOutcome) (IsFault : F → Type 0) (stop : Stop (Unmade CycleRefusal F))
+    (main : Option (List ℕ)) (source : List ℕ) (s : SinkChange) (outcome : OptOutcome) → ((fault : F) → written_of (outcome_of fault) ≡ None)
+    → FaultIs (IsUnmade (IsSourceCause source main) IsFault) stop → IsUnmadeOutcome outcome_of stop s outcome
+    → LeavesSourceAnswer task source main s outcome
+unmade_source_leaves task outcome_of IsFault (stops.Fault (NoNet refusal)) main source s outcome none is o =
+    refused_leaves task refusal main source s outcome is.1 o
+unmade_source_leaves task outcome_of IsFault (stops.Fault (NoText fault)) main source s outcome none is o =
+    subst (LeavesSourceAnswer task source main s) (sym o.is)
+    (silent_leaves task (IsSourceTextBy (outcome_of fault) task source main) (outcome_of fault) s (none fault) o.silent)
+unmade_source_leaves task outcome_of IsFault stops.NoMemory main source s outcome none is o =
+    subst (LeavesSourceAnswer task source main s) (sym o.is)
+    (refusal_leaves task (IsSourceTextBy NoMemory task source main) refusing.NoMemory s o.silent)
 
 -- ---- a file that was read
 
