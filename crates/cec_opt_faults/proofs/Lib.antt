@@ -1,2 +1,2 @@
 pub mod Exports
-mod Unmade
+mod CauseLaws
