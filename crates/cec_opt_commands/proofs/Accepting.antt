@@ -1,5 +1,5 @@
 -- Where nothing is refused and nothing outside fails, a command is done.
-use Rattle.std.proofs.Common.{◌≡◌, ℕ, ◌≤◌, ◌<◌, ◌⊎◌, List, [], Option, Some, inl, inr, refl, sym, subst, arith}
+use Rattle.std.proofs.Common.{◌≡◌, ℕ, ◌≤◌, ◌<◌, ◌⊎◌, List, [], Option, Result, Some, Ok, inl, inr, refl, sym, subst, arith}
 use Rattle.base_types.specs.Faults.{Rose}
 use Rattle.base_types.specs.SinkChanges.{SinkChange}
 use Rattle.cec_text_io.proofs.Exports.{never_rose}
@@ -84,8 +84,8 @@ accepted_done (Make task name main) held WriteFault before now failed_before fai
 accepted_done (Make task name main) held NoMemory before now failed_before failed_now s accepted agrees counts still out steady = inr refl
 
 -- over files and sinks that count no fault
-pub steady_end : (asked : Option Request) (request : Request) (held : List ℕ → List ℕ) (outcome : OptOutcome) (old new : Option (List ℕ))
-    → asked ≡ Some request → IsAccepted request held → IsOptOutcomeOf asked (Some held) outcome → CountsFiles asked outcome 0 0 [] []
+pub steady_end : (asked : Result Request (List ℕ)) (request : Request) (held : List ℕ → List ℕ) (outcome : OptOutcome) (old new : Option (List ℕ))
+    → asked ≡ Ok request → IsAccepted request held → IsOptOutcomeOf asked (Some held) outcome → CountsFiles asked outcome 0 0 [] []
     → GainsOut asked (Some held) outcome (record { before = old; after = new; faults_before = 0; faults_now = 0 })
     → (outcome ≡ Done) ⊎ (outcome ≡ NoMemory)
 steady_end asked request held outcome old new is accepted agrees counts gains =

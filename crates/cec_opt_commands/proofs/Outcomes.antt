@@ -1,5 +1,5 @@
 -- What the answers of the steps say of the whole call.
-use Rattle.std.proofs.Common.{◌≡◌, ℕ, ◌≤◌, Bool, false, List, [], length, Option, Some, None, Err, inl, inr, refl, sym, subst}
+use Rattle.std.proofs.Common.{◌≡◌, ℕ, ◌≤◌, Bool, false, List, [], length, Option, Some, None, Ok, Err, inl, inr, refl, sym, subst}
 use Rattle.std.proofs.lemmas.Bool.{false≢true}
 use Rattle.base_types.specs.declared.bounds.TheConstants.Limits.{SOURCE_BYTES, TEXT_BYTES}
 use Rattle.base_types.specs.declared.files.reading.FileFault as unread
@@ -16,22 +16,12 @@ use Rattle.cec_cycles.specs.Constructive.{IsOtherRefusal, IsRefusedConstructive,
 use Rattle.cec_cycles.specs.declared.findings.CycleRefusal.{CycleRefusal}
 use Rattle.cec_cycles.specs.declared.findings.CycleRefusal.TheVariants as causes
 use Rattle.cec_cycles.specs.declared.findings.Stuck.{Stuck}
-use Rattle.cec_opt_embed.specs.Faults.{IsSourceEmbedFault, IsTextEmbedFault}
-use Rattle.cec_opt_embed.specs.declared.faults.SourceEmbedFault.{SourceEmbedFault}
-use Rattle.cec_opt_embed.specs.declared.faults.SourceEmbedFault.TheVariants as source_faults
-use Rattle.cec_opt_embed.specs.declared.faults.TextEmbedFault.{TextEmbedFault}
-use Rattle.cec_opt_embed.specs.declared.faults.TextEmbedFault.TheVariants as text_faults
+use Rattle.cec_opt_faults.specs.Causes.{IsSourceCause, IsUnmade}
+use Rattle.cec_opt_faults.specs.declared.unmade.Unmade.{Unmade}
+use Rattle.cec_opt_faults.specs.declared.unmade.Unmade.TheVariants.{NoNet, NoText}
 use Rattle.cec_opt_texts.specs.Faults.{IsGivenFault}
 use Rattle.cec_opt_texts.specs.Related.{GivenRelation}
 use Rattle.cec_opt_texts.specs.declared.fault.OptFault.{OptFault}
-use Rattle.csub_embed.specs.declared.layout.EmbedLayout.{EmbedLayout}
-use Rattle.vlog_reset.specs.Options.{ModuleOptions}
-use Rattle.cec_opt_sources.specs.declared.light.Coding.{Coding}
-use Rattle.cec_opt_reset.specs.Faults.{IsSourceResetFault, IsTextResetFault}
-use Rattle.cec_opt_reset.specs.declared.faults.SourceResetFault.{SourceResetFault}
-use Rattle.cec_opt_reset.specs.declared.faults.SourceResetFault.TheVariants as source_names
-use Rattle.cec_opt_reset.specs.declared.faults.TextResetFault.{TextResetFault}
-use Rattle.cec_opt_reset.specs.declared.faults.TextResetFault.TheVariants as text_names
 use Rattle.cec_text_io.proofs.Pieces as texts
 use Rattle.cec_text_io.proofs.Exports.{long_unread, some_bytes}
 use Rattle.cec_text_io.specs.Contents.{Content, IsHeld}
@@ -43,9 +33,9 @@ use Rattle.cec_opt_commands.specs.Answers.{IsAnswer, IsSourceAnswer}
 use Rattle.cec_opt_commands.specs.Lines.{GainsAfter, GainsSourceErr, SpeaksOf, line_of, source_subject}
 use Rattle.cec_opt_commands.specs.Outcomes.{HasNet, SaysOf, IsConstructible, SourceSays, AgreesOnFile, IsWriting, IsOptOutcomeOf}
 use Rattle.cec_opt_commands.specs.Outcomes.{CountsFiles, LeavesAnswer, LeavesSourceAnswer, IsTextOf, IsSourceTextBy, IsSourceTextOf, GainsOut}
-use Rattle.cec_opt_commands.specs.Stopping.{IsEmbedStopOutcome, IsRefusedOutcome, IsResetStopOutcome}
+use Rattle.cec_opt_commands.specs.Stopping.{IsRefusedOutcome, IsUnmadeOutcome}
 use Rattle.cec_opt_commands.specs.Statuses.{written_of, written_outcome, stop_outcome, unread_outcome, refusal_outcome, source_unread_outcome, stuck_outcome}
-use Rattle.cec_opt_commands.specs.Statuses.{embed_outcome, reset_outcome}
+use Rattle.cec_opt_commands.specs.Statuses.{unmade_outcome}
 use Rattle.cec_opt_commands.specs.Words.{Request, Task, Tell, Do, Make, Write, Embed, Reset, Check}
 use Rattle.cec_opt_commands.specs.declared.outcome.OptOutcome.{OptOutcome}
 use Rattle.cec_opt_commands.specs.declared.outcome.OptOutcome.TheVariants.{Done, Usage, FileFault, BadText, TooLong, Refused, WriteFault, NoMemory}
@@ -125,32 +115,27 @@ stop_leaves (Reset options coding) P stops.NoMemory s a = a
 stop_leaves Check P (stops.Fault fault) s a = a
 stop_leaves Check P stops.NoMemory s a = a
 
--- or without embedded C
-pub embed_says : (component : List ℕ) (layout : EmbedLayout) (given : List GivenRelation) (stop : Stop TextEmbedFault) (text : List ℕ)
-    → length text ≤ TEXT_BYTES → FaultIs (IsTextEmbedFault text given component) stop
-    → SaysOf (Embed component layout) given (embed_outcome stop) text
-embed_says component layout given (stops.Fault (text_faults.Text fault)) text short is = (short, is)
-embed_says component layout given (stops.Fault (text_faults.Component fault)) text short is = (short, is)
-embed_says component layout given stops.NoMemory text short is = tt
+silent_leaves : (task : Task) (P : List ℕ → Type 0) (outcome : OptOutcome) (s : SinkChange) → written_of outcome ≡ None
+    → Appends s.before s.after s.faults_before s.faults_now [] → LeavesAnswer task P s outcome
+silent_leaves (Write form) P outcome s none a = subst (LeavesPieces P s) (sym none) a
+silent_leaves (Embed component layout) P outcome s none a = subst (LeavesText P s) (sym none) a
+silent_leaves (Reset options coding) P outcome s none a = subst (LeavesText P s) (sym none) a
+silent_leaves Check P outcome s none a = subst (LeavesText P s) (sym none) a
 
-pub embed_leaves : (component : List ℕ) (layout : EmbedLayout) (P : List ℕ → Type 0) (stop : Stop TextEmbedFault) (s : SinkChange)
-    → Appends s.before s.after s.faults_before s.faults_now [] → LeavesAnswer (Embed component layout) P s (embed_outcome stop)
-embed_leaves component layout P (stops.Fault (text_faults.Text fault)) s a = a
-embed_leaves component layout P (stops.Fault (text_faults.Component fault)) s a = a
-embed_leaves component layout P stops.NoMemory s a = a
+-- or of which no embedded C, or no Verilog with a reset, is made
+pub unmade_says : {F : Type 0} (task : Task) (given : List GivenRelation) (outcome_of : F → OptOutcome) (IsFault : F → Type 0)
+    (stop : Stop (Unmade OptFault F)) (text : List ℕ) → length text ≤ TEXT_BYTES → ((fault : F) → IsFault fault → SaysOf task given (outcome_of fault) text)
+    → FaultIs (IsUnmade (IsGivenFault text given) IsFault) stop → SaysOf task given (unmade_outcome outcome_of stop) text
+unmade_says task given outcome_of IsFault (stops.Fault (NoNet fault)) text short says is = (short, is)
+unmade_says task given outcome_of IsFault (stops.Fault (NoText fault)) text short says is = says fault is
+unmade_says task given outcome_of IsFault stops.NoMemory text short says is = tt
 
--- or without Verilog with a reset
-pub reset_says : (options : ModuleOptions) (coding : Coding) (given : List GivenRelation) (stop : Stop TextResetFault) (text : List ℕ)
-    → length text ≤ TEXT_BYTES → FaultIs (IsTextResetFault text given options) stop → SaysOf (Reset options coding) given (reset_outcome stop) text
-reset_says options coding given (stops.Fault (text_names.Text fault)) text short is = (short, is)
-reset_says options coding given (stops.Fault (text_names.Module fault)) text short is = (short, is)
-reset_says options coding given stops.NoMemory text short is = tt
-
-pub reset_leaves : (options : ModuleOptions) (coding : Coding) (P : List ℕ → Type 0) (stop : Stop TextResetFault) (s : SinkChange)
-    → Appends s.before s.after s.faults_before s.faults_now [] → LeavesAnswer (Reset options coding) P s (reset_outcome stop)
-reset_leaves options coding P (stops.Fault (text_names.Text fault)) s a = a
-reset_leaves options coding P (stops.Fault (text_names.Module fault)) s a = a
-reset_leaves options coding P stops.NoMemory s a = a
+pub unmade_leaves : {F : Type 0} (task : Task) (P : List ℕ → Type 0) (outcome_of : F → OptOutcome) (stop : Stop (Unmade OptFault F)) (s : SinkChange)
+    → ((fault : F) → written_of (outcome_of fault) ≡ None) → Appends s.before s.after s.faults_before s.faults_now []
+    → LeavesAnswer task P s (unmade_outcome outcome_of stop)
+unmade_leaves task P outcome_of (stops.Fault (NoNet fault)) s none a = stop_leaves task P (stops.Fault fault) s a
+unmade_leaves task P outcome_of (stops.Fault (NoText fault)) s none a = silent_leaves task P (outcome_of fault) s (none fault) a
+unmade_leaves task P outcome_of stops.NoMemory s none a = stop_leaves task P stops.NoMemory s a
 
 -- ---- a source that does not compile
 
@@ -203,13 +188,6 @@ stuck_leaves Check stuck ends.Done main source s is l = l
 stuck_leaves Check stuck ends.WriteFault main source s is l = (l.0, inr (stuck, is, l.1), l.2)
 stuck_leaves Check stuck ends.NoMemory main source s is l = l
 
-silent_leaves : (task : Task) (P : List ℕ → Type 0) (outcome : OptOutcome) (s : SinkChange) → written_of outcome ≡ None
-    → Appends s.before s.after s.faults_before s.faults_now [] → LeavesAnswer task P s outcome
-silent_leaves (Write form) P outcome s none a = subst (LeavesPieces P s) (sym none) a
-silent_leaves (Embed component layout) P outcome s none a = subst (LeavesText P s) (sym none) a
-silent_leaves (Reset options coding) P outcome s none a = subst (LeavesText P s) (sym none) a
-silent_leaves Check P outcome s none a = subst (LeavesText P s) (sym none) a
-
 pub refused_says : (task : Task) (refusal : CycleRefusal) (main : Option (List ℕ)) (source : List ℕ) (s : SinkChange) (outcome : OptOutcome)
     → IsRefusedConstructive source main refusal → IsRefusedOutcome refusal s outcome → SourceSays task main outcome source
 refused_says task (causes.Source refusal) main source s outcome is o =
@@ -233,47 +211,30 @@ refused_leaves task (causes.TooManyNets cycle) main source s outcome is o =
     subst (LeavesSourceAnswer task source main s) (sym o.is)
     (silent_leaves task (IsSourceTextBy (TooManyNets cycle) task source main) (TooManyNets cycle) s refl o.silent)
 
--- a source without embedded C under a name
-pub unembedded_says : (component : List ℕ) (layout : EmbedLayout) (stop : Stop SourceEmbedFault) (main : Option (List ℕ)) (source : List ℕ) (s : SinkChange)
-    (outcome : OptOutcome) → FaultIs (IsSourceEmbedFault source main component) stop → IsEmbedStopOutcome stop s outcome
-    → SourceSays (Embed component layout) main outcome source
-unembedded_says component layout (stops.Fault (source_faults.Source refusal)) main source s outcome is o =
-    refused_says (Embed component layout) refusal main source s outcome is.1 o
-unembedded_says component layout (stops.Fault (source_faults.Component fault)) main source s outcome is o =
-    subst (λ x. SourceSays (Embed component layout) main x source) (sym o.is) is
-unembedded_says component layout stops.NoMemory main source s outcome is o =
-    subst (λ x. SourceSays (Embed component layout) main x source) (sym o.is) tt
+-- a source of which no embedded C, or no Verilog with a reset, is made
+pub unmade_source_says : {F : Type 0} (task : Task) (outcome_of : F → OptOutcome) (IsFault : F → Type 0) (stop : Stop (Unmade CycleRefusal F))
+    (main : Option (List ℕ)) (source : List ℕ) (s : SinkChange) (outcome : OptOutcome)
+    → ((fault : F) → IsFault fault → SourceSays task main (outcome_of fault) source) → FaultIs (IsUnmade (IsSourceCause source main) IsFault) stop
+    → IsUnmadeOutcome outcome_of stop s outcome → SourceSays task main outcome source
+unmade_source_says task outcome_of IsFault (stops.Fault (NoNet refusal)) main source s outcome says is o =
+    refused_says task refusal main source s outcome is.1 o
+unmade_source_says task outcome_of IsFault (stops.Fault (NoText fault)) main source s outcome says is o =
+    subst (λ x. SourceSays task main x source) (sym o.is) (says fault is)
+unmade_source_says task outcome_of IsFault stops.NoMemory main source s outcome says is o =
+    subst (λ x. SourceSays task main x source) (sym o.is) tt
 
-pub unembedded_leaves : (component : List ℕ) (layout : EmbedLayout) (stop : Stop SourceEmbedFault) (main : Option (List ℕ)) (source : List ℕ) (s : SinkChange)
-    (outcome : OptOutcome) → FaultIs (IsSourceEmbedFault source main component) stop → IsEmbedStopOutcome stop s outcome
-    → LeavesSourceAnswer (Embed component layout) source main s outcome
-unembedded_leaves component layout (stops.Fault (source_faults.Source refusal)) main source s outcome is o =
-    refused_leaves (Embed component layout) refusal main source s outcome is.1 o
-unembedded_leaves component layout (stops.Fault (source_faults.Component fault)) main source s outcome is o =
-    subst (LeavesSourceAnswer (Embed component layout) source main s) (sym o.is) o.silent
-unembedded_leaves component layout stops.NoMemory main source s outcome is o =
-    subst (LeavesSourceAnswer (Embed component layout) source main s) (sym o.is) o.silent
-
--- a source without Verilog with a reset
-pub unreset_says : (options : ModuleOptions) (coding : Coding) (stop : Stop SourceResetFault) (main : Option (List ℕ)) (source : List ℕ) (s : SinkChange)
-    (outcome : OptOutcome) → FaultIs (IsSourceResetFault source main coding options) stop → IsResetStopOutcome stop s outcome
-    → SourceSays (Reset options coding) main outcome source
-unreset_says options coding (stops.Fault (source_names.Source refusal)) main source s outcome is o =
-    refused_says (Reset options coding) refusal main source s outcome is.1 o
-unreset_says options coding (stops.Fault (source_names.Module fault)) main source s outcome is o =
-    subst (λ x. SourceSays (Reset options coding) main x source) (sym o.is) is
-unreset_says options coding stops.NoMemory main source s outcome is o =
-    subst (λ x. SourceSays (Reset options coding) main x source) (sym o.is) tt
-
-pub unreset_leaves : (options : ModuleOptions) (coding : Coding) (stop : Stop SourceResetFault) (main : Option (List ℕ)) (source : List ℕ) (s : SinkChange)
-    (outcome : OptOutcome) → FaultIs (IsSourceResetFault source main coding options) stop → IsResetStopOutcome stop s outcome
-    → LeavesSourceAnswer (Reset options coding) source main s outcome
-unreset_leaves options coding (stops.Fault (source_names.Source refusal)) main source s outcome is o =
-    refused_leaves (Reset options coding) refusal main source s outcome is.1 o
-unreset_leaves options coding (stops.Fault (source_names.Module fault)) main source s outcome is o =
-    subst (LeavesSourceAnswer (Reset options coding) source main s) (sym o.is) o.silent
-unreset_leaves options coding stops.NoMemory main source s outcome is o =
-    subst (LeavesSourceAnswer (Reset options coding) source main s) (sym o.is) o.silent
+pub unmade_source_leaves : {F : Type 0} (task : Task) (outcome_of : F → OptOutcome) (IsFault : F → Type 0) (stop : Stop (Unmade CycleRefusal F))
+    (main : Option (List ℕ)) (source : List ℕ) (s : SinkChange) (outcome : OptOutcome) → ((fault : F) → written_of (outcome_of fault) ≡ None)
+    → FaultIs (IsUnmade (IsSourceCause source main) IsFault) stop → IsUnmadeOutcome outcome_of stop s outcome
+    → LeavesSourceAnswer task source main s outcome
+unmade_source_leaves task outcome_of IsFault (stops.Fault (NoNet refusal)) main source s outcome none is o =
+    refused_leaves task refusal main source s outcome is.1 o
+unmade_source_leaves task outcome_of IsFault (stops.Fault (NoText fault)) main source s outcome none is o =
+    subst (LeavesSourceAnswer task source main s) (sym o.is)
+    (silent_leaves task (IsSourceTextBy (outcome_of fault) task source main) (outcome_of fault) s (none fault) o.silent)
+unmade_source_leaves task outcome_of IsFault stops.NoMemory main source s outcome none is o =
+    subst (LeavesSourceAnswer task source main s) (sym o.is)
+    (refusal_leaves task (IsSourceTextBy NoMemory task source main) refusing.NoMemory s o.silent)
 
 -- ---- a file that was read
 
@@ -295,17 +256,17 @@ file_agrees content name Says WriteFault bytes held says apart = (bytes, held, s
 file_agrees content name Says NoMemory bytes held says apart = (bytes, held, says)
 
 pub read_agrees : (content : Content) (task : Task) (given : List GivenRelation) (name : List ℕ) (outcome : OptOutcome) (text : List ℕ)
-    → IsHeld content name text → SaysOf task given outcome text → IsOptOutcomeOf (Some (Do task given name)) content outcome
+    → IsHeld content name text → SaysOf task given outcome text → IsOptOutcomeOf (Ok (Do task given name)) content outcome
 read_agrees content task given name outcome text held says = file_agrees content name (SaysOf task given) outcome text held says (λ none. none)
 
 pub source_agrees : (content : Content) (task : Task) (name : List ℕ) (main : Option (List ℕ)) (outcome : OptOutcome) (source : List ℕ)
-    → IsHeld content name source → SourceSays task main outcome source → IsOptOutcomeOf (Some (Make task name main)) content outcome
+    → IsHeld content name source → SourceSays task main outcome source → IsOptOutcomeOf (Ok (Make task name main)) content outcome
 source_agrees content task name main outcome source held says =
     file_agrees content name (SourceSays task main) outcome source held says (λ none. none)
 
 pub read_counts : (task : Task) (given : List GivenRelation) (name : List ℕ) (outcome : OptOutcome) (text : List ℕ) (before now : ℕ)
     (failed_before failed_now : List ℕ) → SaysOf task given outcome text → KeepsFaults before now failed_before failed_now
-    → CountsFiles (Some (Do task given name)) outcome before now failed_before failed_now
+    → CountsFiles (Ok (Do task given name)) outcome before now failed_before failed_now
 read_counts task given name Done text before now failed_before failed_now says k = k
 read_counts task given name Usage text before now failed_before failed_now says k = k
 read_counts task given name FileFault text before now failed_before failed_now says k = absurd says
@@ -322,7 +283,7 @@ read_counts task given name NoMemory text before now failed_before failed_now sa
 
 pub source_read_counts : (task : Task) (name : List ℕ) (main : Option (List ℕ)) (outcome : OptOutcome) (source : List ℕ) (before now : ℕ)
     (failed_before failed_now : List ℕ) → SourceSays task main outcome source → KeepsFaults before now failed_before failed_now
-    → CountsFiles (Some (Make task name main)) outcome before now failed_before failed_now
+    → CountsFiles (Ok (Make task name main)) outcome before now failed_before failed_now
 source_read_counts task name main Done source before now failed_before failed_now says k = k
 source_read_counts task name main Usage source before now failed_before failed_now says k = k
 source_read_counts task name main FileFault source before now failed_before failed_now says k = absurd says
@@ -345,13 +306,13 @@ answer_as (Reset options coding) P Q s outcome f l = texts.text_as P Q s (writte
 answer_as Check P Q s outcome f l = texts.text_as P Q s (written_of outcome) f l
 
 pub read_out : (content : Content) (task : Task) (given : List GivenRelation) (name : List ℕ) (outcome : OptOutcome) (text : List ℕ) (s : SinkChange)
-    → IsHeld content name text → LeavesAnswer task (IsAnswer task text given) s outcome → GainsOut (Some (Do task given name)) content outcome s
+    → IsHeld content name text → LeavesAnswer task (IsAnswer task text given) s outcome → GainsOut (Ok (Do task given name)) content outcome s
 read_out content task given name outcome text s held l =
     answer_as task (IsAnswer task text given) (IsTextOf task given name content) s outcome (λ written is. (text, held, is)) l
 
 pub source_out : (content : Content) (task : Task) (name : List ℕ) (main : Option (List ℕ)) (outcome : OptOutcome) (source : List ℕ) (s : SinkChange)
     → IsHeld content name source → LeavesSourceAnswer task source main s outcome
-    → GainsOut (Some (Make task name main)) content outcome s
+    → GainsOut (Ok (Make task name main)) content outcome s
 source_out content task name main outcome source s held l =
     answer_as task (IsSourceTextBy outcome task source main) (IsSourceTextOf outcome task name main content) s outcome
     (λ written is. (source, held, is)) l
@@ -389,33 +350,33 @@ none_waits progress s line gains = record { waits = false; wanted = λ waits. ab
 -- ---- a file that was not read
 
 pub unread_agrees : (content : Content) (task : Task) (given : List GivenRelation) (name : List ℕ) (fault : unread.FileFault)
-    → Reads content name TEXT_BYTES (Err fault) → IsOptOutcomeOf (Some (Do task given name)) content (unread_outcome fault)
+    → Reads content name TEXT_BYTES (Err fault) → IsOptOutcomeOf (Ok (Do task given name)) content (unread_outcome fault)
 unread_agrees content task given name reading.Failed read = tt
 unread_agrees content task given name reading.TooLong read = long_unread content name TEXT_BYTES read
 unread_agrees content task given name reading.NoMemory read = some_bytes content name
 
 pub source_unread_agrees : (content : Content) (task : Task) (name : List ℕ) (main : Option (List ℕ)) (fault : unread.FileFault)
-    → Reads content name SOURCE_BYTES (Err fault) → IsOptOutcomeOf (Some (Make task name main)) content (source_unread_outcome fault)
+    → Reads content name SOURCE_BYTES (Err fault) → IsOptOutcomeOf (Ok (Make task name main)) content (source_unread_outcome fault)
 source_unread_agrees content task name main reading.Failed read = tt
 source_unread_agrees content task name main reading.TooLong read = long_unread content name SOURCE_BYTES read
 source_unread_agrees content task name main reading.NoMemory read = some_bytes content name
 
 pub unread_counts : (task : Task) (given : List GivenRelation) (name : List ℕ) (fault : unread.FileFault) (before now : ℕ)
     (failed_before failed_now : List ℕ) → Counts before now failed_before failed_now name (Err fault)
-    → CountsFiles (Some (Do task given name)) (unread_outcome fault) before now failed_before failed_now
+    → CountsFiles (Ok (Do task given name)) (unread_outcome fault) before now failed_before failed_now
 unread_counts task given name reading.Failed before now failed_before failed_now k = k
 unread_counts task given name reading.TooLong before now failed_before failed_now k = k
 unread_counts task given name reading.NoMemory before now failed_before failed_now k = k
 
 pub source_unread_counts : (task : Task) (name : List ℕ) (main : Option (List ℕ)) (fault : unread.FileFault) (before now : ℕ)
     (failed_before failed_now : List ℕ) → Counts before now failed_before failed_now name (Err fault)
-    → CountsFiles (Some (Make task name main)) (source_unread_outcome fault) before now failed_before failed_now
+    → CountsFiles (Ok (Make task name main)) (source_unread_outcome fault) before now failed_before failed_now
 source_unread_counts task name main reading.Failed before now failed_before failed_now k = k
 source_unread_counts task name main reading.TooLong before now failed_before failed_now k = k
 source_unread_counts task name main reading.NoMemory before now failed_before failed_now k = k
 
 pub unread_out : (content : Content) (task : Task) (given : List GivenRelation) (name : List ℕ) (fault : unread.FileFault) (s : SinkChange)
-    → Appends s.before s.after s.faults_before s.faults_now [] → GainsOut (Some (Do task given name)) content (unread_outcome fault) s
+    → Appends s.before s.after s.faults_before s.faults_now [] → GainsOut (Ok (Do task given name)) content (unread_outcome fault) s
 unread_out content (Write form) given name reading.Failed s a = a
 unread_out content (Write form) given name reading.TooLong s a = a
 unread_out content (Write form) given name reading.NoMemory s a = inl a
@@ -430,7 +391,7 @@ unread_out content Check given name reading.TooLong s a = a
 unread_out content Check given name reading.NoMemory s a = a
 
 pub source_unread_out : (content : Content) (task : Task) (name : List ℕ) (main : Option (List ℕ)) (fault : unread.FileFault) (s : SinkChange)
-    → Appends s.before s.after s.faults_before s.faults_now [] → GainsOut (Some (Make task name main)) content (source_unread_outcome fault) s
+    → Appends s.before s.after s.faults_before s.faults_now [] → GainsOut (Ok (Make task name main)) content (source_unread_outcome fault) s
 source_unread_out content (Write form) name main reading.Failed s a = a
 source_unread_out content (Write form) name main reading.TooLong s a = a
 source_unread_out content (Write form) name main reading.NoMemory s a = inl a
@@ -452,7 +413,7 @@ source_unread_err progress content name main reading.TooLong s gains = record { 
 source_unread_err progress content name main reading.NoMemory s gains = record { source = []; held = tt; gains = none_waits progress s _ gains }
 
 -- no request ends as words without a meaning do
-pub no_usage : (request : Request) (content : Content) → IsOptOutcomeOf (Some request) content Usage → ⊥
+pub no_usage : (request : Request) (content : Content) → IsOptOutcomeOf (Ok request) content Usage → ⊥
 no_usage (Tell about) content a = a
 no_usage (Do task given name) content a = a.2
 no_usage (Make task name main) content a = a.2

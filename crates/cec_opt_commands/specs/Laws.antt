@@ -1,5 +1,5 @@
 -- To believe: which texts and sources are accepted, and that a command on such a file is done.
-use Rattle.std.specs.Prelude.{◌≡◌, ℕ, ◌≤◌, ◌⊎◌, ⊤, List, length, Option, Some}
+use Rattle.std.specs.Prelude.{◌≡◌, ℕ, ◌≤◌, ◌⊎◌, ⊤, List, length, Option, Some, Ok}
 use Rattle.base_types.specs.declared.bounds.TheConstants.Limits.{TEXT_BYTES}
 use Rattle.base_types.specs.Faults.{Rose}
 use Rattle.base_types.specs.SinkChanges.{SinkChange}
@@ -44,7 +44,7 @@ IsAccepted (Make task name main) held = IsNotRefused main (held name) × FitsSou
 abbrev pub AcceptedTextsAreDone : Type 0
 AcceptedTextsAreDone = (request : Request) (held : List ℕ → List ℕ) (outcome : OptOutcome) (before now : ℕ)
     (failed_before failed_now : List ℕ) (s : SinkChange) → IsAccepted request held
-    → IsOptOutcomeOf (Some request) (Some held) outcome
-    → CountsFiles (Some request) outcome before now failed_before failed_now → (Rose before now → ⊥)
-    → GainsOut (Some request) (Some held) outcome s → (Rose s.faults_before s.faults_now → ⊥)
+    → IsOptOutcomeOf (Ok request) (Some held) outcome
+    → CountsFiles (Ok request) outcome before now failed_before failed_now → (Rose before now → ⊥)
+    → GainsOut (Ok request) (Some held) outcome s → (Rose s.faults_before s.faults_now → ⊥)
     → (outcome ≡ Done) ⊎ (outcome ≡ NoMemory)

@@ -1,6 +1,6 @@
 -- To believe: the words for the layout of an embedded text.
-use Rattle.std.specs.Prelude.{ℕ, Bool, true, false, ◌||◌, if◌then◌else◌, List, codes, Option, Some, None}
-use Rattle.std.specs.Prelude.{is_some, unwrap_or}
+use Rattle.std.specs.Prelude.{ℕ, Bool, true, false, ◌||◌, if◌then◌else◌, List, [], ◌∷◌, ◌++◌, codes, Option, Some, None}
+use Rattle.std.specs.Prelude.{is_some, option_map, unwrap_or, ok_or, Result, Ok}
 use Rattle.base_types.specs.Names.{is_same_name}
 use Rattle.csub_embed.specs.declared.layout.EmbedFile.{EmbedFile}
 use Rattle.csub_embed.specs.declared.layout.EmbedFile.TheVariants as files
@@ -38,3 +38,11 @@ with_file laid file = if is_some laid.file then None else Some (record laid { fi
 
 abbrev pub with_layout : Laid → List ℕ → Option Laid
 with_layout laid word = if is_packed word then with_packed laid else with_file laid (file_of word)
+
+-- one word for the layout or none, and the words after it
+abbrev pub one_layout : Laid → List (List ℕ) → Result (Laid × List (List ℕ)) (List ℕ)
+one_layout laid [] = Ok (laid, [])
+one_layout laid (word ∷ more) =
+    if is_layout word
+    then ok_or (option_map (λ next. (next, more)) (with_layout laid word)) (codes "bad option: " ++ word)
+    else Ok (laid, word ∷ more)

@@ -1,6 +1,6 @@
 -- To believe: the line that is written about an outcome.
 use Rattle.std.specs.Prelude.{⊤, ℕ, Bool, true, false, IsTrue, List, [], ◌++◌, Option, Some, None, codes, decimal}
-use Rattle.std.specs.Prelude.{unwrap_or}
+use Rattle.std.specs.Prelude.{unwrap_or, Result, Ok, Err}
 use Rattle.base_types.specs.SinkChanges.{SinkChange}
 use Rattle.blif_net.specs.declared.fault.CircuitFault.{CircuitFault}
 use Rattle.blif_net.specs.declared.fault.CircuitFault.TheVariants.{NoPause, Model, Input, Output, Again, Loop}
@@ -17,7 +17,7 @@ use Rattle.vlog_reset.specs.declared.fault.ResetFault.{ResetFault}
 use Rattle.vlog_reset.specs.declared.fault.ResetFault.TheVariants as naming
 use Rattle.cec_text_io.specs.Contents.{Content, IsHeld}
 use Rattle.cec_text_io.specs.ErrorLines.{GainsLine, joined_names}
-use Rattle.cec_opt_commands.specs.Words.{Request, Tell, Do, Make, misuse_of}
+use Rattle.cec_opt_commands.specs.Words.{Request, Tell, Do, Make}
 use Rattle.cec_opt_commands.specs.declared.outcome.OptOutcome.{OptOutcome}
 use Rattle.cec_opt_commands.specs.declared.outcome.OptOutcome.TheVariants.{Done, Usage, FileFault, BadText, TooLong}
 use Rattle.cec_opt_commands.specs.declared.outcome.OptOutcome.TheVariants.{BadComponent, BadModule}
@@ -120,16 +120,16 @@ pub record GainsSourceErr (progress : Bool) (name : List ℕ) (main : Option (Li
   pub held : SpeaksOf content name outcome source
   pub gains : GainsAfter progress s (line_of (source_subject name main source) outcome)
 
--- the same about a request; of words without a meaning the line says what is wrong with them
-abbrev pub GainsErr : (progress : Bool) → List (List ℕ) → Option Request → Content → OptOutcome
+-- the same about a request; or the line about what is wrong with the words
+abbrev pub GainsErr : (progress : Bool) → Result Request (List ℕ) → Content → OptOutcome
     → (old new : Option (List ℕ)) → (before now : ℕ) → Type 0
-GainsErr progress words None content outcome old new before now =
-    GainsLine old new before now (line_of (named (misuse_of words)) outcome)
-GainsErr progress words (Some (Tell about)) content outcome old new before now =
+GainsErr progress (Err misuse) content outcome old new before now =
+    GainsLine old new before now (line_of (named misuse) outcome)
+GainsErr progress (Ok (Tell about)) content outcome old new before now =
     GainsLine old new before now (line_of (named []) outcome)
-GainsErr progress words (Some (Do task given name)) content outcome old new before now =
+GainsErr progress (Ok (Do task given name)) content outcome old new before now =
     GainsAfter progress (record { before = old; after = new; faults_before = before; faults_now = now })
     (line_of (named name) outcome)
-GainsErr progress words (Some (Make task name main)) content outcome old new before now =
+GainsErr progress (Ok (Make task name main)) content outcome old new before now =
     GainsSourceErr progress name main content outcome
     (record { before = old; after = new; faults_before = before; faults_now = now })

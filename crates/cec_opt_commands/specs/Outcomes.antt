@@ -1,5 +1,5 @@
 -- To believe: what each outcome of the top call says.
-use Rattle.std.specs.Prelude.{◌≡◌, ◌⊎◌, ℕ, ◌<◌, ◌≤◌, ⊤, List, [], length, Option, Some, None}
+use Rattle.std.specs.Prelude.{◌≡◌, ◌⊎◌, ℕ, ◌<◌, ◌≤◌, ⊤, List, [], length, Option, Result, Ok, Err}
 use Rattle.base_types.specs.declared.bounds.TheConstants.Limits.{TEXT_BYTES}
 use Rattle.base_types.specs.Items.{Item}
 use Rattle.base_types.specs.Reading.{KeepsFaults, Notes}
@@ -127,19 +127,20 @@ IsWriting NoMemory = ⊤
 IsWriting others = ⊥
 
 -- what an outcome says of the words and of the bytes in the files
-abbrev pub IsOptOutcomeOf : Option Request → Content → OptOutcome → Type 0
-IsOptOutcomeOf None content outcome = outcome ≡ Usage
-IsOptOutcomeOf (Some (Tell about)) content outcome = IsWriting outcome
-IsOptOutcomeOf (Some (Do task given name)) content outcome = AgreesOnFile content name (SaysOf task given) outcome
-IsOptOutcomeOf (Some (Make task name main)) content outcome = AgreesOnFile content name (SourceSays task main) outcome
+abbrev pub IsOptOutcomeOf : Result Request (List ℕ) → Content → OptOutcome → Type 0
+IsOptOutcomeOf (Err misuse) content outcome = outcome ≡ Usage
+IsOptOutcomeOf (Ok (Tell about)) content outcome = IsWriting outcome
+IsOptOutcomeOf (Ok (Do task given name)) content outcome = AgreesOnFile content name (SaysOf task given) outcome
+IsOptOutcomeOf (Ok (Make task name main)) content outcome = AgreesOnFile content name (SourceSays task main) outcome
 
 -- ---- the files
 
 -- The count of faults of the files and the name that failed last: a file fault raised the count, and the name is the
 -- file's; every other outcome leaves both.
-abbrev pub CountsFiles : Option Request → OptOutcome → (before now : ℕ) (failed_before failed_now : List ℕ) → Type 0
-CountsFiles (Some (Do task given name)) FileFault before now failed_before failed_now = Notes before now name failed_now
-CountsFiles (Some (Make task name main)) FileFault before now failed_before failed_now =
+abbrev pub CountsFiles : Result Request (List ℕ) → OptOutcome → (before now : ℕ)
+    → (failed_before failed_now : List ℕ) → Type 0
+CountsFiles (Ok (Do task given name)) FileFault before now failed_before failed_now = Notes before now name failed_now
+CountsFiles (Ok (Make task name main)) FileFault before now failed_before failed_now =
     Notes before now name failed_now
 CountsFiles asked others before now failed_before failed_now = KeepsFaults before now failed_before failed_now
 
@@ -174,9 +175,9 @@ abbrev pub IsSourceTextOf : OptOutcome → Task → (name : List ℕ) → (main 
 IsSourceTextOf outcome task name main content written =
     Holds content name (λ source. IsSourceTextBy outcome task source main written)
 
-abbrev pub GainsOut : Option Request → Content → OptOutcome → SinkChange → Type 0
-GainsOut None content outcome s = Appends s.before s.after s.faults_before s.faults_now []
-GainsOut (Some (Tell about)) content outcome s = LeavesText (λ written. written ≡ own_text about) s (written_of outcome)
-GainsOut (Some (Do task given name)) content outcome s = LeavesAnswer task (IsTextOf task given name content) s outcome
-GainsOut (Some (Make task name main)) content outcome s =
+abbrev pub GainsOut : Result Request (List ℕ) → Content → OptOutcome → SinkChange → Type 0
+GainsOut (Err misuse) content outcome s = Appends s.before s.after s.faults_before s.faults_now []
+GainsOut (Ok (Tell about)) content outcome s = LeavesText (λ written. written ≡ own_text about) s (written_of outcome)
+GainsOut (Ok (Do task given name)) content outcome s = LeavesAnswer task (IsTextOf task given name content) s outcome
+GainsOut (Ok (Make task name main)) content outcome s =
     LeavesAnswer task (IsSourceTextOf outcome task name main content) s outcome

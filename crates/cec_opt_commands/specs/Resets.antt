@@ -1,11 +1,12 @@
 -- To believe: the words after `verilog --reset`, in any order: how the reset works, names, and a text or a source.
-use Rattle.std.specs.Prelude.{ℕ, Bool, true, false, not, ◌||◌, if◌then◌else◌, List, [], ◌∷◌, codes}
-use Rattle.std.specs.Prelude.{Option, Some, None, is_some, option_and_then, option_map}
+use Rattle.std.specs.Prelude.{ℕ, Bool, true, false, not, ◌||◌, if◌then◌else◌, List, [], ◌∷◌, ◌++◌, codes}
+use Rattle.std.specs.Prelude.{Option, Some, None, is_some, option_map, ok_or, Result, Ok, Err}
 use Rattle.base_types.specs.Names.{is_same_name}
 use Rattle.vlog_reset.specs.Options.{ModuleOptions}
 use Rattle.vlog_reset.specs.declared.options.Manner.{Manner}
 use Rattle.cec_opt_sources.specs.declared.light.Coding.{Coding}
 use Rattle.cec_opt_sources.specs.declared.light.Coding.TheVariants.{Lighter, Encoded}
+use Rattle.cec_opt_texts.specs.Related.{result_then}
 use Rattle.cec_opt_commands.specs.GivenNames.{is_plain}
 
 -- what the words have said so far
@@ -107,12 +108,16 @@ needs_value word =
 
 -- ---- all of them
 
+-- what is wrong with a word that has no value, and does not go with those before; a file is one word too many
+abbrev pub bad_word : List ℕ → List ℕ
+bad_word word = if is_plain word then codes "one word too many: " ++ word else codes "bad option: " ++ word
+
 -- the words that follow; the one that is named here waits for its value
-abbrev pub wanted_with : Wanted → (waiting : Option (List ℕ)) → List (List ℕ) → Option Wanted
-wanted_with w None [] = Some w
-wanted_with w None (word ∷ more) =
-    if needs_value word then wanted_with w (Some word) more
-    else option_and_then (λ next. wanted_with next None more) (with_word w word)
-wanted_with w (Some key) [] = None
-wanted_with w (Some key) (value ∷ more) =
-    option_and_then (λ next. wanted_with next None more) (with_value w key value)
+abbrev pub wanted_by : Wanted → (waiting : Option (List ℕ)) → List (List ℕ) → Result Wanted (List ℕ)
+wanted_by w None [] = Ok w
+wanted_by w None (word ∷ more) =
+    if needs_value word then wanted_by w (Some word) more
+    else result_then (λ next. wanted_by next None more) (ok_or (with_word w word) (bad_word word))
+wanted_by w (Some key) [] = Err (codes "no value after " ++ key)
+wanted_by w (Some key) (value ∷ more) =
+    result_then (λ next. wanted_by next None more) (ok_or (with_value w key value) (codes "bad option: " ++ key))

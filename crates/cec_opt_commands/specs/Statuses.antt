@@ -8,10 +8,8 @@ use Rattle.cec_compile.specs.declared.refusal.Limit.TheVariants as limits
 use Rattle.cec_compile.specs.declared.refusal.Refusal as refusals
 use Rattle.cec_compile.specs.declared.refusal.Refusal.TheVariants as refusing
 use Rattle.cec_cycles.specs.declared.findings.Stuck.{Stuck}
-use Rattle.cec_opt_embed.specs.declared.faults.TextEmbedFault.{TextEmbedFault}
-use Rattle.cec_opt_embed.specs.declared.faults.TextEmbedFault.TheVariants as embedding
-use Rattle.cec_opt_reset.specs.declared.faults.TextResetFault.{TextResetFault}
-use Rattle.cec_opt_reset.specs.declared.faults.TextResetFault.TheVariants as resetting
+use Rattle.cec_opt_faults.specs.declared.unmade.Unmade.{Unmade}
+use Rattle.cec_opt_faults.specs.declared.unmade.Unmade.TheVariants.{NoNet, NoText}
 use Rattle.cec_opt_texts.specs.declared.fault.OptFault.{OptFault}
 use Rattle.cec_text_io.specs.declared.writing.Written.{Written}
 use Rattle.cec_text_io.specs.declared.writing.Written.TheVariants as ends
@@ -67,17 +65,11 @@ abbrev pub stop_outcome : Stop OptFault → OptOutcome
 stop_outcome (stops.Fault fault) = BadText fault
 stop_outcome stops.NoMemory = NoMemory
 
--- of a text that was to be written as embedded C
-abbrev pub embed_outcome : Stop TextEmbedFault → OptOutcome
-embed_outcome (stops.Fault (embedding.Text fault)) = BadText fault
-embed_outcome (stops.Fault (embedding.Component fault)) = BadComponent fault
-embed_outcome stops.NoMemory = NoMemory
-
--- of a text that was to be written as Verilog with a reset
-abbrev pub reset_outcome : Stop TextResetFault → OptOutcome
-reset_outcome (stops.Fault (resetting.Text fault)) = BadText fault
-reset_outcome (stops.Fault (resetting.Module fault)) = BadModule fault
-reset_outcome stops.NoMemory = NoMemory
+-- of a text that was to be written as embedded C, or as Verilog with a reset
+abbrev pub unmade_outcome : {F : Type 0} → (F → OptOutcome) → Stop (Unmade OptFault F) → OptOutcome
+unmade_outcome outcome_of (stops.Fault (NoNet fault)) = BadText fault
+unmade_outcome outcome_of (stops.Fault (NoText fault)) = outcome_of fault
+unmade_outcome outcome_of stops.NoMemory = NoMemory
 
 abbrev pub unread_outcome : unread.FileFault → OptOutcome
 unread_outcome reading.Failed = FileFault

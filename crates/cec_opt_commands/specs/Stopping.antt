@@ -7,10 +7,8 @@ use Rattle.base_types.specs.declared.stop.Stop.TheVariants as stops
 use Rattle.cec_cycles.specs.declared.findings.CycleRefusal.{CycleRefusal}
 use Rattle.cec_cycles.specs.declared.findings.CycleRefusal.TheVariants as causes
 use Rattle.cec_cycles.specs.declared.findings.Stuck.{Stuck}
-use Rattle.cec_opt_embed.specs.declared.faults.SourceEmbedFault.{SourceEmbedFault}
-use Rattle.cec_opt_embed.specs.declared.faults.SourceEmbedFault.TheVariants as embedding
-use Rattle.cec_opt_reset.specs.declared.faults.SourceResetFault.{SourceResetFault}
-use Rattle.cec_opt_reset.specs.declared.faults.SourceResetFault.TheVariants as resetting
+use Rattle.cec_opt_faults.specs.declared.unmade.Unmade.{Unmade}
+use Rattle.cec_opt_faults.specs.declared.unmade.Unmade.TheVariants.{NoNet, NoText}
 use Rattle.cec_text_io.specs.Writings.{LeavesText}
 use Rattle.cec_text_io.specs.declared.writing.Written.{Written}
 use Rattle.cec_opt_commands.specs.Statuses.{refusal_outcome, stuck_outcome}
@@ -34,16 +32,9 @@ IsRefusedOutcome (causes.NotConstructive stuck) s outcome = IsStuckOutcome stuck
 IsRefusedOutcome (causes.Undecided cycle) s outcome = IsSilentOutcome (outcomes.Undecided cycle) s outcome
 IsRefusedOutcome (causes.TooManyNets cycle) s outcome = IsSilentOutcome (outcomes.TooManyNets cycle) s outcome
 
--- the same of one that was to be written as embedded C
-abbrev pub IsEmbedStopOutcome : Stop SourceEmbedFault → SinkChange → OptOutcome → Type 0
-IsEmbedStopOutcome (stops.Fault (embedding.Source refusal)) s outcome = IsRefusedOutcome refusal s outcome
-IsEmbedStopOutcome (stops.Fault (embedding.Component fault)) s outcome =
-    IsSilentOutcome (outcomes.BadComponent fault) s outcome
-IsEmbedStopOutcome stops.NoMemory s outcome = IsSilentOutcome outcomes.NoMemory s outcome
-
--- or as Verilog with a reset
-abbrev pub IsResetStopOutcome : Stop SourceResetFault → SinkChange → OptOutcome → Type 0
-IsResetStopOutcome (stops.Fault (resetting.Source refusal)) s outcome = IsRefusedOutcome refusal s outcome
-IsResetStopOutcome (stops.Fault (resetting.Module fault)) s outcome =
-    IsSilentOutcome (outcomes.BadModule fault) s outcome
-IsResetStopOutcome stops.NoMemory s outcome = IsSilentOutcome outcomes.NoMemory s outcome
+-- the same of one that was to be written as embedded C, or as Verilog with a reset
+abbrev pub IsUnmadeOutcome : {F : Type 0} → (F → OptOutcome) → Stop (Unmade CycleRefusal F) → SinkChange → OptOutcome
+    → Type 0
+IsUnmadeOutcome outcome_of (stops.Fault (NoNet refusal)) s outcome = IsRefusedOutcome refusal s outcome
+IsUnmadeOutcome outcome_of (stops.Fault (NoText fault)) s outcome = IsSilentOutcome (outcome_of fault) s outcome
+IsUnmadeOutcome outcome_of stops.NoMemory s outcome = IsSilentOutcome outcomes.NoMemory s outcome

@@ -1,6 +1,6 @@
 // The top call: what the words ask for, done.
 
-ghost use Rattle.std.specs.Prelude.{◌≡◌, ◌≤◌, ◌↔◌, [], length, map, option_map, Some, None};
+ghost use Rattle.std.specs.Prelude.{◌≡◌, ◌≤◌, ◌↔◌, [], length, map, option_map, IsErr, Ok, None};
 ghost use Rattle.std.specs.String.{string_bytes};
 ghost use Rattle.base_types.specs.SinkChanges.{change};
 ghost use Rattle.cec_text_io.specs.ErrorLines.{GainsLine};
@@ -107,27 +107,26 @@ pub fn cec_opt<F: Files, O: Sink, E: Sink>(
     err: &mut E,
     progress: bool,
 ) -> OptOutcome
-    ensures usage { (result ≡ OptOutcome.Usage) ↔ (request_by (map string_bytes words.now) ≡ None) }
+    ensures usage { (result ≡ OptOutcome.Usage) ↔ IsErr (request_by (map string_bytes words.now)) }
     ensures agrees { IsOptOutcomeOf (request_by (map string_bytes words.now)) (F.content files.old) result }
     ensures files_counted { CountsFiles (request_by (map string_bytes words.now)) result
         (F.faults files.old) (F.faults files.new) (F.last_failed files.old) (F.last_failed files.new) }
     ensures files_stay { F.content files.new ≡ F.content files.old }
     ensures out { GainsOut (request_by (map string_bytes words.now)) (F.content files.old) result
         (change O.told O.faults out.old out.new) }
-    ensures err { GainsErr progress (map string_bytes words.now) (request_by (map string_bytes words.now))
-        (F.content files.old) result
+    ensures err { GainsErr progress (request_by (map string_bytes words.now)) (F.content files.old) result
         (E.told err.old) (E.told err.new) (E.faults err.old) (E.faults err.new) }
 {
     match request_by(words) {
-        Some(Request::Do(task, given, name)) => {
+        Ok(Request::Do(task, given, name)) => {
             do_file(alloc, task, given, name, files, progress, out, err)
         }
-        Some(Request::Make(task, name, main)) => {
+        Ok(Request::Make(task, name, main)) => {
             do_source(alloc, task, name, main, files, progress, out, err)
         }
-        Some(Request::Tell(about)) => tell(about, out, err),
-        None => {
-            report_misuse(err, words);
+        Ok(Request::Tell(about)) => tell(about, out, err),
+        Err(misuse) => {
+            report_misuse(err, misuse);
             OptOutcome::Usage
         }
     }
@@ -135,8 +134,8 @@ pub fn cec_opt<F: Files, O: Sink, E: Sink>(
 
 // Writes what the program writes about itself.
 fn tell<O: Sink, E: Sink>(about: About, out: &mut O, err: &mut E) -> OptOutcome
-    ensures agrees { IsOptOutcomeOf (Some (Tell about)) None result }
-    ensures out { GainsOut (Some (Tell about)) None result (change O.told O.faults out.old out.new) }
+    ensures agrees { IsOptOutcomeOf (Ok (Tell about)) None result }
+    ensures out { GainsOut (Ok (Tell about)) None result (change O.told O.faults out.old out.new) }
     ensures err { GainsLine (E.told err.old) (E.told err.new) (E.faults err.old) (E.faults err.new)
         (line_of (named []) result) }
 {
@@ -166,13 +165,13 @@ fn do_file<F: Files, O: Sink, E: Sink>(
     err: &mut E,
 ) -> OptOutcome
     ensures agrees { IsOptOutcomeOf
-        (Some (Do (plain_task task.entry) (given_by (map string_bytes given.now)) name.now))
+        (Ok (Do (plain_task task.entry) (given_by (map string_bytes given.now)) name.now))
         (F.content files.old) result }
     ensures files_counted { CountsFiles
-        (Some (Do (plain_task task.entry) (given_by (map string_bytes given.now)) name.now)) result
+        (Ok (Do (plain_task task.entry) (given_by (map string_bytes given.now)) name.now)) result
         (F.faults files.old) (F.faults files.new) (F.last_failed files.old) (F.last_failed files.new) }
     ensures files_stay { F.content files.new ≡ F.content files.old }
-    ensures out { GainsOut (Some (Do (plain_task task.entry) (given_by (map string_bytes given.now)) name.now))
+    ensures out { GainsOut (Ok (Do (plain_task task.entry) (given_by (map string_bytes given.now)) name.now))
         (F.content files.old) result (change O.told O.faults out.old out.new) }
     ensures err { GainsAfter progress (change E.told E.faults err.old err.new) (line_of (named name.now) result) }
 {
@@ -221,13 +220,13 @@ fn do_source<F: Files, O: Sink, E: Sink>(
     out: &mut O,
     err: &mut E,
 ) -> OptOutcome
-    ensures agrees { IsOptOutcomeOf (Some (Make (plain_task task.entry) name.now (option_map (λ m. m.now) main.entry)))
+    ensures agrees { IsOptOutcomeOf (Ok (Make (plain_task task.entry) name.now (option_map (λ m. m.now) main.entry)))
         (F.content files.old) result }
     ensures files_counted { CountsFiles
-        (Some (Make (plain_task task.entry) name.now (option_map (λ m. m.now) main.entry)))
+        (Ok (Make (plain_task task.entry) name.now (option_map (λ m. m.now) main.entry)))
         result (F.faults files.old) (F.faults files.new) (F.last_failed files.old) (F.last_failed files.new) }
     ensures files_stay { F.content files.new ≡ F.content files.old }
-    ensures out { GainsOut (Some (Make (plain_task task.entry) name.now (option_map (λ m. m.now) main.entry)))
+    ensures out { GainsOut (Ok (Make (plain_task task.entry) name.now (option_map (λ m. m.now) main.entry)))
         (F.content files.old) result (change O.told O.faults out.old out.new) }
     ensures err { GainsSourceErr progress name.now (option_map (λ m. m.now) main.entry) (F.content files.old) result
         (change E.told E.faults err.old err.new) }

@@ -5,16 +5,19 @@ ghost use Rattle.base_types.specs.SinkChanges.{change};
 ghost use Rattle.cec_opt_texts.specs.Related.{named_relation};
 ghost use Rattle.cec_opt_commands.specs.Answers.{IsAnswer};
 ghost use Rattle.cec_opt_commands.specs.Outcomes.{LeavesAnswer, LeavesSourceAnswer, SaysOf, SourceSays};
-ghost use Rattle.cec_opt_commands.specs.Stopping.{IsEmbedStopOutcome};
+ghost use Rattle.cec_opt_commands.specs.Stopping.{IsUnmadeOutcome};
 ghost use Rattle.cec_opt_commands.specs.Words.{Embed};
+ghost use Rattle.cec_opt_commands.specs.declared.outcome.OptOutcome.TheVariants.{BadComponent};
 
 use crate::outcome::OptOutcome;
 use crate::sources::{EFFORT, refused};
 use base_types::{Limits, Sink, Stop};
-use cec_opt_embed::{SourceEmbedFault, embedded_c_of, optimized_embedded};
+use cec_cycles::CycleRefusal;
+use cec_opt_embed::{embedded_c_of, optimized_embedded};
+use cec_opt_faults::Unmade;
 use cec_opt_texts::GivenRelation;
 use cec_text_io::write_whole;
-use csub_embed::EmbedLayout;
+use csub_embed::{EmbedFault, EmbedLayout};
 use grc_order::First;
 use std::alloc::Global;
 
@@ -63,12 +66,12 @@ pub(crate) fn embed_source<O: Sink>(
 
 // The outcome of a source that has no embedded C text under a name. Of one that is not constructive the trace is
 // written.
-fn unembedded<O: Sink>(stop: Stop<SourceEmbedFault>, out: &mut O) -> OptOutcome
-    ensures { IsEmbedStopOutcome stop (change O.told O.faults out.old out.new) result }
+fn unembedded<O: Sink>(stop: Stop<Unmade<CycleRefusal, EmbedFault>>, out: &mut O) -> OptOutcome
+    ensures { IsUnmadeOutcome BadComponent stop (change O.told O.faults out.old out.new) result }
 {
     match stop {
-        Stop::Fault(SourceEmbedFault::Source(refusal)) => refused(refusal, out),
-        Stop::Fault(SourceEmbedFault::Component(fault)) => OptOutcome::BadComponent(fault),
+        Stop::Fault(Unmade::NoNet(refusal)) => refused(refusal, out),
+        Stop::Fault(Unmade::NoText(fault)) => OptOutcome::BadComponent(fault),
         Stop::NoMemory => OptOutcome::NoMemory,
     }
 }

@@ -1,9 +1,13 @@
 // The words for the layout of an embedded text.
 
-ghost use Rattle.std.specs.Prelude.{◌≡◌};
-ghost use Rattle.cec_opt_commands.specs.Layouts.{file_of, is_layout, is_packed, layout_of, no_layout};
+ghost use Rattle.std.specs.Prelude.{◌≡◌, map};
+ghost use Rattle.std.specs.Result.{result_map_both};
+ghost use Rattle.std.specs.String.{string_bytes};
+ghost use Rattle.cec_opt_commands.specs.Layouts.{file_of, is_layout, is_packed, layout_of, no_layout, one_layout};
 ghost use Rattle.cec_opt_commands.specs.Layouts.{with_file, with_layout, with_packed};
+ghost use Rattle.cec_opt_commands.specs.Views.{misuse_is};
 
+use crate::words::{Misuse, faulty};
 use csub_embed::{EmbedFile, EmbedLayout};
 
 /// What the words for the layout have said so far.
@@ -35,15 +39,35 @@ pub(crate) fn layout_of(laid: Laid) -> EmbedLayout
     }
 }
 
-/// Whether a word is one for the layout.
-pub(crate) fn is_layout(word: &[u8]) -> bool
+/// One word for the layout or none, and the words after it.
+pub(crate) fn one_layout<'a>(
+    laid: Laid,
+    words: &'a [String],
+) -> Result<(Laid, &'a [String]), Misuse<'a>>
+    ensures { result_map_both (λ l. (l.0, map string_bytes l.1.now)) misuse_is result
+        ≡ one_layout laid (map string_bytes words.now) }
+{
+    let Some((word, more)) = words.split_first() else {
+        return Ok((laid, words));
+    };
+    if !is_layout(word.as_bytes()) {
+        return Ok((laid, words));
+    }
+    match with_layout(laid, word.as_bytes()) {
+        Some(next) => Ok((next, more)),
+        None => Err(faulty(b"bad option: ", word.as_bytes())),
+    }
+}
+
+// Whether a word is one for the layout.
+fn is_layout(word: &[u8]) -> bool
     ensures { result ≡ is_layout word.now }
 {
     is_packed(word) || file_of(word).is_some()
 }
 
-/// One more word for the layout; `None` where it does not go with those before.
-pub(crate) fn with_layout(laid: Laid, word: &[u8]) -> Option<Laid>
+// One more word for the layout; `None` where it does not go with those before.
+fn with_layout(laid: Laid, word: &[u8]) -> Option<Laid>
     ensures { result ≡ with_layout laid word.now }
 {
     if is_packed(word) {

@@ -17,7 +17,6 @@ mod embedded;
 mod laws;
 mod layouts;
 mod lines;
-mod misuses;
 mod outcome;
 mod relations;
 mod resets;

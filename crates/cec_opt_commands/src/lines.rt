@@ -1,17 +1,15 @@
 // The line about an outcome.
 
-ghost use Rattle.std.specs.Prelude.{◌≡◌, ◌≤◌, ◌++◌, ℕ, List, Option, codes, length, map};
-ghost use Rattle.std.specs.String.{string_bytes};
+ghost use Rattle.std.specs.Prelude.{◌≡◌, ◌≤◌, ◌++◌, ℕ, List, Option, codes, length};
 ghost use Rattle.base_types.specs.Writing.{Wrote};
 ghost use Rattle.cec_text_io.specs.ErrorLines.{GainsLine};
 ghost use Rattle.cec_refusals.specs.Views.{refused_is};
 ghost use Rattle.cec_opt_commands.specs.Lines.{circuit_line_text, component_fault_text, fault_text, line_of, named};
 ghost use Rattle.cec_opt_commands.specs.Lines.{reset_fault_text, own_line, refused_of, stuck_text, told_first};
-ghost use Rattle.cec_opt_commands.specs.Views.{subject_is};
-ghost use Rattle.cec_opt_commands.specs.Words.{misuse_of};
+ghost use Rattle.cec_opt_commands.specs.Views.{misuse_is, subject_is};
 
-use crate::misuses::misuse_of;
 use crate::outcome::OptOutcome;
+use crate::words::Misuse;
 use base_types::{Limits, Sink, SinkFault, write_pieces};
 use blif_net::CircuitFault;
 use cec_cycles::Stuck;
@@ -83,19 +81,18 @@ pub(crate) fn put_waiting<E: Sink>(err: &mut E, waits: bool) -> Result<(), SinkF
 }
 
 /// Writes the line about words that have no meaning; a sink that fails changes nothing.
-pub(crate) fn report_misuse<E: Sink>(err: &mut E, words: &[String])
+pub(crate) fn report_misuse<E: Sink>(err: &mut E, misuse: Misuse<'_>)
     ensures { GainsLine (E.told err.old) (E.told err.new) (E.faults err.old) (E.faults err.new)
-        (line_of (named (misuse_of (map string_bytes words.now))) OptOutcome.Usage) }
+        (line_of (named (misuse_is misuse.entry)) OptOutcome.Usage) }
 {
-    let _ = put_misuse(err, words);
+    let _ = put_misuse(err, misuse);
 }
 
 // The line about words that have no meaning.
-fn put_misuse<E: Sink>(err: &mut E, words: &[String]) -> Result<(), SinkFault>
+fn put_misuse<E: Sink>(err: &mut E, misuse: Misuse<'_>) -> Result<(), SinkFault>
     ensures { Wrote (E.told err.old) (E.told err.new) (E.faults err.old) (E.faults err.new)
-        (line_of (named (misuse_of (map string_bytes words.now))) OptOutcome.Usage) result }
+        (line_of (named (misuse_is misuse.entry)) OptOutcome.Usage) result }
 {
-    let misuse = misuse_of(words);
     write_pieces(
         err,
         &[

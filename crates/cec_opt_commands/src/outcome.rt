@@ -1,15 +1,14 @@
 // How a command ended.
 
 ghost use Rattle.std.specs.Prelude.{◌≡◌};
-ghost use Rattle.cec_opt_commands.specs.Statuses.{embed_outcome, refusal_outcome, refusal_status, reset_outcome};
-ghost use Rattle.cec_opt_commands.specs.Statuses.{source_unread_outcome, status_of};
-ghost use Rattle.cec_opt_commands.specs.Statuses.{stop_outcome, unread_outcome, written_outcome};
+ghost use Rattle.cec_opt_commands.specs.Statuses.{refusal_outcome, refusal_status, source_unread_outcome, status_of};
+ghost use Rattle.cec_opt_commands.specs.Statuses.{stop_outcome, unmade_outcome, unread_outcome, written_outcome};
+ghost use Rattle.cec_opt_commands.specs.declared.outcome.OptOutcome.TheVariants.{BadComponent, BadModule};
 
 use base_types::{FileFault, Stop};
 use cec_compile::{Cycle, Limit, Refusal};
 use cec_cycles::Stuck;
-use cec_opt_embed::TextEmbedFault;
-use cec_opt_reset::TextResetFault;
+use cec_opt_faults::Unmade;
 use cec_opt_texts::OptFault;
 use cec_text_io::Written;
 use csub_embed::EmbedFault;
@@ -72,25 +71,25 @@ impl From<Stop<OptFault>> for OptOutcome {
     }
 }
 
-impl From<Stop<TextEmbedFault>> for OptOutcome {
-    ghost from_gives = { λ stop outcome. outcome ≡ embed_outcome stop };
+impl From<Stop<Unmade<OptFault, EmbedFault>>> for OptOutcome {
+    ghost from_gives = { λ stop outcome. outcome ≡ unmade_outcome BadComponent stop };
 
-    fn from(stop: Stop<TextEmbedFault>) -> OptOutcome {
+    fn from(stop: Stop<Unmade<OptFault, EmbedFault>>) -> OptOutcome {
         match stop {
-            Stop::Fault(TextEmbedFault::Text(fault)) => OptOutcome::BadText(fault),
-            Stop::Fault(TextEmbedFault::Component(fault)) => OptOutcome::BadComponent(fault),
+            Stop::Fault(Unmade::NoNet(fault)) => OptOutcome::BadText(fault),
+            Stop::Fault(Unmade::NoText(fault)) => OptOutcome::BadComponent(fault),
             Stop::NoMemory => OptOutcome::NoMemory,
         }
     }
 }
 
-impl From<Stop<TextResetFault>> for OptOutcome {
-    ghost from_gives = { λ stop outcome. outcome ≡ reset_outcome stop };
+impl From<Stop<Unmade<OptFault, ResetFault>>> for OptOutcome {
+    ghost from_gives = { λ stop outcome. outcome ≡ unmade_outcome BadModule stop };
 
-    fn from(stop: Stop<TextResetFault>) -> OptOutcome {
+    fn from(stop: Stop<Unmade<OptFault, ResetFault>>) -> OptOutcome {
         match stop {
-            Stop::Fault(TextResetFault::Text(fault)) => OptOutcome::BadText(fault),
-            Stop::Fault(TextResetFault::Module(fault)) => OptOutcome::BadModule(fault),
+            Stop::Fault(Unmade::NoNet(fault)) => OptOutcome::BadText(fault),
+            Stop::Fault(Unmade::NoText(fault)) => OptOutcome::BadModule(fault),
             Stop::NoMemory => OptOutcome::NoMemory,
         }
     }

@@ -1,14 +1,16 @@
 // The words after `verilog --reset`: how the reset works, names, and a text or a source.
 
 ghost use Rattle.std.specs.Prelude.{◌≡◌, None, map, option_map};
+ghost use Rattle.std.specs.Result.{result_map_both};
 ghost use Rattle.std.specs.String.{string_bytes};
 ghost use Rattle.vlog_reset.specs.Views.{options_of};
 ghost use Rattle.cec_opt_commands.specs.Resets.{
+  bad_word,
   coding_of,
   manner_with,
   needs_value,
   plain_reset,
-  wanted_with,
+  wanted_by,
   with_active_low,
   with_asynchronous,
   with_encoded,
@@ -22,9 +24,9 @@ ghost use Rattle.cec_opt_commands.specs.Resets.{
   with_value,
   with_word,
 };
-ghost use Rattle.cec_opt_commands.specs.Views.{wanted_is};
+ghost use Rattle.cec_opt_commands.specs.Views.{misuse_is, wanted_is};
 
-use crate::words::is_plain;
+use crate::words::{Misuse, faulty, is_plain};
 use cec_opt_sources::Coding;
 use vlog_reset::{Manner, ResetOptions};
 
@@ -178,8 +180,8 @@ pub(crate) fn coding_of(is_encoded: bool) -> Coding
     }
 }
 
-/// One more word that is no value: a file, or one for the reset. `None` where it does not go with those before.
-pub(crate) fn with_word<'a>(wanted: Wanted<'a>, word: &'a str) -> Option<Wanted<'a>>
+// One more word that is no value: a file, or one for the reset. `None` where it does not go with those before.
+fn with_word<'a>(wanted: Wanted<'a>, word: &'a str) -> Option<Wanted<'a>>
     ensures { option_map wanted_is result ≡ with_word (wanted_is wanted.entry) word.now }
 {
     if is_plain(word.as_bytes()) {
@@ -229,8 +231,8 @@ fn with_its_main<'a>(wanted: Wanted<'a>, value: &'a str) -> Option<Wanted<'a>>
     })
 }
 
-/// One more word with its value; `None` where it does not go with those before, or does not take the value.
-pub(crate) fn with_value<'a>(wanted: Wanted<'a>, key: &[u8], value: &'a str) -> Option<Wanted<'a>>
+// One more word with its value; `None` where it does not go with those before, or does not take the value.
+fn with_value<'a>(wanted: Wanted<'a>, key: &[u8], value: &'a str) -> Option<Wanted<'a>>
     ensures { option_map wanted_is result ≡ with_value (wanted_is wanted.entry) key.now value.now }
 {
     if key == b"--module".as_slice() {
@@ -244,36 +246,57 @@ pub(crate) fn with_value<'a>(wanted: Wanted<'a>, key: &[u8], value: &'a str) -> 
     }
 }
 
-/// Whether a word has a value.
-pub(crate) fn needs_value(word: &[u8]) -> bool
+// Whether a word has a value.
+fn needs_value(word: &[u8]) -> bool
     ensures { result ≡ needs_value word.now }
 {
     word == b"--module".as_slice() || word == b"--source".as_slice() || word == b"--main".as_slice()
 }
 
-/// All further words; `None` where one of them has no meaning.
-pub(crate) fn wanted_with<'a>(wanted: Wanted<'a>, words: &'a [String]) -> Option<Wanted<'a>>
-    ensures { option_map wanted_is result ≡ wanted_with (wanted_is wanted.entry) None (map string_bytes words.now) }
+/// All further words, or what is wrong with them.
+pub(crate) fn wanted_by<'a>(
+    wanted: Wanted<'a>,
+    words: &'a [String],
+) -> Result<Wanted<'a>, Misuse<'a>>
+    ensures { result_map_both wanted_is misuse_is result
+        ≡ wanted_by (wanted_is wanted.entry) None (map string_bytes words.now) }
 {
     let mut with = wanted;
-    let mut key: Option<&[u8]> = None;
+    let mut key: Option<&'a [u8]> = None;
     for word in words {
         match key {
             None => {
                 if needs_value(word.as_bytes()) {
                     key = Some(word.as_bytes());
                 } else {
-                    with = with_word(with, word)?;
+                    match with_word(with, word) {
+                        None => return Err(bad_word(word.as_bytes())),
+                        Some(next) => with = next,
+                    }
                 }
             }
-            Some(name) => {
-                with = with_value(with, name, word)?;
-                key = None;
-            }
+            Some(name) => match with_value(with, name, word) {
+                None => return Err(faulty(b"bad option: ", name)),
+                Some(next) => {
+                    with = next;
+                    key = None;
+                }
+            },
         }
     }
     match key {
-        None => Some(with),
-        Some(_) => None,
+        None => Ok(with),
+        Some(name) => Err(faulty(b"no value after ", name)),
+    }
+}
+
+// What is wrong with a word that has no value, and does not go with those before. A file is one word too many.
+fn bad_word(word: &[u8]) -> Misuse<'_>
+    ensures { misuse_is result ≡ bad_word word.now }
+{
+    if is_plain(word) {
+        faulty(b"one word too many: ", word)
+    } else {
+        faulty(b"bad option: ", word)
     }
 }

@@ -6,19 +6,22 @@ ghost use Rattle.vlog_reset.specs.Views.{options_of};
 ghost use Rattle.cec_opt_texts.specs.Related.{named_relation};
 ghost use Rattle.cec_opt_commands.specs.Answers.{IsAnswer};
 ghost use Rattle.cec_opt_commands.specs.Outcomes.{LeavesAnswer, LeavesSourceAnswer, SaysOf, SourceSays};
-ghost use Rattle.cec_opt_commands.specs.Stopping.{IsResetStopOutcome};
+ghost use Rattle.cec_opt_commands.specs.Stopping.{IsUnmadeOutcome};
 ghost use Rattle.cec_opt_commands.specs.Words.{Reset};
+ghost use Rattle.cec_opt_commands.specs.declared.outcome.OptOutcome.TheVariants.{BadModule};
 
 use crate::outcome::OptOutcome;
 use crate::sources::{EFFORT, refused};
 use base_types::{Limits, Sink, Stop};
-use cec_opt_reset::{SourceResetFault, optimized_reset, reset_verilog_of};
+use cec_cycles::CycleRefusal;
+use cec_opt_faults::Unmade;
+use cec_opt_reset::{optimized_reset, reset_verilog_of};
 use cec_opt_sources::Coding;
 use cec_opt_texts::GivenRelation;
 use cec_text_io::write_whole;
 use grc_order::First;
 use std::alloc::Global;
-use vlog_reset::ResetOptions;
+use vlog_reset::{ResetFault, ResetOptions};
 
 /// Writes the circuit of a text, optimized where its inputs meet the relations, as Verilog with a reset. Says how it
 /// ended. The coding is of sources alone: it is there only for the contract.
@@ -65,12 +68,12 @@ pub(crate) fn reset_source<O: Sink>(
 }
 
 // The outcome of a source that has no Verilog with a reset. Of one that is not constructive the trace is written.
-fn unreset<O: Sink>(stop: Stop<SourceResetFault>, out: &mut O) -> OptOutcome
-    ensures { IsResetStopOutcome stop (change O.told O.faults out.old out.new) result }
+fn unreset<O: Sink>(stop: Stop<Unmade<CycleRefusal, ResetFault>>, out: &mut O) -> OptOutcome
+    ensures { IsUnmadeOutcome BadModule stop (change O.told O.faults out.old out.new) result }
 {
     match stop {
-        Stop::Fault(SourceResetFault::Source(refusal)) => refused(refusal, out),
-        Stop::Fault(SourceResetFault::Module(fault)) => OptOutcome::BadModule(fault),
+        Stop::Fault(Unmade::NoNet(refusal)) => refused(refusal, out),
+        Stop::Fault(Unmade::NoText(fault)) => OptOutcome::BadModule(fault),
         Stop::NoMemory => OptOutcome::NoMemory,
     }
 }

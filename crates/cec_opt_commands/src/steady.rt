@@ -1,6 +1,6 @@
 // The top call where nothing outside can fail.
 
-ghost use Rattle.std.specs.Prelude.{◌≡◌, ◌⊎◌, Some, false, map};
+ghost use Rattle.std.specs.Prelude.{◌≡◌, ◌⊎◌, Ok, Some, false, map};
 ghost use Rattle.std.specs.String.{string_bytes};
 ghost use Rattle.base_types.specs.FileEntry.{held};
 ghost use Rattle.base_types.specs.SinkState.{told_of};
@@ -23,14 +23,13 @@ pub fn cec_opt_steadily<E: Sink>(
     out: &mut SteadySink,
     err: &mut E,
 ) -> OptOutcome
-    ensures ends { (request : Request) → request_by (map string_bytes words.now) ≡ Some request →
+    ensures ends { (request : Request) → request_by (map string_bytes words.now) ≡ Ok request →
         IsAccepted request (held files.old) → (result ≡ OptOutcome.Done) ⊎ (result ≡ OptOutcome.NoMemory) }
     ensures agrees { IsOptOutcomeOf (request_by (map string_bytes words.now)) (Some (held files.old)) result }
     ensures files_stay { held files.new ≡ held files.old }
     ensures out { GainsOut (request_by (map string_bytes words.now)) (Some (held files.old)) result
         (record { before = told_of out.old; after = told_of out.new; faults_before = 0; faults_now = 0 }) }
-    ensures err { GainsErr false (map string_bytes words.now) (request_by (map string_bytes words.now))
-        (Some (held files.old)) result
+    ensures err { GainsErr false (request_by (map string_bytes words.now)) (Some (held files.old)) result
         (E.told err.old) (E.told err.new) (E.faults err.old) (E.faults err.new) }
 {
     cec_opt(alloc, words, files, out, err, false)

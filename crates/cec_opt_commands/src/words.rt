@@ -1,43 +1,46 @@
-// What the words of a command line ask for.
+// What the words of a command line ask for, or what is wrong with them.
 
-ghost use Rattle.std.specs.Prelude.{◌≡◌, None, codes, map, option_map};
+ghost use Rattle.std.specs.Prelude.{◌≡◌, ◌++◌, codes, map, option_map};
+ghost use Rattle.std.specs.Result.{result_map_both};
 ghost use Rattle.std.specs.String.{string_bytes};
 ghost use Rattle.base_types.specs.Names.{is_same_name};
 ghost use Rattle.cec_opt_commands.specs.Relations.{given_by};
 ghost use Rattle.cec_opt_commands.specs.Resets.{plain_reset};
 ghost use Rattle.cec_opt_commands.specs.Words.{
+  about_asked,
+  about_of,
+  command_of,
   embed_asked,
   file_wanted,
+  first_asked,
+  given_request,
   is_embed,
-  is_option,
   is_plain,
   is_reset,
   laid_asked,
-  more_laid,
-  more_options,
+  no_file,
   no_options,
+  one_option,
   options_asked,
-  options_of,
+  related_asked,
   request_by,
   reset_asked,
-  related_asked,
   rest_asked,
   source_asked,
+  takes_value,
   task_asked,
   task_of,
   text_asked,
   text_wanted,
-  given_request,
   with_main,
   with_option,
   with_source,
-  word_asked,
 };
-ghost use Rattle.cec_opt_commands.specs.Views.{options_are, plain_request, plain_task, wanted_is};
+ghost use Rattle.cec_opt_commands.specs.Views.{misuse_is, options_are, plain_request, plain_task, wanted_is};
 
-use crate::layouts::{Laid, is_layout, layout_of, no_layout, with_layout};
-use crate::relations::{first_relation, rest_by};
-use crate::resets::{Wanted, coding_of, plain_reset, wanted_with};
+use crate::layouts::{layout_of, no_layout, one_layout};
+use crate::relations::{first_relation, is_relation, rest_by};
+use crate::resets::{Wanted, coding_of, plain_reset, wanted_by};
 use cec_opt_sources::Coding;
 use csub_embed::EmbedLayout;
 use vlog_reset::ResetOptions;
@@ -94,59 +97,96 @@ pub(crate) struct Options<'a> {
     main: Option<&'a [u8]>,
 }
 
-/// What the words ask for; `None` where they have no meaning. It takes no memory.
-pub(crate) fn request_by(words: &[String]) -> Option<Request<'_>>
-    ensures { option_map plain_request result ≡ request_by (map string_bytes words.now) }
+/// What is wrong with words that have no meaning: the fault, and after it the word that has it.
+#[derive(Clone, Copy)]
+pub(crate) struct Misuse<'a> {
+    /// What is wrong.
+    pub(crate) fault: &'a [u8],
+    /// The word, empty where there is none.
+    pub(crate) word: &'a [u8],
+}
+
+/// What the words ask for, or what is wrong with them. It takes no memory.
+pub(crate) fn request_by(words: &[String]) -> Result<Request<'_>, Misuse<'_>>
+    ensures { result_map_both plain_request misuse_is result ≡ request_by (map string_bytes words.now) }
 {
-    let (command, rest) = words.split_first()?;
-    if rest.is_empty() {
-        return word_asked(command.as_bytes());
+    match words.split_first() {
+        None => Err(faulty(b"no command", b"")),
+        Some((word, rest)) => first_asked(word.as_bytes(), rest),
     }
-    let task = task_of(command.as_bytes())?;
-    related_asked(task, rest)
 }
 
-// What a task and the words after its command ask for, the first of which may be relations.
-fn related_asked<'a>(task: Task<'a>, words: &'a [String]) -> Option<Request<'a>>
-    ensures { option_map plain_request result ≡ related_asked (plain_task task.entry) (map string_bytes words.now) }
+/// A fault and its word.
+pub(crate) fn faulty<'a>(fault: &'a [u8], word: &'a [u8]) -> Misuse<'a>
+    ensures { misuse_is result ≡ fault.now ++ word.now }
 {
-    let request = task_asked(task, rest_by(words))?;
-    given_request(words, request)
+    Misuse { fault, word }
 }
 
-// A request, with the relations that words begin with. A source has relations of its own.
-fn given_request<'a>(words: &'a [String], request: Request<'a>) -> Option<Request<'a>>
-    ensures { option_map plain_request result
-        ≡ given_request (given_by (map string_bytes words.now)) (plain_request request.entry) }
+// What a first word and the words after it ask for.
+fn first_asked<'a>(word: &'a [u8], rest: &'a [String]) -> Result<Request<'a>, Misuse<'a>>
+    ensures { result_map_both plain_request misuse_is result
+        ≡ first_asked word.now (task_of word.now) (about_of word.now) (map string_bytes rest.now) }
 {
-    match request {
-        Request::Tell(about) => Some(Request::Tell(about)),
-        Request::Do(task, _, name) => Some(Request::Do(task, words, name)),
-        Request::Make(task, name, main) => match first_relation(words) {
-            Some(_) => None,
-            None => Some(Request::Make(task, name, main)),
+    match task_of(word) {
+        Some(task) => related_asked(task, rest),
+        None => match about_of(word) {
+            Some(about) => about_asked(about, rest),
+            None => Err(faulty(b"unknown word: ", word)),
         },
     }
 }
 
-/// What one word alone asks for.
-pub(crate) fn word_asked<'a>(word: &[u8]) -> Option<Request<'a>>
-    ensures { option_map plain_request result ≡ word_asked word.now }
+// What a word that asks about the program and the words after it ask for.
+fn about_asked<'a>(about: About, rest: &'a [String]) -> Result<Request<'a>, Misuse<'a>>
+    ensures { result_map_both plain_request misuse_is result ≡ about_asked about (map string_bytes rest.now) }
 {
-    if word == b"--help".as_slice() {
-        Some(Request::Tell(About::Commands))
-    } else if word == b"--version".as_slice() {
-        Some(Request::Tell(About::Version))
-    } else {
-        None
+    match rest.first() {
+        None => Ok(Request::Tell(about)),
+        Some(more) => Err(faulty(b"one word too many: ", more.as_bytes())),
     }
 }
 
-/// What a task and the words after its command ask for.
-pub(crate) fn task_asked<'a>(task: Task<'a>, words: &'a [String]) -> Option<Request<'a>>
-    ensures { option_map plain_request result ≡ task_asked (plain_task task.entry) (map string_bytes words.now) }
+// What a task and the words after its command ask for, the first of which may be relations.
+fn related_asked<'a>(task: Task<'a>, words: &'a [String]) -> Result<Request<'a>, Misuse<'a>>
+    ensures { result_map_both plain_request misuse_is result
+        ≡ related_asked (plain_task task.entry) (map string_bytes words.now) }
 {
-    let (word, rest) = words.split_first()?;
+    let Some(word) = words.first() else {
+        return task_asked(task, words);
+    };
+    let request = task_asked(task, rest_by(words))?;
+    given_request(word.as_bytes(), words, request)
+}
+
+// A request, with the relations that words begin with, the first of which has this word. A source has relations of
+// its own.
+fn given_request<'a>(
+    word: &'a [u8],
+    words: &'a [String],
+    request: Request<'a>,
+) -> Result<Request<'a>, Misuse<'a>>
+    ensures { result_map_both plain_request misuse_is result
+        ≡ given_request word.now (given_by (map string_bytes words.now)) (plain_request request.entry) }
+{
+    match request {
+        Request::Tell(about) => Ok(Request::Tell(about)),
+        Request::Do(task, _, name) => Ok(Request::Do(task, words, name)),
+        Request::Make(task, name, main) => match first_relation(words) {
+            Some(_) => Err(faulty(b"a source has relations of its own: ", word)),
+            None => Ok(Request::Make(task, name, main)),
+        },
+    }
+}
+
+// What a task and the words after its command and relations ask for.
+fn task_asked<'a>(task: Task<'a>, words: &'a [String]) -> Result<Request<'a>, Misuse<'a>>
+    ensures { result_map_both plain_request misuse_is result
+        ≡ task_asked (plain_task task.entry) (map string_bytes words.now) }
+{
+    let Some((word, rest)) = words.split_first() else {
+        return Err(no_file(task));
+    };
     if is_embed(task, word.as_bytes()) {
         embed_asked(rest)
     } else if is_reset(task, word.as_bytes()) {
@@ -156,8 +196,27 @@ pub(crate) fn task_asked<'a>(task: Task<'a>, words: &'a [String]) -> Option<Requ
     }
 }
 
-/// Whether a word after the command of a task asks for embedded C.
-pub(crate) fn is_embed(task: Task<'_>, word: &[u8]) -> bool
+// What is wrong where neither a text nor a source is named.
+fn no_file(task: Task<'_>) -> Misuse<'static>
+    ensures { misuse_is result ≡ no_file (plain_task task.entry) }
+{
+    faulty(b"no file after ", command_of(task))
+}
+
+// The command of a task.
+fn command_of(task: Task<'_>) -> &'static [u8]
+    ensures { result.now ≡ command_of (plain_task task.entry) }
+{
+    match task {
+        Task::Write(Form::Blif) => b"blif",
+        Task::Write(Form::C) | Task::Embed(_, _) => b"c",
+        Task::Write(Form::Verilog) | Task::Reset(_, _) => b"verilog",
+        Task::Check => b"check",
+    }
+}
+
+// Whether a word after the command of a task asks for embedded C.
+fn is_embed(task: Task<'_>, word: &[u8]) -> bool
     ensures { result ≡ is_embed (plain_task task.entry) word.now }
 {
     match task {
@@ -167,8 +226,8 @@ pub(crate) fn is_embed(task: Task<'_>, word: &[u8]) -> bool
     }
 }
 
-/// Whether a word after the command of a task asks for Verilog with a reset.
-pub(crate) fn is_reset(task: Task<'_>, word: &[u8]) -> bool
+// Whether a word after the command of a task asks for Verilog with a reset.
+fn is_reset(task: Task<'_>, word: &[u8]) -> bool
     ensures { result ≡ is_reset (plain_task task.entry) word.now }
 {
     match task {
@@ -179,116 +238,159 @@ pub(crate) fn is_reset(task: Task<'_>, word: &[u8]) -> bool
 }
 
 // What the name of a reset and the words after it ask for.
-fn reset_asked<'a>(words: &'a [String]) -> Option<Request<'a>>
-    ensures { option_map plain_request result ≡ reset_asked (map string_bytes words.now) }
+fn reset_asked<'a>(words: &'a [String]) -> Result<Request<'a>, Misuse<'a>>
+    ensures { result_map_both plain_request misuse_is result ≡ reset_asked (map string_bytes words.now) }
 {
-    let (reset, rest) = words.split_first()?;
+    let Some((reset, rest)) = words.split_first() else {
+        return Err(faulty(b"no value after ", b"--reset"));
+    };
     if !is_plain(reset.as_bytes()) {
-        return None;
+        return Err(faulty(b"bad option: ", b"--reset"));
     }
-    let wanted = wanted_with(plain_reset(reset.as_bytes()), rest)?;
+    let wanted = wanted_by(plain_reset(reset.as_bytes()), rest)?;
     file_wanted(wanted)
 }
 
 // What is asked for, where a text or a source is named.
-fn file_wanted<'a>(wanted: Wanted<'a>) -> Option<Request<'a>>
-    ensures { option_map plain_request result ≡ file_wanted (wanted_is wanted.entry) (wanted_is wanted.entry).source }
+fn file_wanted<'a>(wanted: Wanted<'a>) -> Result<Request<'a>, Misuse<'a>>
+    ensures { result_map_both plain_request misuse_is result
+        ≡ file_wanted (wanted_is wanted.entry) (wanted_is wanted.entry).source }
 {
     match wanted.source {
         Some(name) => {
             let coding = coding_of(wanted.is_encoded);
-            Some(Request::Make(Task::Reset(wanted.options, coding), name, wanted.main))
+            Ok(Request::Make(Task::Reset(wanted.options, coding), name, wanted.main))
         }
         None => text_wanted(wanted),
     }
 }
 
-fn text_wanted<'a>(wanted: Wanted<'a>) -> Option<Request<'a>>
-    ensures { option_map plain_request result ≡ text_wanted (wanted_is wanted.entry) }
+fn text_wanted<'a>(wanted: Wanted<'a>) -> Result<Request<'a>, Misuse<'a>>
+    ensures { result_map_both plain_request misuse_is result ≡ text_wanted (wanted_is wanted.entry) }
 {
-    if wanted.main.is_some() {
-        return None;
+    let task = Task::Reset(wanted.options, Coding::Lighter);
+    match wanted.text {
+        Some(name) => Ok(Request::Do(task, &[], name)),
+        None => Err(no_file(task)),
     }
-    let name = wanted.text?;
-    Some(Request::Do(Task::Reset(wanted.options, Coding::Lighter), &[], name))
 }
 
 // What the name of a component and the words after it ask for.
-fn embed_asked<'a>(words: &'a [String]) -> Option<Request<'a>>
-    ensures { option_map plain_request result ≡ embed_asked (map string_bytes words.now) }
+fn embed_asked<'a>(words: &'a [String]) -> Result<Request<'a>, Misuse<'a>>
+    ensures { result_map_both plain_request misuse_is result ≡ embed_asked (map string_bytes words.now) }
 {
-    let (component, rest) = words.split_first()?;
+    let Some((component, rest)) = words.split_first() else {
+        return Err(faulty(b"no value after ", b"--embed"));
+    };
     if !is_plain(component.as_bytes()) {
-        return None;
+        return Err(faulty(b"bad option: ", b"--embed"));
     }
     laid_asked(component.as_bytes(), rest)
 }
 
-// What words for the layout of a component, none or some, and the words after them ask for.
-fn laid_asked<'a>(component: &'a [u8], words: &'a [String]) -> Option<Request<'a>>
-    ensures { option_map plain_request result ≡ laid_asked component.now (map string_bytes words.now) }
+// What words for the layout of a component, at most two, and the words after them ask for.
+fn laid_asked<'a>(component: &'a [u8], words: &'a [String]) -> Result<Request<'a>, Misuse<'a>>
+    ensures { result_map_both plain_request misuse_is result
+        ≡ laid_asked component.now (map string_bytes words.now) }
 {
-    let (word, rest) = words.split_first()?;
-    if !is_layout(word.as_bytes()) {
-        return rest_asked(Task::Embed(component, layout_of(no_layout())), words);
-    }
-    let laid = with_layout(no_layout(), word.as_bytes())?;
-    more_laid(component, laid, rest)
-}
-
-// The same after one word for the layout.
-fn more_laid<'a>(component: &'a [u8], laid: Laid, words: &'a [String]) -> Option<Request<'a>>
-    ensures { option_map plain_request result ≡ more_laid component.now laid (map string_bytes words.now) }
-{
-    let (word, rest) = words.split_first()?;
-    if !is_layout(word.as_bytes()) {
-        return rest_asked(Task::Embed(component, layout_of(laid)), words);
-    }
-    let next = with_layout(laid, word.as_bytes())?;
-    rest_asked(Task::Embed(component, layout_of(next)), rest)
+    let (first, rest) = one_layout(no_layout(), words)?;
+    let (laid, more) = one_layout(first, rest)?;
+    rest_asked(Task::Embed(component, layout_of(laid)), more)
 }
 
 // What a task and a file, or options, ask for.
-fn rest_asked<'a>(task: Task<'a>, words: &'a [String]) -> Option<Request<'a>>
-    ensures { option_map plain_request result ≡ rest_asked (plain_task task.entry) (map string_bytes words.now) }
+fn rest_asked<'a>(task: Task<'a>, words: &'a [String]) -> Result<Request<'a>, Misuse<'a>>
+    ensures { result_map_both plain_request misuse_is result
+        ≡ rest_asked (plain_task task.entry) (map string_bytes words.now) }
 {
-    let (name, more) = words.split_first()?;
-    if more.is_empty() {
-        text_asked(task, name)
+    let Some((name, more)) = words.split_first() else {
+        return Err(no_file(task));
+    };
+    let Some(second) = more.first() else {
+        return text_asked(task, name);
+    };
+    if is_plain(name.as_bytes()) {
+        return Err(faulty(b"one word too many: ", second.as_bytes()));
+    }
+    options_asked(task, words)
+}
+
+// What a task and one word, a file, ask for.
+fn text_asked<'a>(task: Task<'a>, name: &'a str) -> Result<Request<'a>, Misuse<'a>>
+    ensures { result_map_both plain_request misuse_is result ≡ text_asked (plain_task task.entry) name.now }
+{
+    if is_plain(name.as_bytes()) {
+        Ok(Request::Do(task, &[], name))
+    } else if takes_value(name.as_bytes()) {
+        Err(faulty(b"no value after ", name.as_bytes()))
     } else {
-        options_asked(task, words)
+        Err(faulty(b"not a file: ", name.as_bytes()))
     }
 }
 
-// What a task and a file ask for.
-fn text_asked<'a>(task: Task<'a>, name: &'a str) -> Option<Request<'a>>
-    ensures { option_map plain_request result ≡ text_asked (plain_task task.entry) name.now }
+// What a task and options, at most two, ask for.
+fn options_asked<'a>(task: Task<'a>, words: &'a [String]) -> Result<Request<'a>, Misuse<'a>>
+    ensures { result_map_both plain_request misuse_is result
+        ≡ options_asked (plain_task task.entry) (map string_bytes words.now) }
 {
-    if is_plain(name.as_bytes()) {
-        Some(Request::Do(task, &[], name))
+    let (first, rest) = one_option(no_options(), words)?;
+    let (options, more) = one_option(first, rest)?;
+    source_asked(task, options, more)
+}
+
+// What a task asks for with these options, after which comes no word.
+fn source_asked<'a>(
+    task: Task<'a>,
+    options: Options<'a>,
+    words: &'a [String],
+) -> Result<Request<'a>, Misuse<'a>>
+    ensures { result_map_both plain_request misuse_is result
+        ≡ source_asked (plain_task task.entry) (options_are options.entry) (map string_bytes words.now) }
+{
+    if let Some(more) = words.first() {
+        return Err(faulty(b"one word too many: ", more.as_bytes()));
+    }
+    match options.source {
+        Some(name) => Ok(Request::Make(task, name, options.main)),
+        None => Err(no_file(task)),
+    }
+}
+
+// One option or none, and the words after it.
+fn one_option<'a>(
+    options: Options<'a>,
+    words: &'a [String],
+) -> Result<(Options<'a>, &'a [String]), Misuse<'a>>
+    ensures { result_map_both (λ o. (options_are o.0, map string_bytes o.1.now)) misuse_is result
+        ≡ one_option (options_are options.entry) (map string_bytes words.now) }
+{
+    let Some((key, rest)) = words.split_first() else {
+        return Ok((options, words));
+    };
+    let Some((value, more)) = rest.split_first() else {
+        return Err(faulty(b"no value after ", key.as_bytes()));
+    };
+    match with_option(options, key.as_bytes(), value) {
+        Some(next) => Ok((next, more)),
+        None => Err(faulty(b"bad option: ", key.as_bytes())),
+    }
+}
+
+// What a word asks about the program.
+fn about_of(word: &[u8]) -> Option<About>
+    ensures { result ≡ about_of word.now }
+{
+    if word == b"--help".as_slice() {
+        Some(About::Commands)
+    } else if word == b"--version".as_slice() {
+        Some(About::Version)
     } else {
         None
     }
 }
 
-// What a task and options ask for.
-fn options_asked<'a>(task: Task<'a>, words: &'a [String]) -> Option<Request<'a>>
-    ensures { option_map plain_request result ≡ options_asked (plain_task task.entry) (map string_bytes words.now) }
-{
-    let options = options_of(words)?;
-    source_asked(task, options)
-}
-
-// What a task asks for, with these options.
-fn source_asked<'a>(task: Task<'a>, options: Options<'a>) -> Option<Request<'a>>
-    ensures { option_map plain_request result ≡ source_asked (plain_task task.entry) (options_are options.entry) }
-{
-    let name = options.source?;
-    Some(Request::Make(task, name, options.main))
-}
-
-/// Before any option.
-pub(crate) fn no_options<'a>() -> Options<'a>
+// Before any option.
+fn no_options<'a>() -> Options<'a>
     ensures { options_are result ≡ no_options }
 {
     Options {
@@ -297,36 +399,8 @@ pub(crate) fn no_options<'a>() -> Options<'a>
     }
 }
 
-// One option, or two, each of which is two words.
-fn options_of<'a>(words: &'a [String]) -> Option<Options<'a>>
-    ensures { option_map options_are result ≡ options_of (map string_bytes words.now) }
-{
-    let (key, rest) = words.split_first()?;
-    let (value, more) = rest.split_first()?;
-    let options = with_option(no_options(), key.as_bytes(), value)?;
-    more_options(options, more)
-}
-
-// No further option, or one.
-fn more_options<'a>(options: Options<'a>, words: &'a [String]) -> Option<Options<'a>>
-    ensures { option_map options_are result ≡ more_options (options_are options.entry) (map string_bytes words.now) }
-{
-    let Some((key, rest)) = words.split_first() else {
-        return Some(options);
-    };
-    let (value, more) = rest.split_first()?;
-    if !more.is_empty() {
-        return None;
-    }
-    with_option(options, key.as_bytes(), value)
-}
-
-/// One more option.
-pub(crate) fn with_option<'a>(
-    options: Options<'a>,
-    key: &[u8],
-    value: &'a str,
-) -> Option<Options<'a>>
+// One more option.
+fn with_option<'a>(options: Options<'a>, key: &[u8], value: &'a str) -> Option<Options<'a>>
     ensures { option_map options_are result ≡ with_option (options_are options.entry) key.now value.now }
 {
     if key == b"--source".as_slice() {
@@ -362,11 +436,11 @@ fn with_main<'a>(options: Options<'a>, value: &'a str) -> Option<Options<'a>>
     })
 }
 
-/// Whether a word is an option.
-pub(crate) fn is_option(word: &[u8]) -> bool
-    ensures { result ≡ is_option word.now }
+// Whether a word needs another one after it.
+fn takes_value(word: &[u8]) -> bool
+    ensures { result ≡ takes_value word.now }
 {
-    word == b"--source".as_slice() || word == b"--main".as_slice()
+    word == b"--source".as_slice() || word == b"--main".as_slice() || is_relation(word)
 }
 
 /// Whether a word is a file or a name: it is not empty and does not begin with `-`.
@@ -379,8 +453,8 @@ pub(crate) fn is_plain(word: &[u8]) -> bool
     }
 }
 
-/// The task of a command.
-pub(crate) fn task_of<'a>(word: &[u8]) -> Option<Task<'a>>
+// The task of a command.
+fn task_of<'a>(word: &[u8]) -> Option<Task<'a>>
     ensures { option_map plain_task result ≡ task_of word.now }
 {
     if is_verilog(word) {

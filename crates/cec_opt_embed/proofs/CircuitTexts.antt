@@ -5,7 +5,6 @@ use Rattle.base_facts.proofs.Lists.{map-composed}
 use Rattle.base_types.specs.Items.{Item, EachEvent}
 use Rattle.base_types.specs.Stops.{IfFault}
 use Rattle.base_types.specs.declared.stop.Stop.{Stop}
-use Rattle.base_types.specs.declared.stop.Stop.TheVariants.{Fault, NoMemory}
 use Rattle.base_types.proofs.Exports.{wide_events}
 use Rattle.base_machines.specs.Machines.{Shows}
 use Rattle.base_machines.proofs.Exports.{shows-computed, shows-through}
@@ -26,11 +25,14 @@ use Rattle.cec_opt_texts.proofs.Exports.{allowed-events, fitting-events, related
 use Rattle.cec_opt_texts.specs.Alike.{HasOutputs, IsExpected}
 use Rattle.cec_opt_texts.specs.Optimized.{IsSmallNetOf, IsSmallOf}
 use Rattle.cec_opt_texts.specs.Related.{GivenRelation}
-use Rattle.cec_opt_embed.specs.ComponentFaults.{IsTextComponentFault}
-use Rattle.cec_opt_embed.specs.Faults.{IsTextEmbedFault}
+use Rattle.cec_opt_faults.proofs.Exports.{unmade-as}
+use Rattle.cec_opt_faults.specs.Causes.{IsUnmade}
+use Rattle.cec_opt_faults.specs.declared.unmade.Unmade.{Unmade}
+use Rattle.cec_opt_texts.specs.Faults.{IsGivenFault}
+use Rattle.cec_opt_texts.specs.declared.fault.OptFault.{OptFault}
+use Rattle.csub_embed.specs.declared.fault.EmbedFault.{EmbedFault}
+use Rattle.cec_opt_embed.specs.Faults.{IsTextEmbedFault, IsTextNameFault}
 use Rattle.cec_opt_embed.specs.Texts.{EmbedKeeps, IsSmallComponent, IsSmallEmbedded, row_of}
-use Rattle.cec_opt_embed.specs.declared.faults.TextEmbedFault.{TextEmbedFault}
-use Rattle.cec_opt_embed.specs.declared.faults.TextEmbedFault.TheVariants.{Text, Component}
 use Rattle.cec_opt_embed.proofs.Apart.{apart}
 
 -- ---- the optimized netlist of a circuit
@@ -104,23 +106,21 @@ text-keeps text given name layout embedded net is spelled means =
 
 -- ---- a netlist under a name
 
-pub text-net : (text : List ℕ) (given : List GivenRelation) (name : List ℕ) (optimized : Netlist) (result : Result Net (Stop TextEmbedFault))
+pub text-net : (text : List ℕ) (given : List GivenRelation) (name : List ℕ) (optimized : Netlist) (result : Result Net (Stop (Unmade OptFault EmbedFault)))
     → IsSmallNetOf text given optimized → IfOk result (λ n. netlist_of n ≡ under_name name optimized)
     → IfOk result (λ n. IsSmallComponent text given name (netlist_of n))
 text-net text given name optimized (Ok n) small named = record { optimized = optimized; small = small; named = named }
 text-net text given name optimized (Err stop) small named = tt
 
 -- a fault of the name or of a signal, where the text has a netlist
-pub text-fault : (text : List ℕ) (given : List GivenRelation) (name : List ℕ) (optimized : Netlist) (result : Result Net (Stop TextEmbedFault))
-    → IsSmallNetOf text given optimized → IfFault result (IsTextComponentFault (IsEmbedFault name (signals optimized)))
+pub text-fault : (text : List ℕ) (given : List GivenRelation) (name : List ℕ) (optimized : Netlist) (result : Result Net (Stop (Unmade OptFault EmbedFault)))
+    → IsSmallNetOf text given optimized → IfFault result (IsUnmade (λ cause. ⊥) (IsEmbedFault name (signals optimized)))
     → IfFault result (IsTextEmbedFault text given name)
-text-fault text given name optimized (Ok n) s is = tt
-text-fault text given name optimized (Err (Fault (Text fault))) s is = absurd is
-text-fault text given name optimized (Err (Fault (Component fault))) s is = record {
-  net = optimized;
-  small = s;
-  names = output_names optimized;
-  has_outputs = given-outputs s.circuit given optimized s.small;
-  is = subst (λ inputs. IsEmbedFault name (inputs ++ output_names optimized) fault) (given-inputs s.circuit given optimized s.small) is;
-}
-text-fault text given name optimized (Err NoMemory) s is = tt
+text-fault text given name optimized result s is =
+    unmade-as (IsGivenFault text given) (IsEmbedFault name (signals optimized)) (IsTextNameFault text given name) result (λ fault is. record {
+      net = optimized;
+      small = s;
+      names = output_names optimized;
+      has_outputs = given-outputs s.circuit given optimized s.small;
+      is = subst (λ inputs. IsEmbedFault name (inputs ++ output_names optimized) fault) (given-inputs s.circuit given optimized s.small) is;
+    }) is

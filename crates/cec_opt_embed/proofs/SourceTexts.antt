@@ -5,7 +5,6 @@ use Rattle.std.proofs.lemmas.List.{length-take}
 use Rattle.base_facts.proofs.Lists.{map-composed}
 use Rattle.base_types.specs.Stops.{IfFault}
 use Rattle.base_types.specs.declared.stop.Stop.{Stop}
-use Rattle.base_types.specs.declared.stop.Stop.TheVariants.{Fault, NoMemory}
 use Rattle.est_kernel.specs.Plain.{Program, given_count}
 use Rattle.net_ir.specs.declared.netlist.Net.{Net}
 use Rattle.net_ir.specs.Netlists.{Netlist}
@@ -20,11 +19,13 @@ use Rattle.cec_compile.specs.NetMeaning.{NetKeeps, net_seen}
 use Rattle.cec_compile.proofs.Exports.{widths}
 use Rattle.cec_cycles.specs.Constructive.{IsConstructiveNetOf, StandsForConstructiveNet}
 use Rattle.cec_opt_sources.specs.declared.light.Coding.TheVariants.{Lighter}
-use Rattle.cec_opt_embed.specs.ComponentFaults.{IsSourceComponentFault}
-use Rattle.cec_opt_embed.specs.Faults.{IsSourceEmbedFault}
+use Rattle.cec_cycles.specs.declared.findings.CycleRefusal.{CycleRefusal}
+use Rattle.cec_opt_faults.proofs.Exports.{unmade-as}
+use Rattle.cec_opt_faults.specs.Causes.{IsSourceCause, IsUnmade}
+use Rattle.cec_opt_faults.specs.declared.unmade.Unmade.{Unmade}
+use Rattle.csub_embed.specs.declared.fault.EmbedFault.{EmbedFault}
+use Rattle.cec_opt_embed.specs.Faults.{IsProgramNameFault, IsSourceEmbedFault}
 use Rattle.cec_opt_embed.specs.Sources.{EmbeddedTextKeeps, IsComponentNetOf, StandsForEmbedded}
-use Rattle.cec_opt_embed.specs.declared.faults.SourceEmbedFault.{SourceEmbedFault}
-use Rattle.cec_opt_embed.specs.declared.faults.SourceEmbedFault.TheVariants.{Source, Component}
 use Rattle.cec_opt_embed.proofs.Apart.{apart}
 
 -- files that mean a net under a name keep what the net keeps
@@ -64,21 +65,19 @@ source-stands text main name layout net embedded is spelled means =
 
 -- ---- a netlist under a name
 
-pub source-net : (text : List ℕ) (main : Option (List ℕ)) (name : List ℕ) (given : Netlist) (result : Result Net (Stop SourceEmbedFault))
+pub source-net : (text : List ℕ) (main : Option (List ℕ)) (name : List ℕ) (given : Netlist) (result : Result Net (Stop (Unmade CycleRefusal EmbedFault)))
     → StandsForConstructiveNet text main given → IsConstructiveNetOf Lighter text main given → IfOk result (λ n. netlist_of n ≡ under_name name given)
     → IfOk result (λ n. IsComponentNetOf text main name (netlist_of n))
 source-net text main name given (Ok n) stands made named = record { given = given; stands = stands; made = made; named = named }
 source-net text main name given (Err stop) stands made named = tt
 
 -- a fault of the name or of a signal, where the source has a netlist
-pub source-fault : (text : List ℕ) (main : Option (List ℕ)) (name : List ℕ) (given : Netlist) (result : Result Net (Stop SourceEmbedFault))
-    → StandsForConstructiveNet text main given → IfFault result (IsSourceComponentFault (IsEmbedFault name (signals given)))
+pub source-fault : (text : List ℕ) (main : Option (List ℕ)) (name : List ℕ) (given : Netlist) (result : Result Net (Stop (Unmade CycleRefusal EmbedFault)))
+    → StandsForConstructiveNet text main given → IfFault result (IsUnmade (λ cause. ⊥) (IsEmbedFault name (signals given)))
     → IfFault result (IsSourceEmbedFault text main name)
-source-fault text main name given (Ok n) stands is = tt
-source-fault text main name given (Err (Fault (Source refusal))) stands is = absurd is
-source-fault text main name given (Err (Fault (Component fault))) stands is = record {
-  net = given;
-  stands = stands;
-  is = subst (λ names. IsEmbedFault name names fault) (ap₂ (λ inputs outputs. inputs ++ outputs) stands.keeps.inputs stands.keeps.outputs) is;
-}
-source-fault text main name given (Err NoMemory) stands is = tt
+source-fault text main name given result stands is =
+    unmade-as (IsSourceCause text main) (IsEmbedFault name (signals given)) (IsProgramNameFault text main name) result (λ fault is. record {
+      net = given;
+      stands = stands;
+      is = subst (λ names. IsEmbedFault name names fault) (ap₂ (λ inputs outputs. inputs ++ outputs) stands.keeps.inputs stands.keeps.outputs) is;
+    }) is

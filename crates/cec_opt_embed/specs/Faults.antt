@@ -5,30 +5,17 @@ use Rattle.est_kernel.specs.Plain.{given_names, outgoing_names}
 use Rattle.net_ir.specs.Netlists.{Netlist}
 use Rattle.csub_embed.specs.Faults.{IsEmbedFault}
 use Rattle.csub_embed.specs.declared.fault.EmbedFault.{EmbedFault}
-use Rattle.cec_compile.specs.declared.refusal.Refusal.{Refusal}
-use Rattle.cec_compile.specs.declared.refusal.Refusal.TheVariants as refusals
-use Rattle.cec_cycles.specs.Constructive.{IsRefusedConstructive, StandsForConstructiveNet}
+use Rattle.cec_cycles.specs.Constructive.{StandsForConstructiveNet}
 use Rattle.cec_cycles.specs.declared.findings.CycleRefusal.{CycleRefusal}
-use Rattle.cec_cycles.specs.declared.findings.CycleRefusal.TheVariants as causes
+use Rattle.cec_opt_faults.specs.Causes.{IsSourceCause, IsUnmade}
+use Rattle.cec_opt_faults.specs.declared.unmade.Unmade.{Unmade}
 use Rattle.cec_opt_texts.specs.Alike.{HasOutputs}
 use Rattle.cec_opt_texts.specs.Faults.{IsGivenFault}
 use Rattle.cec_opt_texts.specs.Optimized.{IsSmallNetOf}
 use Rattle.cec_opt_texts.specs.Related.{GivenRelation}
-use Rattle.cec_opt_embed.specs.declared.faults.SourceEmbedFault.{SourceEmbedFault}
-use Rattle.cec_opt_embed.specs.declared.faults.SourceEmbedFault.TheVariants as source_faults
-use Rattle.cec_opt_embed.specs.declared.faults.TextEmbedFault.{TextEmbedFault}
-use Rattle.cec_opt_embed.specs.declared.faults.TextEmbedFault.TheVariants as text_faults
+use Rattle.cec_opt_texts.specs.declared.fault.OptFault.{OptFault}
 
 -- ---- sources
-
--- running out of memory is no cause
-abbrev pub IsCause : Refusal → Type 0
-IsCause refusals.NoMemory = ⊥
-IsCause others = Unit {0}
-
-abbrev pub HasCause : CycleRefusal → Type 0
-HasCause (causes.Source refusal) = IsCause refusal
-HasCause others = Unit {0}
 
 -- The source has a netlist, and this is the first fault of the name, or the first signal that is a word of C or of
 -- C++. Given signals come before outgoing ones.
@@ -38,10 +25,8 @@ pub record IsProgramNameFault (text : List ℕ) (main : Option (List ℕ)) (name
   pub stands : StandsForConstructiveNet text main net
   pub is : IsEmbedFault name (given_names stands.program ++ outgoing_names stands.program) fault
 
-abbrev pub IsSourceEmbedFault : List ℕ → Option (List ℕ) → List ℕ → SourceEmbedFault → Type 0
-IsSourceEmbedFault text main name (source_faults.Source refusal) =
-    HasCause refusal × IsRefusedConstructive text main refusal
-IsSourceEmbedFault text main name (source_faults.Component fault) = IsProgramNameFault text main name fault
+abbrev pub IsSourceEmbedFault : List ℕ → Option (List ℕ) → List ℕ → Unmade CycleRefusal EmbedFault → Type 0
+IsSourceEmbedFault text main name = IsUnmade (IsSourceCause text main) (IsProgramNameFault text main name)
 
 -- ---- BLIF texts
 
@@ -55,6 +40,6 @@ pub record IsTextNameFault (text : List ℕ) (given : List GivenRelation) (name 
   pub has_outputs : HasOutputs small.circuit names
   pub is : IsEmbedFault name (small.circuit.inputs ++ names) fault
 
-abbrev pub IsTextEmbedFault : (text : List ℕ) → List GivenRelation → (name : List ℕ) → TextEmbedFault → Type 0
-IsTextEmbedFault text given name (text_faults.Text fault) = IsGivenFault text given fault
-IsTextEmbedFault text given name (text_faults.Component fault) = IsTextNameFault text given name fault
+abbrev pub IsTextEmbedFault : (text : List ℕ) → List GivenRelation → (name : List ℕ) → Unmade OptFault EmbedFault
+    → Type 0
+IsTextEmbedFault text given name = IsUnmade (IsGivenFault text given) (IsTextNameFault text given name)

@@ -2,4 +2,3 @@ pub mod Instances
 pub mod Sources
 pub mod Texts
 pub mod Faults
-pub mod ComponentFaults

@@ -5,10 +5,9 @@
 //! any order, an instance that is reset first shows what the program's reactions are, or what the BLIF text shows.
 #![tactic(auto)]
 
-mod faults;
+mod naming;
 mod sources;
 mod texts;
 
-pub use faults::{SourceEmbedFault, TextEmbedFault};
 pub use sources::{embedded_c_of, embedded_source_net};
 pub use texts::{embedded_text_net, optimized_embedded};

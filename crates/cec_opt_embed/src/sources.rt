@@ -1,21 +1,18 @@
 // The embedded text of a source.
 
-ghost use Rattle.std.specs.Prelude.{◌≡◌, ◌≤◌, ℕ, List, length, IfOk, Option, option_map};
-ghost use Rattle.base_types.specs.Stops.{FaultIs, IfFault};
+ghost use Rattle.std.specs.Prelude.{◌≤◌, length, IfOk, option_map};
+ghost use Rattle.base_types.specs.Stops.{IfFault};
 ghost use Rattle.net_ir.specs.Runs.{netlist_of};
-ghost use Rattle.csub_embed.specs.Faults.{signals, under_name, IsEmbeddable, IsEmbedFault};
-ghost use Rattle.cec_cycles.specs.Constructive.{IsOtherRefusal, IsRefusedConstructive};
-ghost use Rattle.cec_opt_embed.specs.ComponentFaults.{IsSourceComponentFault, IsSourceComponentStop};
-ghost use Rattle.cec_opt_embed.specs.ComponentFaults.{IsRefusalStop, IsSourceStop};
-ghost use Rattle.cec_opt_embed.specs.Faults.{IsCause, IsSourceEmbedFault};
+ghost use Rattle.csub_embed.specs.Faults.{IsEmbeddable};
+ghost use Rattle.cec_opt_embed.specs.Faults.{IsSourceEmbedFault};
 ghost use Rattle.cec_opt_embed.specs.Sources.{IsComponentNetOf, StandsForEmbedded};
 
-use crate::faults::SourceEmbedFault;
+use crate::naming::named_net;
 use base_types::{Limits, Stop};
-use cec_compile::Refusal;
 use cec_cycles::{CycleRefusal, constructive_net};
+use cec_opt_faults::{Unmade, no_source_net};
 use cec_opt_sources::Coding;
-use csub_embed::{EmbedFault, EmbedLayout, embedded_net, write_embedded};
+use csub_embed::{EmbedFault, EmbedLayout, write_embedded};
 use grc_order::Picker;
 use net_ir::Net;
 use std::alloc::Global;
@@ -40,7 +37,7 @@ pub fn embedded_c_of<P: Picker>(
     effort: u64,
     name: &[u8],
     layout: EmbedLayout,
-) -> Result<Vec<u8>, Stop<SourceEmbedFault>>
+) -> Result<Vec<u8>, Stop<Unmade<CycleRefusal, EmbedFault>>>
     requires { length text.now ≤ Limits.SOURCE_BYTES }
     ensures compiles { IfOk result (λ written. StandsForEmbedded text.now
         (option_map (λ m. m.now) main.entry) name.now layout written.items) }
@@ -60,7 +57,7 @@ pub fn embedded_source_net<P: Picker>(
     picker: &mut P,
     effort: u64,
     name: &[u8],
-) -> Result<Net, Stop<SourceEmbedFault>>
+) -> Result<Net, Stop<Unmade<CycleRefusal, EmbedFault>>>
     requires { length text.now ≤ Limits.SOURCE_BYTES }
     ensures compiles { IfOk result (λ net. IsComponentNetOf text.now
         (option_map (λ m. m.now) main.entry) name.now (netlist_of net)) }
@@ -69,71 +66,6 @@ pub fn embedded_source_net<P: Picker>(
 {
     match constructive_net(alloc, text, main, picker, Coding::Lighter, effort) {
         Ok(net) => named_net(alloc, net, name),
-        Err(refusal) => Err(source_stop(refusal)),
+        Err(refusal) => Err(no_source_net(refusal)),
     }
-}
-
-// The netlist under the name of its component.
-fn named_net(alloc: Global, net: Net, name: &[u8]) -> Result<Net, Stop<SourceEmbedFault>>
-    ensures named { IfOk result (λ n. netlist_of n ≡ under_name name.now (netlist_of net)) }
-    ensures fits { IfOk result (λ n. IsEmbeddable (netlist_of n)) }
-    ensures fault { IfFault result (IsSourceComponentFault (IsEmbedFault name.now (signals (netlist_of net)))) }
-{
-    match embedded_net(alloc, net, name) {
-        Ok(named) => Ok(named),
-        Err(stop) => Err(component_stop(stop)),
-    }
-}
-
-fn component_stop(stop: Stop<EmbedFault>) -> Stop<SourceEmbedFault>
-    ensures same { IsSourceComponentStop stop result }
-    ensures fault { (name : List ℕ) (names : List (List ℕ)) → FaultIs (IsEmbedFault name names) stop
-        → FaultIs (IsSourceComponentFault (IsEmbedFault name names)) result }
-{
-    match stop {
-        Stop::Fault(fault) => Stop::Fault(SourceEmbedFault::Component(fault)),
-        Stop::NoMemory => Stop::NoMemory,
-    }
-}
-
-// Why the source has no netlist. Running out of memory is none of its causes.
-fn source_stop(refusal: CycleRefusal) -> Stop<SourceEmbedFault>
-    ensures same { IsSourceStop refusal result }
-    ensures fault { (text : List ℕ) (main : Option (List ℕ)) (name : List ℕ) → IsRefusedConstructive text main refusal
-        → FaultIs (IsSourceEmbedFault text main name) result }
-{
-    match refusal {
-        CycleRefusal::Source(refusal) => refusal_stop(refusal),
-        CycleRefusal::NotConstructive(stuck) => {
-            Stop::Fault(SourceEmbedFault::Source(CycleRefusal::NotConstructive(stuck)))
-        }
-        CycleRefusal::Undecided(cycle) => {
-            Stop::Fault(SourceEmbedFault::Source(CycleRefusal::Undecided(cycle)))
-        }
-        CycleRefusal::TooManyNets(cycle) => {
-            Stop::Fault(SourceEmbedFault::Source(CycleRefusal::TooManyNets(cycle)))
-        }
-    }
-}
-
-fn refusal_stop(refusal: Refusal) -> Stop<SourceEmbedFault>
-    ensures same { IsRefusalStop refusal result }
-    ensures fault { (text : List ℕ) (main : Option (List ℕ)) (name : List ℕ) → IsOtherRefusal text main refusal
-        → FaultIs (IsSourceEmbedFault text main name) result }
-{
-    match refusal {
-        Refusal::NoMemory => Stop::NoMemory,
-        Refusal::Static(fault) => caused(Refusal::Static(fault)),
-        Refusal::Cyclic(cycle) => caused(Refusal::Cyclic(cycle)),
-        Refusal::Limit(limit) => caused(Refusal::Limit(limit)),
-    }
-}
-
-fn caused(refusal: Refusal) -> Stop<SourceEmbedFault>
-    requires { IsCause refusal }
-    ensures same { IsRefusalStop refusal result }
-    ensures fault { (text : List ℕ) (main : Option (List ℕ)) (name : List ℕ) → IsOtherRefusal text main refusal
-        → FaultIs (IsSourceEmbedFault text main name) result }
-{
-    Stop::Fault(SourceEmbedFault::Source(CycleRefusal::Source(refusal)))
 }

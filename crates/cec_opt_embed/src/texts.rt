@@ -1,19 +1,18 @@
 // The embedded text of a BLIF text.
 
-ghost use Rattle.std.specs.Prelude.{◌≡◌, ◌≤◌, ℕ, List, length, map, IfOk};
-ghost use Rattle.base_types.specs.Stops.{FaultIs, IfFault};
+ghost use Rattle.std.specs.Prelude.{◌≤◌, length, map, IfOk};
+ghost use Rattle.base_types.specs.Stops.{IfFault};
 ghost use Rattle.net_ir.specs.Runs.{netlist_of};
-ghost use Rattle.csub_embed.specs.Faults.{signals, under_name, IsEmbeddable, IsEmbedFault};
-ghost use Rattle.cec_opt_texts.specs.Faults.{IsGivenFault};
-ghost use Rattle.cec_opt_texts.specs.Related.{named_relation, GivenRelation as SpecRelation};
-ghost use Rattle.cec_opt_embed.specs.ComponentFaults.{IsTextComponentFault, IsTextComponentStop, IsTextStop};
+ghost use Rattle.csub_embed.specs.Faults.{IsEmbeddable};
+ghost use Rattle.cec_opt_texts.specs.Related.{named_relation};
 ghost use Rattle.cec_opt_embed.specs.Faults.{IsTextEmbedFault};
 ghost use Rattle.cec_opt_embed.specs.Texts.{EmbedKeeps, IsSmallComponent};
 
-use crate::faults::TextEmbedFault;
+use crate::naming::named_net;
 use base_types::{Limits, Stop};
+use cec_opt_faults::{Unmade, no_net};
 use cec_opt_texts::{GivenRelation, OptFault, optimized_net};
-use csub_embed::{EmbedFault, EmbedLayout, embedded_net, write_embedded};
+use csub_embed::{EmbedFault, EmbedLayout, write_embedded};
 use net_ir::Net;
 use std::alloc::Global;
 
@@ -34,7 +33,7 @@ pub fn optimized_embedded(
     given: &[GivenRelation<'_>],
     name: &[u8],
     layout: EmbedLayout,
-) -> Result<Vec<u8>, Stop<TextEmbedFault>>
+) -> Result<Vec<u8>, Stop<Unmade<OptFault, EmbedFault>>>
     requires { length text.now ≤ Limits.TEXT_BYTES }
     ensures keeps { IfOk result
         (λ written. EmbedKeeps text.now (map named_relation given.now) name.now layout written.items) }
@@ -52,7 +51,7 @@ pub fn embedded_text_net(
     text: &[u8],
     given: &[GivenRelation<'_>],
     name: &[u8],
-) -> Result<Net, Stop<TextEmbedFault>>
+) -> Result<Net, Stop<Unmade<OptFault, EmbedFault>>>
     requires { length text.now ≤ Limits.TEXT_BYTES }
     ensures small { IfOk result
         (λ net. IsSmallComponent text.now (map named_relation given.now) name.now (netlist_of net)) }
@@ -61,41 +60,6 @@ pub fn embedded_text_net(
 {
     match optimized_net(alloc, text, given) {
         Ok(net) => named_net(alloc, net, name),
-        Err(stop) => Err(text_stop(stop)),
-    }
-}
-
-// The netlist under the name of its component.
-fn named_net(alloc: Global, net: Net, name: &[u8]) -> Result<Net, Stop<TextEmbedFault>>
-    ensures named { IfOk result (λ n. netlist_of n ≡ under_name name.now (netlist_of net)) }
-    ensures fits { IfOk result (λ n. IsEmbeddable (netlist_of n)) }
-    ensures fault { IfFault result (IsTextComponentFault (IsEmbedFault name.now (signals (netlist_of net)))) }
-{
-    match embedded_net(alloc, net, name) {
-        Ok(named) => Ok(named),
-        Err(stop) => Err(component_stop(stop)),
-    }
-}
-
-fn component_stop(stop: Stop<EmbedFault>) -> Stop<TextEmbedFault>
-    ensures same { IsTextComponentStop stop result }
-    ensures fault { (name : List ℕ) (names : List (List ℕ)) → FaultIs (IsEmbedFault name names) stop
-        → FaultIs (IsTextComponentFault (IsEmbedFault name names)) result }
-{
-    match stop {
-        Stop::Fault(fault) => Stop::Fault(TextEmbedFault::Component(fault)),
-        Stop::NoMemory => Stop::NoMemory,
-    }
-}
-
-// Why the text has no netlist.
-fn text_stop(stop: Stop<OptFault>) -> Stop<TextEmbedFault>
-    ensures same { IsTextStop stop result }
-    ensures fault { (text name : List ℕ) (given : List SpecRelation) → FaultIs (IsGivenFault text given) stop
-        → FaultIs (IsTextEmbedFault text given name) result }
-{
-    match stop {
-        Stop::Fault(fault) => Stop::Fault(TextEmbedFault::Text(fault)),
-        Stop::NoMemory => Stop::NoMemory,
+        Err(stop) => Err(no_net(stop)),
     }
 }

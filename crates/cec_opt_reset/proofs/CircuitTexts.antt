@@ -7,7 +7,6 @@ use Rattle.base_types.specs.Items.{Item, EachEvent}
 use Rattle.base_types.specs.Relations.{Relation}
 use Rattle.base_types.specs.Stops.{IfFault}
 use Rattle.base_types.specs.declared.stop.Stop.{Stop}
-use Rattle.base_types.specs.declared.stop.Stop.TheVariants.{Fault, NoMemory}
 use Rattle.base_machines.specs.Machines.{Shows}
 use Rattle.base_machines.proofs.Exports.{shows-computed, shows-through}
 use Rattle.net_ir.specs.declared.netlist.NetOut.{NetOut}
@@ -27,11 +26,14 @@ use Rattle.cec_opt_texts.proofs.Exports.{allowed-events, fitting-events, related
 use Rattle.cec_opt_texts.specs.Alike.{HasOutputs, IsExpected}
 use Rattle.cec_opt_texts.specs.Optimized.{IsSmallNetOf, IsSmallOf}
 use Rattle.cec_opt_texts.specs.Related.{GivenRelation}
-use Rattle.cec_opt_reset.specs.Faults.{IsTextResetFault}
-use Rattle.cec_opt_reset.specs.ModuleFaults.{IsTextModuleFault}
+use Rattle.cec_opt_faults.proofs.Exports.{unmade-as}
+use Rattle.cec_opt_faults.specs.Causes.{IsUnmade}
+use Rattle.cec_opt_faults.specs.declared.unmade.Unmade.{Unmade}
+use Rattle.cec_opt_texts.specs.Faults.{IsGivenFault}
+use Rattle.cec_opt_texts.specs.declared.fault.OptFault.{OptFault}
+use Rattle.vlog_reset.specs.declared.fault.ResetFault.{ResetFault}
+use Rattle.cec_opt_reset.specs.Faults.{IsTextModuleNameFault, IsTextResetFault}
 use Rattle.cec_opt_reset.specs.Texts.{ResetKeeps}
-use Rattle.cec_opt_reset.specs.declared.faults.TextResetFault.{TextResetFault}
-use Rattle.cec_opt_reset.specs.declared.faults.TextResetFault.TheVariants.{Text, Module}
 use Rattle.cec_opt_reset.proofs.SourceTexts.{shown_row}
 
 -- ---- the optimized netlist of a circuit
@@ -104,15 +106,15 @@ text-keeps text given o net reset s spelled means =
     }
 
 pub small-text : {Z : Type 0} (items : Z → List ℕ) (text : List ℕ) (given : List GivenRelation) (o : ModuleOptions) (net : Netlist)
-    (result : Result Z (Stop TextResetFault)) → IsSmallNetOf text given net → IfOk result (λ t. items t ≡ written o net)
+    (result : Result Z (Stop (Unmade OptFault ResetFault))) → IsSmallNetOf text given net → IfOk result (λ t. items t ≡ written o net)
     → IfOk result (λ t. Means (items t) net o) → IfOk result (λ t. ResetKeeps text given o (items t))
 small-text items text given o net (Ok t) small spelled means = text-keeps text given o net (items t) small spelled means
 small-text items text given o net (Err stop) small spelled means = tt
 
 -- a fault of the names, where the text has a netlist
-pub text-fault : {Z : Type 0} (text : List ℕ) (given : List GivenRelation) (o : ModuleOptions) (net : Netlist) (result : Result Z (Stop TextResetFault))
-    → IsSmallNetOf text given net → IfFault result (IsTextModuleFault (IsResetFault o net)) → IfFault result (IsTextResetFault text given o)
-text-fault text given o net (Ok t) small is = tt
-text-fault text given o net (Err (Fault (Text fault))) small is = absurd is
-text-fault text given o net (Err (Fault (Module fault))) small is = record { net = net; small = small; is = is }
-text-fault text given o net (Err NoMemory) small is = tt
+pub text-fault : {Z : Type 0} (text : List ℕ) (given : List GivenRelation) (o : ModuleOptions) (net : Netlist)
+    (result : Result Z (Stop (Unmade OptFault ResetFault))) → IsSmallNetOf text given net → IfFault result (IsUnmade (λ cause. ⊥) (IsResetFault o net))
+    → IfFault result (IsTextResetFault text given o)
+text-fault text given o net result small is =
+    unmade-as (IsGivenFault text given) (IsResetFault o net) (IsTextModuleNameFault text given o) result
+    (λ fault is. record { net = net; small = small; is = is }) is

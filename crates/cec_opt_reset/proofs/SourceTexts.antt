@@ -6,7 +6,6 @@ use Rattle.std.proofs.lemmas.List.{length-take}
 use Rattle.base_facts.proofs.Lists.{map-composed}
 use Rattle.base_types.specs.Stops.{IfFault}
 use Rattle.base_types.specs.declared.stop.Stop.{Stop}
-use Rattle.base_types.specs.declared.stop.Stop.TheVariants.{Fault, NoMemory}
 use Rattle.est_kernel.specs.Plain.{Program, given_count}
 use Rattle.net_ir.specs.declared.netlist.NetOut.{NetOut}
 use Rattle.net_ir.specs.Netlists.{Netlist}
@@ -20,11 +19,13 @@ use Rattle.vlog_reset.specs.Written.{Means, input_name, net_register, outgoing_n
 use Rattle.cec_compile.specs.NetMeaning.{NetKeeps, net_seen}
 use Rattle.cec_cycles.specs.Constructive.{IsConstructiveNetOf, StandsForConstructiveNet}
 use Rattle.cec_opt_sources.specs.declared.light.Coding.{Coding}
-use Rattle.cec_opt_reset.specs.Faults.{IsSourceResetFault}
-use Rattle.cec_opt_reset.specs.ModuleFaults.{IsSourceModuleFault}
+use Rattle.cec_cycles.specs.declared.findings.CycleRefusal.{CycleRefusal}
+use Rattle.cec_opt_faults.proofs.Exports.{unmade-as}
+use Rattle.cec_opt_faults.specs.Causes.{IsSourceCause, IsUnmade}
+use Rattle.cec_opt_faults.specs.declared.unmade.Unmade.{Unmade}
+use Rattle.vlog_reset.specs.declared.fault.ResetFault.{ResetFault}
+use Rattle.cec_opt_reset.specs.Faults.{IsProgramModuleFault, IsSourceResetFault}
 use Rattle.cec_opt_reset.specs.Sources.{ResetTextKeeps, StandsForReset}
-use Rattle.cec_opt_reset.specs.declared.faults.SourceResetFault.{SourceResetFault}
-use Rattle.cec_opt_reset.specs.declared.faults.SourceResetFault.TheVariants.{Source, Module}
 
 -- what a net shows, as the values of a module's outputs
 abbrev pub shown_row : Shown → List Bool
@@ -72,7 +73,7 @@ source-stands text main coding o net reset stands made spelled means = record {
 }
 
 pub source-text : {Z : Type 0} (items : Z → List ℕ) (text : List ℕ) (main : Option (List ℕ)) (coding : Coding) (o : ModuleOptions) (net : Netlist)
-    (result : Result Z (Stop SourceResetFault))
+    (result : Result Z (Stop (Unmade CycleRefusal ResetFault)))
     → StandsForConstructiveNet text main net → IsConstructiveNetOf coding text main net → IfOk result (λ t. items t ≡ written o net)
     → IfOk result (λ t. Means (items t) net o) → IfOk result (λ t. StandsForReset text main coding o (items t))
 source-text items text main coding o net (Ok t) stands made spelled means = source-stands text main coding o net (items t) stands made spelled means
@@ -80,10 +81,9 @@ source-text items text main coding o net (Err stop) stands made spelled means = 
 
 -- a fault of the names, where the source has a netlist
 pub source-fault : {Z : Type 0} (text : List ℕ) (main : Option (List ℕ)) (coding : Coding) (o : ModuleOptions) (net : Netlist)
-    (result : Result Z (Stop SourceResetFault)) → StandsForConstructiveNet text main net → IsConstructiveNetOf coding text main net
-    → IfFault result (IsSourceModuleFault (IsResetFault o net))
+    (result : Result Z (Stop (Unmade CycleRefusal ResetFault))) → StandsForConstructiveNet text main net → IsConstructiveNetOf coding text main net
+    → IfFault result (IsUnmade (λ cause. ⊥) (IsResetFault o net))
     → IfFault result (IsSourceResetFault text main coding o)
-source-fault text main coding o net (Ok t) stands made is = tt
-source-fault text main coding o net (Err (Fault (Source refusal))) stands made is = absurd is
-source-fault text main coding o net (Err (Fault (Module fault))) stands made is = record { net = net; stands = stands; made = made; is = is }
-source-fault text main coding o net (Err NoMemory) stands made is = tt
+source-fault text main coding o net result stands made is =
+    unmade-as (IsSourceCause text main) (IsResetFault o net) (IsProgramModuleFault text main coding o) result
+    (λ fault is. record { net = net; stands = stands; made = made; is = is }) is

@@ -1,21 +1,19 @@
 -- To believe: why a source or a BLIF text has no Verilog with a reset. Where the fault is one of the names, there is a
 -- netlist.
-use Rattle.std.specs.Prelude.{◌≢◌, ℕ, List, Option}
+use Rattle.std.specs.Prelude.{ℕ, List, Option}
 use Rattle.net_ir.specs.Netlists.{Netlist}
 use Rattle.vlog_reset.specs.Faults.{IsResetFault}
 use Rattle.vlog_reset.specs.Options.{ModuleOptions}
 use Rattle.vlog_reset.specs.declared.fault.ResetFault.{ResetFault}
-use Rattle.cec_compile.specs.declared.refusal.Refusal.TheVariants as refusals
-use Rattle.cec_cycles.specs.Constructive.{IsConstructiveNetOf, IsRefusedConstructive, StandsForConstructiveNet}
+use Rattle.cec_cycles.specs.Constructive.{IsConstructiveNetOf, StandsForConstructiveNet}
+use Rattle.cec_cycles.specs.declared.findings.CycleRefusal.{CycleRefusal}
+use Rattle.cec_opt_faults.specs.Causes.{IsSourceCause, IsUnmade}
+use Rattle.cec_opt_faults.specs.declared.unmade.Unmade.{Unmade}
 use Rattle.cec_opt_sources.specs.declared.light.Coding.{Coding}
-use Rattle.cec_cycles.specs.declared.findings.CycleRefusal.TheVariants as causes
 use Rattle.cec_opt_texts.specs.Faults.{IsGivenFault}
 use Rattle.cec_opt_texts.specs.Optimized.{IsSmallNetOf}
 use Rattle.cec_opt_texts.specs.Related.{GivenRelation}
-use Rattle.cec_opt_reset.specs.declared.faults.SourceResetFault.{SourceResetFault}
-use Rattle.cec_opt_reset.specs.declared.faults.SourceResetFault.TheVariants as source_faults
-use Rattle.cec_opt_reset.specs.declared.faults.TextResetFault.{TextResetFault}
-use Rattle.cec_opt_reset.specs.declared.faults.TextResetFault.TheVariants as text_faults
+use Rattle.cec_opt_texts.specs.declared.fault.OptFault.{OptFault}
 
 -- ---- sources
 
@@ -27,11 +25,9 @@ pub record IsProgramModuleFault (text : List ℕ) (main : Option (List ℕ)) (co
   pub made : IsConstructiveNetOf coding text main net
   pub is : IsResetFault o net fault
 
--- running out of memory is no cause why a source has no netlist
-abbrev pub IsSourceResetFault : List ℕ → Option (List ℕ) → Coding → ModuleOptions → SourceResetFault → Type 0
-IsSourceResetFault text main coding o (source_faults.Source refusal) =
-    (refusal ≢ causes.Source refusals.NoMemory) × IsRefusedConstructive text main refusal
-IsSourceResetFault text main coding o (source_faults.Module fault) = IsProgramModuleFault text main coding o fault
+abbrev pub IsSourceResetFault : List ℕ → Option (List ℕ) → Coding → ModuleOptions → Unmade CycleRefusal ResetFault
+    → Type 0
+IsSourceResetFault text main coding o = IsUnmade (IsSourceCause text main) (IsProgramModuleFault text main coding o)
 
 -- ---- BLIF texts
 
@@ -42,6 +38,5 @@ pub record IsTextModuleNameFault (text : List ℕ) (given : List GivenRelation) 
   pub small : IsSmallNetOf text given net
   pub is : IsResetFault o net fault
 
-abbrev pub IsTextResetFault : List ℕ → List GivenRelation → ModuleOptions → TextResetFault → Type 0
-IsTextResetFault text given o (text_faults.Text fault) = IsGivenFault text given fault
-IsTextResetFault text given o (text_faults.Module fault) = IsTextModuleNameFault text given o fault
+abbrev pub IsTextResetFault : List ℕ → List GivenRelation → ModuleOptions → Unmade OptFault ResetFault → Type 0
+IsTextResetFault text given o = IsUnmade (IsGivenFault text given) (IsTextModuleNameFault text given o)

@@ -1,4 +1,3 @@
 pub mod Sources
 pub mod Texts
 pub mod Faults
-pub mod ModuleFaults

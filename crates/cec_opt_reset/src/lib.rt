@@ -5,10 +5,9 @@
 //! a reset, the module shows what the program's reactions are, or what the BLIF text shows.
 #![tactic(auto)]
 
-mod faults;
+mod net_texts;
 mod sources;
 mod texts;
 
-pub use faults::{SourceResetFault, TextResetFault};
 pub use sources::reset_verilog_of;
 pub use texts::optimized_reset;

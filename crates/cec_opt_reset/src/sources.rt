@@ -1,30 +1,19 @@
 // The Verilog with a reset of a source.
 
-ghost use Rattle.std.specs.Prelude.{◌≡◌, ◌≢◌, ◌≤◌, ℕ, List, length, IfOk, Option, option_map};
-ghost use Rattle.base_types.specs.Stops.{FaultIs, IfFault};
-ghost use Rattle.net_ir.specs.Netlists.{Netlist};
-ghost use Rattle.net_ir.specs.Runs.{netlist_of};
-ghost use Rattle.vlog_reset.specs.Faults.{IsResetFault};
-ghost use Rattle.vlog_reset.specs.Options.{ModuleOptions};
+ghost use Rattle.std.specs.Prelude.{◌≤◌, length, IfOk, option_map};
+ghost use Rattle.base_types.specs.Stops.{IfFault};
 ghost use Rattle.vlog_reset.specs.Views.{options_of};
-ghost use Rattle.vlog_reset.specs.Written.{written, Means};
-ghost use Rattle.cec_compile.specs.declared.refusal.Refusal.TheVariants as refusals;
-ghost use Rattle.cec_cycles.specs.Constructive.{IsOtherRefusal, IsRefusedConstructive};
-ghost use Rattle.cec_opt_sources.specs.declared.light.Coding.{Coding as SpecCoding};
 ghost use Rattle.cec_opt_reset.specs.Faults.{IsSourceResetFault};
-ghost use Rattle.cec_opt_reset.specs.ModuleFaults.{IsSourceModuleFault, IsSourceModuleStop};
-ghost use Rattle.cec_opt_reset.specs.ModuleFaults.{IsPlainStop, IsCycleStop};
 ghost use Rattle.cec_opt_reset.specs.Sources.{StandsForReset};
 
-use crate::faults::SourceResetFault;
+use crate::net_texts::net_text;
 use base_types::{Limits, Stop};
-use cec_compile::Refusal;
 use cec_cycles::{CycleRefusal, constructive_net};
+use cec_opt_faults::{Unmade, no_source_net};
 use cec_opt_sources::Coding;
 use grc_order::Picker;
-use net_ir::Net;
 use std::alloc::Global;
-use vlog_reset::{ResetFault, ResetOptions, reset_text};
+use vlog_reset::{ResetFault, ResetOptions};
 
 /// The Verilog text with a reset of a source, whose dependencies may have a cycle. The compiler-correctness theorem
 /// holds of the text (`ResetTextKeeps`). It describes a module with the names and the reset that are asked for, with an
@@ -47,7 +36,7 @@ pub fn reset_verilog_of<P: Picker>(
     coding: Coding,
     effort: u64,
     options: ResetOptions<'_>,
-) -> Result<Vec<u8>, Stop<SourceResetFault>>
+) -> Result<Vec<u8>, Stop<Unmade<CycleRefusal, ResetFault>>>
     requires { length text.now ≤ Limits.SOURCE_BYTES }
     ensures compiles { IfOk result (λ written. StandsForReset text.now
         (option_map (λ m. m.now) main.entry) coding (options_of options.entry) written.items) }
@@ -56,76 +45,6 @@ pub fn reset_verilog_of<P: Picker>(
 {
     match constructive_net(alloc, text, main, picker, coding, effort) {
         Ok(net) => net_text(alloc, &net, options),
-        Err(refusal) => Err(source_stop(refusal)),
+        Err(refusal) => Err(no_source_net(refusal)),
     }
-}
-
-// The text of a netlist.
-fn net_text(
-    alloc: Global,
-    net: &Net,
-    options: ResetOptions<'_>,
-) -> Result<Vec<u8>, Stop<SourceResetFault>>
-    ensures text { IfOk result (λ t. t.items ≡ written (options_of options.entry) (netlist_of net.now)) }
-    ensures means { IfOk result (λ t. Means t.items (netlist_of net.now) (options_of options.entry)) }
-    ensures fault { IfFault result
-        (IsSourceModuleFault (IsResetFault (options_of options.entry) (netlist_of net.now))) }
-{
-    match reset_text(alloc, net, options) {
-        Ok(text) => Ok(text),
-        Err(stop) => Err(module_stop(stop)),
-    }
-}
-
-fn module_stop(stop: Stop<ResetFault>) -> Stop<SourceResetFault>
-    ensures same { IsSourceModuleStop stop result }
-    ensures fault { (o : ModuleOptions) (net : Netlist) → FaultIs (IsResetFault o net) stop
-        → FaultIs (IsSourceModuleFault (IsResetFault o net)) result }
-{
-    match stop {
-        Stop::Fault(fault) => Stop::Fault(SourceResetFault::Module(fault)),
-        Stop::NoMemory => Stop::NoMemory,
-    }
-}
-
-// Why the source has no netlist. Running out of memory is none of its causes.
-fn source_stop(refusal: CycleRefusal) -> Stop<SourceResetFault>
-    ensures same { IsCycleStop refusal result }
-    ensures fault { (text : List ℕ) (main : Option (List ℕ)) (code : SpecCoding) (o : ModuleOptions)
-        → IsRefusedConstructive text main refusal → FaultIs (IsSourceResetFault text main code o) result }
-{
-    match refusal {
-        CycleRefusal::Source(refusal) => refusal_stop(refusal),
-        CycleRefusal::NotConstructive(stuck) => {
-            Stop::Fault(SourceResetFault::Source(CycleRefusal::NotConstructive(stuck)))
-        }
-        CycleRefusal::Undecided(cycle) => {
-            Stop::Fault(SourceResetFault::Source(CycleRefusal::Undecided(cycle)))
-        }
-        CycleRefusal::TooManyNets(cycle) => {
-            Stop::Fault(SourceResetFault::Source(CycleRefusal::TooManyNets(cycle)))
-        }
-    }
-}
-
-fn refusal_stop(refusal: Refusal) -> Stop<SourceResetFault>
-    ensures same { IsPlainStop refusal result }
-    ensures fault { (text : List ℕ) (main : Option (List ℕ)) (code : SpecCoding) (o : ModuleOptions)
-        → IsOtherRefusal text main refusal → FaultIs (IsSourceResetFault text main code o) result }
-{
-    match refusal {
-        Refusal::NoMemory => Stop::NoMemory,
-        Refusal::Static(fault) => caused(Refusal::Static(fault)),
-        Refusal::Cyclic(cycle) => caused(Refusal::Cyclic(cycle)),
-        Refusal::Limit(limit) => caused(Refusal::Limit(limit)),
-    }
-}
-
-fn caused(refusal: Refusal) -> Stop<SourceResetFault>
-    requires { refusal ≢ refusals.NoMemory }
-    ensures same { IsPlainStop refusal result }
-    ensures fault { (text : List ℕ) (main : Option (List ℕ)) (code : SpecCoding) (o : ModuleOptions)
-        → IsOtherRefusal text main refusal → FaultIs (IsSourceResetFault text main code o) result }
-{
-    Stop::Fault(SourceResetFault::Source(CycleRefusal::Source(refusal)))
 }

@@ -1,25 +1,18 @@
 // The Verilog with a reset of a BLIF text.
 
-ghost use Rattle.std.specs.Prelude.{◌≡◌, ◌≤◌, ℕ, List, length, map, IfOk};
-ghost use Rattle.base_types.specs.Stops.{FaultIs, IfFault};
-ghost use Rattle.net_ir.specs.Netlists.{Netlist};
-ghost use Rattle.net_ir.specs.Runs.{netlist_of};
-ghost use Rattle.vlog_reset.specs.Faults.{IsResetFault};
-ghost use Rattle.vlog_reset.specs.Options.{ModuleOptions};
+ghost use Rattle.std.specs.Prelude.{◌≤◌, length, map, IfOk};
+ghost use Rattle.base_types.specs.Stops.{IfFault};
 ghost use Rattle.vlog_reset.specs.Views.{options_of};
-ghost use Rattle.vlog_reset.specs.Written.{written, Means};
-ghost use Rattle.cec_opt_texts.specs.Faults.{IsGivenFault};
-ghost use Rattle.cec_opt_texts.specs.Related.{named_relation, GivenRelation as SpecRelation};
+ghost use Rattle.cec_opt_texts.specs.Related.{named_relation};
 ghost use Rattle.cec_opt_reset.specs.Faults.{IsTextResetFault};
-ghost use Rattle.cec_opt_reset.specs.ModuleFaults.{IsTextModuleFault, IsTextModuleStop, IsReadStop};
 ghost use Rattle.cec_opt_reset.specs.Texts.{ResetKeeps};
 
-use crate::faults::TextResetFault;
+use crate::net_texts::net_text;
 use base_types::{Limits, Stop};
+use cec_opt_faults::{Unmade, no_net};
 use cec_opt_texts::{GivenRelation, OptFault, optimized_net};
-use net_ir::Net;
 use std::alloc::Global;
-use vlog_reset::{ResetFault, ResetOptions, reset_text};
+use vlog_reset::{ResetFault, ResetOptions};
 
 /// The Verilog text with a reset of the optimized netlist of a BLIF text. It describes a module with the names and the
 /// reset that are asked for, with an input for each input and an output for each output of the BLIF text
@@ -36,7 +29,7 @@ pub fn optimized_reset(
     text: &[u8],
     given: &[GivenRelation<'_>],
     options: ResetOptions<'_>,
-) -> Result<Vec<u8>, Stop<TextResetFault>>
+) -> Result<Vec<u8>, Stop<Unmade<OptFault, ResetFault>>>
     requires { length text.now ≤ Limits.TEXT_BYTES }
     ensures keeps { IfOk result
         (λ written. ResetKeeps text.now (map named_relation given.now) (options_of options.entry) written.items) }
@@ -45,46 +38,6 @@ pub fn optimized_reset(
 {
     match optimized_net(alloc, text, given) {
         Ok(net) => net_text(alloc, &net, options),
-        Err(stop) => Err(text_stop(stop)),
-    }
-}
-
-// The text of a netlist.
-fn net_text(
-    alloc: Global,
-    net: &Net,
-    options: ResetOptions<'_>,
-) -> Result<Vec<u8>, Stop<TextResetFault>>
-    ensures text { IfOk result (λ t. t.items ≡ written (options_of options.entry) (netlist_of net.now)) }
-    ensures means { IfOk result (λ t. Means t.items (netlist_of net.now) (options_of options.entry)) }
-    ensures fault { IfFault result
-        (IsTextModuleFault (IsResetFault (options_of options.entry) (netlist_of net.now))) }
-{
-    match reset_text(alloc, net, options) {
-        Ok(text) => Ok(text),
-        Err(stop) => Err(module_stop(stop)),
-    }
-}
-
-fn module_stop(stop: Stop<ResetFault>) -> Stop<TextResetFault>
-    ensures same { IsTextModuleStop stop result }
-    ensures fault { (o : ModuleOptions) (net : Netlist) → FaultIs (IsResetFault o net) stop
-        → FaultIs (IsTextModuleFault (IsResetFault o net)) result }
-{
-    match stop {
-        Stop::Fault(fault) => Stop::Fault(TextResetFault::Module(fault)),
-        Stop::NoMemory => Stop::NoMemory,
-    }
-}
-
-// Why the text has no netlist.
-fn text_stop(stop: Stop<OptFault>) -> Stop<TextResetFault>
-    ensures same { IsReadStop stop result }
-    ensures fault { (text : List ℕ) (given : List SpecRelation) (o : ModuleOptions)
-        → FaultIs (IsGivenFault text given) stop → FaultIs (IsTextResetFault text given o) result }
-{
-    match stop {
-        Stop::Fault(fault) => Stop::Fault(TextResetFault::Text(fault)),
-        Stop::NoMemory => Stop::NoMemory,
+        Err(stop) => Err(no_net(stop)),
     }
 }

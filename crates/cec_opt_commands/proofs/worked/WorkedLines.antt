@@ -1,5 +1,5 @@
 -- Worked depths, counts, lines and statuses, by hand, and what words ask for.
-use Rattle.std.proofs.Common.{◌≡◌, ℕ, true, false, List, [], ◌∷◌, map, None, Some, codes, refl}
+use Rattle.std.proofs.Common.{◌≡◌, ℕ, true, false, List, [], ◌∷◌, map, None, Some, Ok, Err, codes, refl}
 use Rattle.std.specs.Fmt.{digits}
 use Rattle.net_ir.specs.declared.netlist.Op.TheVariants.{Const, Copy, Not, And, Or}
 use Rattle.net_ir.specs.Netlists.{Netlist}
@@ -15,7 +15,7 @@ use Rattle.cec_opt_commands.specs.Answers.{counts_line}
 use Rattle.blif_net.specs.Depths.{op_depth, net_depths, greatest, depth_of}
 use Rattle.cec_opt_commands.specs.Lines.{line_of, named, source_subject}
 use Rattle.cec_opt_commands.specs.Statuses.{refusal_outcome, source_unread_outcome, status_of, written_of, written_outcome}
-use Rattle.cec_opt_commands.specs.Words.{Do, Make, Tell, Write, Embed, Check, misuse_of, request_by}
+use Rattle.cec_opt_commands.specs.Words.{Do, Make, Tell, Write, Embed, Check, request_by}
 use Rattle.cec_opt_commands.specs.declared.words.Form.TheVariants as forms
 use Rattle.cec_opt_commands.specs.declared.words.About.TheVariants.{Commands, Version}
 use Rattle.cec_opt_commands.specs.declared.outcome.OptOutcome.TheVariants.{Done, Usage, FileFault, BadText, TooLong, Refused, WriteFault}
@@ -92,25 +92,21 @@ outcomes = refl
 
 -- ---- words
 
-some_words : map request_by ((codes "--help" ∷ []) ∷ (codes "--version" ∷ []) ∷ [] ∷ (codes "check" ∷ []) ∷ (codes "check" ∷ codes "-p" ∷ [])
-    ∷ (codes "check" ∷ [] ∷ []) ∷ (codes "run" ∷ codes "p" ∷ []) ∷ (codes "check" ∷ codes "p" ∷ codes "p" ∷ []) ∷ (codes "--help" ∷ codes "p" ∷ []) ∷ [])
-    ≡ Some (Tell Commands) ∷ Some (Tell Version) ∷ None ∷ None ∷ None ∷ None ∷ None ∷ None ∷ None ∷ []
-some_words = refl
+about : map request_by ((codes "--help" ∷ []) ∷ (codes "--version" ∷ []) ∷ []) ≡ Ok (Tell Commands) ∷ Ok (Tell Version) ∷ []
+about = refl
 
-misuses : map misuse_of ([] ∷ (codes "check" ∷ []) ∷ (codes "run" ∷ []) ∷ (codes "check" ∷ codes "-p" ∷ []) ∷ (codes "run" ∷ codes "p" ∷ [])
-    ∷ (codes "c" ∷ codes "p" ∷ codes "q" ∷ codes "r" ∷ []) ∷ (codes "--help" ∷ codes "p" ∷ codes "q" ∷ []) ∷ [])
-    ≡ codes "no command" ∷ codes "no file after check" ∷ codes "unknown word: run" ∷ codes "not a file: -p" ∷ codes "unknown word: run"
-    ∷ codes "one word too many: q" ∷ codes "one word too many: p" ∷ []
+misuses : map request_by ([] ∷ (codes "check" ∷ []) ∷ (codes "run" ∷ []) ∷ (codes "check" ∷ codes "-p" ∷ []) ∷ (codes "check" ∷ [] ∷ [])
+    ∷ (codes "run" ∷ codes "p" ∷ []) ∷ (codes "check" ∷ codes "p" ∷ codes "p" ∷ []) ∷ (codes "c" ∷ codes "p" ∷ codes "q" ∷ codes "r" ∷ [])
+    ∷ (codes "--help" ∷ codes "p" ∷ codes "q" ∷ []) ∷ [])
+    ≡ map Err (codes "no command" ∷ codes "no file after check" ∷ codes "unknown word: run" ∷ codes "not a file: -p" ∷ codes "not a file: "
+    ∷ codes "unknown word: run" ∷ codes "one word too many: p" ∷ codes "one word too many: q" ∷ codes "one word too many: p" ∷ [])
 misuses = refl
 
 sources : map request_by ((codes "check" ∷ codes "--source" ∷ codes "p" ∷ [])
     ∷ (codes "c" ∷ codes "--main" ∷ codes "M" ∷ codes "--source" ∷ codes "p" ∷ [])
-    ∷ (codes "blif" ∷ codes "--source" ∷ codes "p" ∷ codes "--main" ∷ codes "M" ∷ [])
-    ∷ (codes "run" ∷ codes "--source" ∷ codes "p" ∷ []) ∷ (codes "c" ∷ codes "--main" ∷ codes "M" ∷ [])
-    ∷ (codes "c" ∷ codes "--source" ∷ codes "p" ∷ codes "--source" ∷ codes "q" ∷ []) ∷ (codes "c" ∷ codes "--source" ∷ codes "-p" ∷ [])
-    ∷ (codes "c" ∷ codes "--source" ∷ codes "p" ∷ codes "q" ∷ []) ∷ (codes "c" ∷ codes "p" ∷ codes "--main" ∷ codes "M" ∷ []) ∷ [])
-    ≡ Some (Make Check (codes "p") None) ∷ Some (Make (Write forms.C) (codes "p") (Some (codes "M")))
-    ∷ Some (Make (Write forms.Blif) (codes "p") (Some (codes "M"))) ∷ None ∷ None ∷ None ∷ None ∷ None ∷ None ∷ []
+    ∷ (codes "blif" ∷ codes "--source" ∷ codes "p" ∷ codes "--main" ∷ codes "M" ∷ []) ∷ [])
+    ≡ Ok (Make Check (codes "p") None) ∷ Ok (Make (Write forms.C) (codes "p") (Some (codes "M")))
+    ∷ Ok (Make (Write forms.Blif) (codes "p") (Some (codes "M"))) ∷ []
 sources = refl
 
 abbrev plain : EmbedLayout
@@ -118,22 +114,20 @@ plain = record { packed = false; file = Header }
 
 components : map request_by ((codes "c" ∷ codes "--embed" ∷ codes "lift" ∷ codes "p" ∷ [])
     ∷ (codes "c" ∷ codes "--embed" ∷ codes "9" ∷ codes "--source" ∷ codes "p" ∷ [])
-    ∷ (codes "c" ∷ codes "--embed" ∷ codes "lift" ∷ codes "--main" ∷ codes "M" ∷ codes "--source" ∷ codes "p" ∷ [])
-    ∷ (codes "c" ∷ codes "--embed" ∷ []) ∷ (codes "c" ∷ codes "--embed" ∷ codes "lift" ∷ [])
-    ∷ (codes "c" ∷ codes "--embed" ∷ codes "-l" ∷ codes "p" ∷ []) ∷ (codes "c" ∷ codes "--source" ∷ codes "p" ∷ codes "--embed" ∷ codes "lift" ∷ [])
-    ∷ (codes "c" ∷ codes "--embed" ∷ codes "lift" ∷ codes "--embed" ∷ codes "lift" ∷ []) ∷ (codes "blif" ∷ codes "--embed" ∷ codes "lift" ∷ codes "p" ∷ [])
-    ∷ [])
-    ≡ Some (Do (Embed (codes "lift") plain) [] (codes "p")) ∷ Some (Make (Embed (codes "9") plain) (codes "p") None)
-    ∷ Some (Make (Embed (codes "lift") plain) (codes "p") (Some (codes "M"))) ∷ None ∷ None ∷ None ∷ None ∷ None ∷ None ∷ []
+    ∷ (codes "c" ∷ codes "--embed" ∷ codes "lift" ∷ codes "--main" ∷ codes "M" ∷ codes "--source" ∷ codes "p" ∷ []) ∷ [])
+    ≡ Ok (Do (Embed (codes "lift") plain) [] (codes "p")) ∷ Ok (Make (Embed (codes "9") plain) (codes "p") None)
+    ∷ Ok (Make (Embed (codes "lift") plain) (codes "p") (Some (codes "M"))) ∷ []
 components = refl
 
-misuses_of_components : map misuse_of ((codes "c" ∷ codes "--embed" ∷ []) ∷ (codes "c" ∷ codes "--embed" ∷ codes "lift" ∷ [])
+misuses_of_components : map request_by ((codes "c" ∷ codes "--embed" ∷ []) ∷ (codes "c" ∷ codes "--embed" ∷ codes "lift" ∷ [])
     ∷ (codes "c" ∷ codes "--embed" ∷ codes "-l" ∷ codes "p" ∷ []) ∷ (codes "c" ∷ codes "--embed" ∷ codes "lift" ∷ codes "p" ∷ codes "q" ∷ [])
     ∷ (codes "c" ∷ codes "--embed" ∷ codes "lift" ∷ codes "--source" ∷ [])
     ∷ (codes "c" ∷ codes "--source" ∷ codes "p" ∷ codes "--embed" ∷ codes "lift" ∷ [])
+    ∷ (codes "c" ∷ codes "--embed" ∷ codes "lift" ∷ codes "--embed" ∷ codes "lift" ∷ [])
     ∷ (codes "blif" ∷ codes "--embed" ∷ []) ∷ (codes "blif" ∷ codes "--embed" ∷ codes "lift" ∷ codes "p" ∷ []) ∷ [])
-    ≡ codes "no value after --embed" ∷ codes "no file after c" ∷ codes "bad option: --embed" ∷ codes "one word too many: q"
-    ∷ codes "no value after --source" ∷ codes "bad option: --embed" ∷ codes "not a file: --embed" ∷ codes "bad option: --embed" ∷ []
+    ≡ map Err (codes "no value after --embed" ∷ codes "no file after c" ∷ codes "bad option: --embed" ∷ codes "one word too many: q"
+    ∷ codes "no value after --source" ∷ codes "bad option: --embed" ∷ codes "bad option: --embed" ∷ codes "not a file: --embed"
+    ∷ codes "bad option: --embed" ∷ [])
 misuses_of_components = refl
 
 -- the words after `c --embed lift`
@@ -142,31 +136,29 @@ lift words = codes "c" ∷ codes "--embed" ∷ codes "lift" ∷ words
 
 layouts : map (λ words. request_by (lift words)) ((codes "--packed" ∷ codes "p" ∷ []) ∷ (codes "--header" ∷ codes "p" ∷ [])
     ∷ (codes "--declarations" ∷ codes "--packed" ∷ codes "p" ∷ []) ∷ (codes "--packed" ∷ codes "--definitions" ∷ codes "--source" ∷ codes "p" ∷ [])
-    ∷ (codes "--packed" ∷ codes "--packed" ∷ codes "p" ∷ []) ∷ (codes "--header" ∷ codes "--header" ∷ codes "p" ∷ [])
-    ∷ (codes "--declarations" ∷ codes "--definitions" ∷ codes "p" ∷ []) ∷ (codes "--packed" ∷ codes "--header" ∷ codes "--packed" ∷ codes "p" ∷ [])
-    ∷ (codes "--packed" ∷ []) ∷ (codes "p" ∷ codes "--packed" ∷ []) ∷ [])
-    ≡ Some (Do (Embed (codes "lift") (record { packed = true; file = Header })) [] (codes "p")) ∷ Some (Do (Embed (codes "lift") plain) [] (codes "p"))
-    ∷ Some (Do (Embed (codes "lift") (record { packed = true; file = Declarations })) [] (codes "p"))
-    ∷ Some (Make (Embed (codes "lift") (record { packed = true; file = Definitions })) (codes "p") None)
-    ∷ None ∷ None ∷ None ∷ None ∷ None ∷ None ∷ []
+    ∷ [])
+    ≡ Ok (Do (Embed (codes "lift") (record { packed = true; file = Header })) [] (codes "p")) ∷ Ok (Do (Embed (codes "lift") plain) [] (codes "p"))
+    ∷ Ok (Do (Embed (codes "lift") (record { packed = true; file = Declarations })) [] (codes "p"))
+    ∷ Ok (Make (Embed (codes "lift") (record { packed = true; file = Definitions })) (codes "p") None) ∷ []
 layouts = refl
 
-misuses_of_layouts : map (λ words. misuse_of (lift words)) ((codes "--packed" ∷ []) ∷ (codes "--packed" ∷ codes "--header" ∷ [])
+misuses_of_layouts : map (λ words. request_by (lift words)) ((codes "--packed" ∷ []) ∷ (codes "--packed" ∷ codes "--header" ∷ [])
     ∷ (codes "--packed" ∷ codes "--packed" ∷ codes "p" ∷ []) ∷ (codes "--declarations" ∷ codes "--definitions" ∷ codes "p" ∷ [])
     ∷ (codes "--packed" ∷ codes "--header" ∷ codes "--packed" ∷ []) ∷ (codes "--header" ∷ codes "--packed" ∷ codes "--packed" ∷ codes "p" ∷ [])
-    ∷ (codes "--packed" ∷ codes "p" ∷ codes "q" ∷ []) ∷ (codes "--packed" ∷ codes "--source" ∷ []) ∷ (codes "p" ∷ codes "--packed" ∷ []) ∷ [])
-    ≡ codes "no file after c" ∷ codes "no file after c" ∷ codes "bad option: --packed" ∷ codes "bad option: --definitions"
+    ∷ (codes "--packed" ∷ codes "p" ∷ codes "q" ∷ []) ∷ (codes "--packed" ∷ codes "--source" ∷ []) ∷ (codes "p" ∷ codes "--packed" ∷ [])
+    ∷ (codes "--header" ∷ codes "--header" ∷ codes "p" ∷ []) ∷ [])
+    ≡ map Err (codes "no file after c" ∷ codes "no file after c" ∷ codes "bad option: --packed" ∷ codes "bad option: --definitions"
     ∷ codes "not a file: --packed" ∷ codes "bad option: --packed" ∷ codes "one word too many: q" ∷ codes "no value after --source"
-    ∷ codes "one word too many: --packed" ∷ []
+    ∷ codes "one word too many: --packed" ∷ codes "bad option: --header" ∷ [])
 misuses_of_layouts = refl
 
-misuses_of_options : map misuse_of ((codes "c" ∷ codes "--source" ∷ []) ∷ (codes "c" ∷ codes "--main" ∷ codes "M" ∷ [])
+misuses_of_options : map request_by ((codes "c" ∷ codes "--source" ∷ []) ∷ (codes "c" ∷ codes "--main" ∷ codes "M" ∷ [])
     ∷ (codes "c" ∷ codes "--mine" ∷ codes "M" ∷ []) ∷ (codes "c" ∷ codes "--source" ∷ codes "p" ∷ codes "q" ∷ [])
     ∷ (codes "c" ∷ codes "--source" ∷ codes "p" ∷ codes "--source" ∷ codes "q" ∷ [])
     ∷ (codes "c" ∷ codes "--source" ∷ codes "p" ∷ codes "--main" ∷ codes "M" ∷ codes "q" ∷ [])
-    ∷ (codes "c" ∷ codes "p" ∷ codes "--main" ∷ codes "M" ∷ []) ∷ [])
-    ≡ codes "no value after --source" ∷ codes "no file after c" ∷ codes "bad option: --mine" ∷ codes "no value after q"
-    ∷ codes "bad option: --source" ∷ codes "one word too many: q" ∷ codes "one word too many: --main" ∷ []
+    ∷ (codes "c" ∷ codes "p" ∷ codes "--main" ∷ codes "M" ∷ []) ∷ (codes "c" ∷ codes "--source" ∷ codes "-p" ∷ []) ∷ [])
+    ≡ map Err (codes "no value after --source" ∷ codes "no file after c" ∷ codes "bad option: --mine" ∷ codes "no value after q"
+    ∷ codes "bad option: --source" ∷ codes "one word too many: q" ∷ codes "one word too many: --main" ∷ codes "bad option: --source" ∷ [])
 misuses_of_options = refl
 
 -- ---- sources

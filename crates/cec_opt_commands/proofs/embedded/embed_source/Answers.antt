@@ -1,10 +1,12 @@
-use Rattle.std.proofs.Common.{◌≡◌, ◌∙◌, sym, subst}
+use Rattle.std.proofs.Common.{◌≡◌, ◌∙◌, refl, sym, subst}
 use Rattle.std.specs.Prelude.{option_map}
 use Rattle.base_types.specs.SinkChanges.{change}
+use Rattle.cec_opt_embed.specs.Faults.{IsProgramNameFault}
 use Rattle.cec_opt_embed.specs.Sources.{StandsForEmbedded}
 use Rattle.cec_opt_commands.specs.Words.{Embed}
+use Rattle.cec_opt_commands.specs.declared.outcome.OptOutcome.TheVariants.{BadComponent}
 use Rattle.cec_opt_commands.proofs.Answers.{constructible}
-use Rattle.cec_opt_commands.proofs.Outcomes.{source_whole, source_written, unembedded_leaves, unembedded_says}
+use Rattle.cec_opt_commands.proofs.Outcomes.{source_whole, source_written, unmade_source_leaves, unmade_source_says}
 use Rattle.cec_opt_commands.proofs.embedded.embed_source.Goals as goal
 
 pub returns-in-Ok-clause-says : goal.returns-in-Ok-clause-says
@@ -28,10 +30,14 @@ returns-in-Ok-clause-out g c =
 
 pub returns-in-Err-clause-says : goal.returns-in-Err-clause-says
 returns-in-Err-clause-says g c =
-    unembedded_says c.args.component.now c.args.layout c.in-Err.stop (option_map (λ m. m.now) c.args.main) c.args.source.now
-    (change g.O.Sink.told g.O.Sink.faults c.args.out.now c.unembedded.new.out) c.unembedded.result c.in-Err.ensures.fault c.unembedded.ensures
+    let source = c.args.source.now in
+    let main = option_map (λ m. m.now) c.args.main in
+    unmade_source_says (Embed c.args.component.now c.args.layout) BadComponent (IsProgramNameFault source main c.args.component.now) c.in-Err.stop main source
+    (change g.O.Sink.told g.O.Sink.faults c.args.out.now c.unembedded.new.out) c.unembedded.result (λ fault is. is) c.in-Err.ensures.fault c.unembedded.ensures
 
 pub returns-in-Err-clause-out : goal.returns-in-Err-clause-out
 returns-in-Err-clause-out g c =
-    unembedded_leaves c.args.component.now c.args.layout c.in-Err.stop (option_map (λ m. m.now) c.args.main) c.args.source.now
-    (change g.O.Sink.told g.O.Sink.faults c.args.out.now c.unembedded.new.out) c.unembedded.result c.in-Err.ensures.fault c.unembedded.ensures
+    let source = c.args.source.now in
+    let main = option_map (λ m. m.now) c.args.main in
+    unmade_source_leaves (Embed c.args.component.now c.args.layout) BadComponent (IsProgramNameFault source main c.args.component.now) c.in-Err.stop main source
+    (change g.O.Sink.told g.O.Sink.faults c.args.out.now c.unembedded.new.out) c.unembedded.result (λ fault. refl) c.in-Err.ensures.fault c.unembedded.ensures

@@ -1,12 +1,14 @@
-use Rattle.std.proofs.Common.{◌≡◌, ◌∙◌, map, sym, subst}
+use Rattle.std.proofs.Common.{◌≡◌, ◌∙◌, map, refl, sym, subst}
 use Rattle.base_types.specs.SinkChanges.{change}
 use Rattle.base_types.proofs.Exports.{appends-nothing}
+use Rattle.cec_opt_embed.specs.Faults.{IsTextNameFault}
 use Rattle.cec_opt_embed.specs.Texts.{EmbedKeeps}
 use Rattle.cec_opt_texts.specs.Related.{named_relation}
 use Rattle.cec_opt_commands.specs.Answers.{IsAnswer}
 use Rattle.cec_opt_commands.specs.Words.{Embed}
+use Rattle.cec_opt_commands.specs.declared.outcome.OptOutcome.TheVariants.{BadComponent}
 use Rattle.cec_opt_commands.proofs.Answers.{text_net}
-use Rattle.cec_opt_commands.proofs.Outcomes.{embed_leaves, embed_says, written_says, written_text}
+use Rattle.cec_opt_commands.proofs.Outcomes.{unmade_leaves, unmade_says, written_says, written_text}
 use Rattle.cec_opt_commands.proofs.embedded.embed_text.Goals as goal
 
 pub returns-in-Ok-clause-says : goal.returns-in-Ok-clause-says
@@ -30,13 +32,17 @@ returns-in-Ok-clause-out g c =
 
 pub returns-in-Err-clause-says : goal.returns-in-Err-clause-says
 returns-in-Err-clause-says g c =
-    rw c.from-in-Err.ensures (embed_says c.args.component.now c.args.layout (map named_relation c.args.given.now) c.in-Err.stop c.args.text.now c.requires
-    c.in-Err.ensures.fault)
+    let component = c.args.component.now in
+    let text = c.args.text.now in
+    let given = map named_relation c.args.given.now in
+    rw c.from-in-Err.ensures
+    (unmade_says (Embed component c.args.layout) given BadComponent (IsTextNameFault text given component) c.in-Err.stop text c.requires
+    (λ fault is. (c.requires, is)) c.in-Err.ensures.fault)
 
 pub returns-in-Err-clause-out : goal.returns-in-Err-clause-out
 returns-in-Err-clause-out g c =
     let component = c.args.component.now in
     rw c.from-in-Err.ensures
-    (embed_leaves component c.args.layout (IsAnswer (Embed component c.args.layout) c.args.text.now (map named_relation c.args.given.now)) c.in-Err.stop
-    (change g.O.Sink.told g.O.Sink.faults c.args.out.now c.args.out.now)
+    (unmade_leaves (Embed component c.args.layout) (IsAnswer (Embed component c.args.layout) c.args.text.now (map named_relation c.args.given.now)) BadComponent
+    c.in-Err.stop (change g.O.Sink.told g.O.Sink.faults c.args.out.now c.args.out.now) (λ fault. refl)
     (appends-nothing (g.O.Sink.told c.args.out.now) (g.O.Sink.faults c.args.out.now)))

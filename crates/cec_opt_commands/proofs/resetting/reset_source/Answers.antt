@@ -1,11 +1,13 @@
-use Rattle.std.proofs.Common.{◌≡◌, ◌∙◌, sym, subst}
+use Rattle.std.proofs.Common.{◌≡◌, ◌∙◌, refl, sym, subst}
 use Rattle.std.specs.Prelude.{option_map}
 use Rattle.base_types.specs.SinkChanges.{change}
 use Rattle.vlog_reset.specs.Views.{options_of}
+use Rattle.cec_opt_reset.specs.Faults.{IsProgramModuleFault}
 use Rattle.cec_opt_reset.specs.Sources.{StandsForReset}
 use Rattle.cec_opt_commands.specs.Words.{Reset}
+use Rattle.cec_opt_commands.specs.declared.outcome.OptOutcome.TheVariants.{BadModule}
 use Rattle.cec_opt_commands.proofs.Answers.{constructible}
-use Rattle.cec_opt_commands.proofs.Outcomes.{source_whole, source_written, unreset_leaves, unreset_says}
+use Rattle.cec_opt_commands.proofs.Outcomes.{source_whole, source_written, unmade_source_leaves, unmade_source_says}
 use Rattle.cec_opt_commands.proofs.resetting.reset_source.Goals as goal
 
 pub returns-in-Ok-clause-says : goal.returns-in-Ok-clause-says
@@ -28,10 +30,16 @@ returns-in-Ok-clause-out g c =
 
 pub returns-in-Err-clause-says : goal.returns-in-Err-clause-says
 returns-in-Err-clause-says g c =
-    unreset_says (options_of c.args.options) c.args.coding c.in-Err.stop (option_map (λ m. m.now) c.args.main) c.args.source.now
-    (change g.O.Sink.told g.O.Sink.faults c.args.out.now c.unreset.new.out) c.unreset.result c.in-Err.ensures.fault c.unreset.ensures
+    let options = options_of c.args.options in
+    let source = c.args.source.now in
+    let main = option_map (λ m. m.now) c.args.main in
+    unmade_source_says (Reset options c.args.coding) BadModule (IsProgramModuleFault source main c.args.coding options) c.in-Err.stop main source
+    (change g.O.Sink.told g.O.Sink.faults c.args.out.now c.unreset.new.out) c.unreset.result (λ fault is. is) c.in-Err.ensures.fault c.unreset.ensures
 
 pub returns-in-Err-clause-out : goal.returns-in-Err-clause-out
 returns-in-Err-clause-out g c =
-    unreset_leaves (options_of c.args.options) c.args.coding c.in-Err.stop (option_map (λ m. m.now) c.args.main) c.args.source.now
-    (change g.O.Sink.told g.O.Sink.faults c.args.out.now c.unreset.new.out) c.unreset.result c.in-Err.ensures.fault c.unreset.ensures
+    let options = options_of c.args.options in
+    let source = c.args.source.now in
+    let main = option_map (λ m. m.now) c.args.main in
+    unmade_source_leaves (Reset options c.args.coding) BadModule (IsProgramModuleFault source main c.args.coding options) c.in-Err.stop main source
+    (change g.O.Sink.told g.O.Sink.faults c.args.out.now c.unreset.new.out) c.unreset.result (λ fault. refl) c.in-Err.ensures.fault c.unreset.ensures

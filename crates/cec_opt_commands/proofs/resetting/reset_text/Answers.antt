@@ -1,13 +1,15 @@
-use Rattle.std.proofs.Common.{◌≡◌, ◌∙◌, map, sym, subst}
+use Rattle.std.proofs.Common.{◌≡◌, ◌∙◌, map, refl, sym, subst}
 use Rattle.base_types.specs.SinkChanges.{change}
 use Rattle.base_types.proofs.Exports.{appends-nothing}
 use Rattle.vlog_reset.specs.Views.{options_of}
+use Rattle.cec_opt_reset.specs.Faults.{IsTextModuleNameFault}
 use Rattle.cec_opt_reset.specs.Texts.{ResetKeeps}
 use Rattle.cec_opt_texts.specs.Related.{named_relation}
 use Rattle.cec_opt_commands.specs.Answers.{IsAnswer}
 use Rattle.cec_opt_commands.specs.Words.{Reset}
+use Rattle.cec_opt_commands.specs.declared.outcome.OptOutcome.TheVariants.{BadModule}
 use Rattle.cec_opt_commands.proofs.Answers.{text_net}
-use Rattle.cec_opt_commands.proofs.Outcomes.{reset_leaves, reset_says, written_says, written_text}
+use Rattle.cec_opt_commands.proofs.Outcomes.{unmade_leaves, unmade_says, written_says, written_text}
 use Rattle.cec_opt_commands.proofs.resetting.reset_text.Goals as goal
 
 pub returns-in-Ok-clause-says : goal.returns-in-Ok-clause-says
@@ -31,14 +33,17 @@ returns-in-Ok-clause-out g c =
 
 pub returns-in-Err-clause-says : goal.returns-in-Err-clause-says
 returns-in-Err-clause-says g c =
+    let options = options_of c.args.options in
+    let text = c.args.text.now in
+    let given = map named_relation c.args.given.now in
     rw c.from-in-Err.ensures
-    (reset_says (options_of c.args.options) c.args.coding (map named_relation c.args.given.now) c.in-Err.stop c.args.text.now c.requires
-    c.in-Err.ensures.fault)
+    (unmade_says (Reset options c.args.coding) given BadModule (IsTextModuleNameFault text given options) c.in-Err.stop text c.requires
+    (λ fault is. (c.requires, is)) c.in-Err.ensures.fault)
 
 pub returns-in-Err-clause-out : goal.returns-in-Err-clause-out
 returns-in-Err-clause-out g c =
-    let options = options_of c.args.options in
+    let task = Reset (options_of c.args.options) c.args.coding in
     rw c.from-in-Err.ensures
-    (reset_leaves options c.args.coding (IsAnswer (Reset options c.args.coding) c.args.text.now (map named_relation c.args.given.now)) c.in-Err.stop
-    (change g.O.Sink.told g.O.Sink.faults c.args.out.now c.args.out.now)
+    (unmade_leaves task (IsAnswer task c.args.text.now (map named_relation c.args.given.now)) BadModule c.in-Err.stop
+    (change g.O.Sink.told g.O.Sink.faults c.args.out.now c.args.out.now) (λ fault. refl)
     (appends-nothing (g.O.Sink.told c.args.out.now) (g.O.Sink.faults c.args.out.now)))

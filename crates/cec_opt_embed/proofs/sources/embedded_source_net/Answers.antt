@@ -1,5 +1,7 @@
 use Rattle.std.specs.Prelude.{option_map}
 use Rattle.net_ir.specs.Runs.{netlist_of}
+use Rattle.cec_opt_faults.proofs.Exports.{unmade-source}
+use Rattle.cec_opt_embed.specs.Faults.{IsProgramNameFault}
 use Rattle.cec_opt_embed.proofs.SourceTexts.{source-fault, source-net}
 use Rattle.cec_opt_embed.proofs.sources.embedded_source_net.Goals as goal
 
@@ -15,4 +17,6 @@ returns-in-Ok-clause-fault g c =
 
 pub returns-in-Err-clause-fault : goal.returns-in-Err-clause-fault
 returns-in-Err-clause-fault g c =
-    c.source_stop.ensures.fault c.args.text.now (option_map (λ m. m.now) c.args.main) c.args.name.now c.in-Err.ensures.refuses
+    let main = option_map (λ m. m.now) c.args.main in
+    rw c.no_source_net.ensures
+    (unmade-source (IsProgramNameFault c.args.text.now main c.args.name.now) c.args.text.now main c.in-Err.refusal c.in-Err.ensures.refuses)

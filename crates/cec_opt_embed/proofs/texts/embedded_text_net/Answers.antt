@@ -1,6 +1,9 @@
 use Rattle.std.proofs.Common.{map}
 use Rattle.net_ir.specs.Runs.{netlist_of}
+use Rattle.cec_opt_faults.proofs.Exports.{unmade-net}
+use Rattle.cec_opt_texts.specs.Faults.{IsGivenFault}
 use Rattle.cec_opt_texts.specs.Related.{named_relation}
+use Rattle.cec_opt_embed.specs.Faults.{IsTextNameFault}
 use Rattle.cec_opt_embed.proofs.CircuitTexts.{text-fault, text-net}
 use Rattle.cec_opt_embed.proofs.texts.embedded_text_net.Goals as goal
 
@@ -16,4 +19,6 @@ returns-in-Ok-clause-fault c =
 
 pub returns-in-Err-clause-fault : goal.returns-in-Err-clause-fault
 returns-in-Err-clause-fault c =
-    c.text_stop.ensures.fault c.args.text.now c.args.name.now (map named_relation c.args.given.now) c.in-Err.ensures.fault
+    let given = map named_relation c.args.given.now in
+    rw c.no_net.ensures
+    (unmade-net (IsGivenFault c.args.text.now given) (IsTextNameFault c.args.text.now given c.args.name.now) c.in-Err.stop c.in-Err.ensures.fault)

@@ -1,6 +1,8 @@
 use Rattle.std.specs.Prelude.{option_map}
 use Rattle.net_ir.specs.Runs.{netlist_of}
 use Rattle.vlog_reset.specs.Views.{options_of}
+use Rattle.cec_opt_faults.proofs.Exports.{unmade-source}
+use Rattle.cec_opt_reset.specs.Faults.{IsProgramModuleFault}
 use Rattle.cec_opt_reset.proofs.SourceTexts.{source-fault, source-text}
 use Rattle.cec_opt_reset.proofs.sources.reset_verilog_of.Goals as goal
 
@@ -16,4 +18,7 @@ returns-in-Ok-clause-fault g c =
 
 pub returns-in-Err-clause-fault : goal.returns-in-Err-clause-fault
 returns-in-Err-clause-fault g c =
-    c.source_stop.ensures.fault c.args.text.now (option_map (λ m. m.now) c.args.main) c.args.coding (options_of c.args.options) c.in-Err.ensures.refuses
+    let main = option_map (λ m. m.now) c.args.main in
+    rw c.no_source_net.ensures
+    (unmade-source (IsProgramModuleFault c.args.text.now main c.args.coding (options_of c.args.options)) c.args.text.now main c.in-Err.refusal
+    c.in-Err.ensures.refuses)

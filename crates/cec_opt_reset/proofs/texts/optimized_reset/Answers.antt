@@ -1,7 +1,10 @@
 use Rattle.std.proofs.Common.{map}
 use Rattle.net_ir.specs.Runs.{netlist_of}
 use Rattle.vlog_reset.specs.Views.{options_of}
+use Rattle.cec_opt_faults.proofs.Exports.{unmade-net}
+use Rattle.cec_opt_texts.specs.Faults.{IsGivenFault}
 use Rattle.cec_opt_texts.specs.Related.{named_relation}
+use Rattle.cec_opt_reset.specs.Faults.{IsTextModuleNameFault}
 use Rattle.cec_opt_reset.proofs.CircuitTexts.{small-text, text-fault}
 use Rattle.cec_opt_reset.proofs.texts.optimized_reset.Goals as goal
 
@@ -17,4 +20,7 @@ returns-in-Ok-clause-fault c =
 
 pub returns-in-Err-clause-fault : goal.returns-in-Err-clause-fault
 returns-in-Err-clause-fault c =
-    c.text_stop.ensures.fault c.args.text.now (map named_relation c.args.given.now) (options_of c.args.options) c.in-Err.ensures.fault
+    let given = map named_relation c.args.given.now in
+    rw c.no_net.ensures
+    (unmade-net (IsGivenFault c.args.text.now given) (IsTextModuleNameFault c.args.text.now given (options_of c.args.options)) c.in-Err.stop
+    c.in-Err.ensures.fault)
