@@ -281,6 +281,7 @@ WITHOUT_MESSAGE = {
     "base_types::Stop": "either a fault of a type parameter, which has the message, or out of memory",
     "est_expand::ExpandFault": "a scope fault, which has the message, a limit, or out of memory",
     "csub_guard_read::NameFault": "stays in its crate",
+    "cec_prove_commands::InputFault": "a part of an outcome, of which the program writes a line",
     "vlog_read::NameFault": "stays in its crate",
 }
 

@@ -28,9 +28,12 @@ use Rattle.cec_prove_commands.specs.TextOutcomes.{IsTextDistinction, IsTextRefut
 use Rattle.cec_prove_commands.specs.TextOutcomes.{TextSurveySays, TextsCompared}
 use Rattle.cec_prove_commands.specs.Words.{Job, Task, Ask, Survey as Surveys, Cover, Compare, AskText, SurveyText, CompareTexts}
 use Rattle.cec_prove_commands.specs.declared.answers.Answer.TheVariants as answers
+use Rattle.cec_prove_commands.specs.declared.outcome.InputFault.TheVariants.{BadText}
 use Rattle.cec_prove_commands.specs.declared.outcome.ProveOutcome.{ProveOutcome}
 use Rattle.cec_prove_commands.specs.declared.outcome.ProveOutcome.TheVariants.{Refuted, Surveyed, PartlySurveyed, Covered, PartlyCovered}
-use Rattle.cec_prove_commands.specs.declared.outcome.ProveOutcome.TheVariants.{BadText, SecondBadText, WriteFault, NoMemory}
+use Rattle.cec_prove_commands.specs.declared.outcome.ProveOutcome.TheVariants.{BadInput, WriteFault, NoMemory}
+use Rattle.cec_prove_commands.specs.declared.outcome.Which.{Which}
+use Rattle.cec_prove_commands.specs.declared.outcome.Which.TheVariants.{First, Second}
 
 -- ---- what an answer says of the program
 
@@ -217,121 +220,70 @@ pub asked_says : (v : Verdict) (o : ProveOutcome) (task : Task) (job : Job) (fir
     → ((q : PlainQuestion) (text : List ℕ) → HasTextVerdict text q v → TextClaimSays q o text)
     → IsAnswer (answers.Asked v) task job first second → SaysOfTexts task o job first second
 asked_says v o (Ask claim signal) job first second f t h = f (question_of claim signal job) job first h
-asked_says v o Surveys job first second f t h = absurd h
-asked_says v o Cover job first second f t h = absurd h
-asked_says v o (Compare other) job first second f t h = absurd h
 asked_says v o (AskText claim signal) job first second f t h = t (question_of claim signal job) first h
-asked_says v o SurveyText job first second f t h = absurd h
-asked_says v o (CompareTexts other) job first second f t h = absurd h
+asked_says v o others job first second f t h = absurd h
 
 pub asked_out : (v : Verdict) (o : ProveOutcome) (s : SinkChange) (task : Task) (job : Job) (first second : List ℕ)
     → ((q : PlainQuestion) (job : Job) (text : List ℕ) → HasConstructiveVerdict text job.main q v → LeavesText (IsClaimTraceBy q o job text) s (written_of o))
     → ((q : PlainQuestion) (text : List ℕ) → HasTextVerdict text q v → LeavesText (IsTextRefutation q text) s (written_of o))
     → IsAnswer (answers.Asked v) task job first second → LeavesText (IsWrittenBy task o job first second) s (written_of o)
 asked_out v o s (Ask claim signal) job first second f t h = f (question_of claim signal job) job first h
-asked_out v o s Surveys job first second f t h = absurd h
-asked_out v o s Cover job first second f t h = absurd h
-asked_out v o s (Compare other) job first second f t h = absurd h
 asked_out v o s (AskText claim signal) job first second f t h = t (question_of claim signal job) first h
-asked_out v o s SurveyText job first second f t h = absurd h
-asked_out v o s (CompareTexts other) job first second f t h = absurd h
+asked_out v o s others job first second f t h = absurd h
 
 pub surveyed_says : (v : Survey) (o : ProveOutcome) (task : Task) (job : Job) (first second : List ℕ)
     → ((job : Job) (text : List ℕ) → HasConstructiveSurvey text job.main job.assumed v → SurveySays o job text)
     → ((assumed : Option (List ℕ)) (text : List ℕ) → HasTextSurvey text assumed v → TextSurveySays o assumed text)
     → IsAnswer (answers.Surveyed v) task job first second → SaysOfTexts task o job first second
-surveyed_says v o (Ask claim signal) job first second f t h = absurd h
 surveyed_says v o Surveys job first second f t h = f job first h
-surveyed_says v o Cover job first second f t h = absurd h
-surveyed_says v o (Compare other) job first second f t h = absurd h
-surveyed_says v o (AskText claim signal) job first second f t h = absurd h
 surveyed_says v o SurveyText job first second f t h = t job.assumed first h
-surveyed_says v o (CompareTexts other) job first second f t h = absurd h
+surveyed_says v o others job first second f t h = absurd h
 
 pub surveyed_out : (v : Survey) (o : ProveOutcome) (s : SinkChange) (task : Task) (job : Job) (first second : List ℕ)
     → ((job : Job) (text : List ℕ) → HasConstructiveSurvey text job.main job.assumed v → LeavesText (IsSurveyBy o job text) s (written_of o))
     → ((assumed : Option (List ℕ)) (text : List ℕ) → HasTextSurvey text assumed v → LeavesText (IsTextSurveyBy o assumed text) s (written_of o))
     → IsAnswer (answers.Surveyed v) task job first second → LeavesText (IsWrittenBy task o job first second) s (written_of o)
-surveyed_out v o s (Ask claim signal) job first second f t h = absurd h
 surveyed_out v o s Surveys job first second f t h = f job first h
-surveyed_out v o s Cover job first second f t h = absurd h
-surveyed_out v o s (Compare other) job first second f t h = absurd h
-surveyed_out v o s (AskText claim signal) job first second f t h = absurd h
 surveyed_out v o s SurveyText job first second f t h = t job.assumed first h
-surveyed_out v o s (CompareTexts other) job first second f t h = absurd h
+surveyed_out v o s others job first second f t h = absurd h
 
 pub covered_says : (v : Covering) (o : ProveOutcome) (task : Task) (job : Job) (first second : List ℕ)
     → ((job : Job) (text : List ℕ) → HasCovering text job.main job.assumed v → CoveringSays o job text)
     → IsAnswer (answers.Covered v) task job first second → SaysOfTexts task o job first second
-covered_says v o (Ask claim signal) job first second f h = absurd h
-covered_says v o Surveys job first second f h = absurd h
 covered_says v o Cover job first second f h = f job first h
-covered_says v o (Compare other) job first second f h = absurd h
-covered_says v o (AskText claim signal) job first second f h = absurd h
-covered_says v o SurveyText job first second f h = absurd h
-covered_says v o (CompareTexts other) job first second f h = absurd h
+covered_says v o others job first second f h = absurd h
 
 pub covered_out : (v : Covering) (o : ProveOutcome) (s : SinkChange) (task : Task) (job : Job) (first second : List ℕ)
     → ((job : Job) (text : List ℕ) → HasCovering text job.main job.assumed v → LeavesText (IsCoveringBy o job text) s (written_of o))
     → IsAnswer (answers.Covered v) task job first second → LeavesText (IsWrittenBy task o job first second) s (written_of o)
-covered_out v o s (Ask claim signal) job first second f h = absurd h
-covered_out v o s Surveys job first second f h = absurd h
 covered_out v o s Cover job first second f h = f job first h
-covered_out v o s (Compare other) job first second f h = absurd h
-covered_out v o s (AskText claim signal) job first second f h = absurd h
-covered_out v o s SurveyText job first second f h = absurd h
-covered_out v o s (CompareTexts other) job first second f h = absurd h
+covered_out v o s others job first second f h = absurd h
 
 pub compared_says : (v : Comparison) (o : ProveOutcome) (task : Task) (job : Job) (first second : List ℕ)
     → ((first second : List ℕ) (job : Job) → HasConstructiveComparison first second job.main v → ComparisonSays o job first second)
     → ((first second : List ℕ) → HasTextComparison first second v → TextComparisonSays o first second)
     → IsAnswer (answers.Compared v) task job first second → SaysOfTexts task o job first second
-compared_says v o (Ask claim signal) job first second f t h = absurd h
-compared_says v o Surveys job first second f t h = absurd h
-compared_says v o Cover job first second f t h = absurd h
 compared_says v o (Compare other) job first second f t h = f first second job h
-compared_says v o (AskText claim signal) job first second f t h = absurd h
-compared_says v o SurveyText job first second f t h = absurd h
 compared_says v o (CompareTexts other) job first second f t h = t first second h
+compared_says v o others job first second f t h = absurd h
 
 pub compared_out : (v : Comparison) (o : ProveOutcome) (s : SinkChange) (task : Task) (job : Job) (first second : List ℕ)
     → ((first second : List ℕ) (job : Job) → HasConstructiveComparison first second job.main v
     → LeavesText (IsDistinctionBy o job first second) s (written_of o))
     → ((first second : List ℕ) → HasTextComparison first second v → LeavesText (IsTextDistinction first second) s (written_of o))
     → IsAnswer (answers.Compared v) task job first second → LeavesText (IsWrittenBy task o job first second) s (written_of o)
-compared_out v o s (Ask claim signal) job first second f t h = absurd h
-compared_out v o s Surveys job first second f t h = absurd h
-compared_out v o s Cover job first second f t h = absurd h
 compared_out v o s (Compare other) job first second f t h = f first second job h
-compared_out v o s (AskText claim signal) job first second f t h = absurd h
-compared_out v o s SurveyText job first second f t h = absurd h
 compared_out v o s (CompareTexts other) job first second f t h = t first second h
+compared_out v o s others job first second f t h = absurd h
 
-pub bad_text_says : (fault : OptFault) (task : Task) (job : Job) (first second : List ℕ) → IsAnswer (answers.BadText fault) task job first second
-    → SaysOfTexts task (BadText fault) job first second
-bad_text_says fault (Ask claim signal) job first second h = absurd h
-bad_text_says fault Surveys job first second h = absurd h
-bad_text_says fault Cover job first second h = absurd h
-bad_text_says fault (Compare other) job first second h = absurd h
-bad_text_says fault (AskText claim signal) job first second h = h
-bad_text_says fault SurveyText job first second h = h
-bad_text_says fault (CompareTexts other) job first second h = h
-
-pub second_bad_text_says : (fault : OptFault) (task : Task) (job : Job) (first second : List ℕ)
-    → IsAnswer (answers.SecondBadText fault) task job first second → SaysOfTexts task (SecondBadText fault) job first second
-second_bad_text_says fault (Ask claim signal) job first second h = absurd h
-second_bad_text_says fault Surveys job first second h = absurd h
-second_bad_text_says fault Cover job first second h = absurd h
-second_bad_text_says fault (Compare other) job first second h = absurd h
-second_bad_text_says fault (AskText claim signal) job first second h = absurd h
-second_bad_text_says fault SurveyText job first second h = absurd h
-second_bad_text_says fault (CompareTexts other) job first second h = h
+pub bad_text_says : (which : Which) (fault : OptFault) (task : Task) (job : Job) (first second : List ℕ)
+    → IsAnswer (answers.BadText which fault) task job first second → SaysOfTexts task (BadInput which (BadText fault)) job first second
+bad_text_says First fault (AskText claim signal) job first second h = h
+bad_text_says First fault SurveyText job first second h = h
+bad_text_says First fault (CompareTexts other) job first second h = h
+bad_text_says Second fault (CompareTexts other) job first second h = h
+bad_text_says which fault others job first second h = absurd h
 
 pub no_memory_says : (task : Task) (job : Job) (first second : List ℕ) → SaysOfTexts task NoMemory job first second
-no_memory_says (Ask claim signal) job first second = tt
-no_memory_says Surveys job first second = tt
 no_memory_says Cover job first second = tt
-no_memory_says (Compare other) job first second = tt
-no_memory_says (AskText claim signal) job first second = tt
-no_memory_says SurveyText job first second = tt
-no_memory_says (CompareTexts other) job first second = tt
+no_memory_says others job first second = tt

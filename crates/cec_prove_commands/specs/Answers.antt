@@ -32,6 +32,7 @@ use Rattle.cec_prove_commands.specs.Words.{AskText, SurveyText, CompareTexts}
 use Rattle.cec_prove_commands.specs.declared.answers.Answer.{Answer}
 use Rattle.cec_prove_commands.specs.declared.answers.Answer.TheVariants as answers
 use Rattle.cec_prove_commands.specs.declared.outcome.ProveOutcome.{ProveOutcome}
+use Rattle.cec_prove_commands.specs.declared.outcome.Which.TheVariants.{First, Second}
 
 -- an answer is one to a task about these texts, the second of which a comparison alone reads
 abbrev pub IsAnswer : Answer → Task → Job → (first second : List ℕ) → Type 0
@@ -41,21 +42,22 @@ IsAnswer (answers.Surveyed survey) Survey job first second = HasConstructiveSurv
 IsAnswer (answers.Covered covering) Cover job first second = HasCovering first job.main job.assumed covering
 IsAnswer (answers.Compared comparison) (Compare other) job first second =
     HasConstructiveComparison first second job.main comparison
-IsAnswer (answers.Refused refusal) (Ask claim signal) job first second = IsRefusedConstructive first job.main refusal
-IsAnswer (answers.Refused refusal) Survey job first second = IsRefusedConstructive first job.main refusal
-IsAnswer (answers.Refused refusal) Cover job first second = IsRefusedConstructive first job.main refusal
-IsAnswer (answers.Refused refusal) (Compare other) job first second = IsRefusedConstructive first job.main refusal
-IsAnswer (answers.SecondRefused refusal) (Compare other) job first second =
+IsAnswer (answers.Refused First refusal) (Ask claim signal) job first second =
+    IsRefusedConstructive first job.main refusal
+IsAnswer (answers.Refused First refusal) Survey job first second = IsRefusedConstructive first job.main refusal
+IsAnswer (answers.Refused First refusal) Cover job first second = IsRefusedConstructive first job.main refusal
+IsAnswer (answers.Refused First refusal) (Compare other) job first second = IsRefusedConstructive first job.main refusal
+IsAnswer (answers.Refused Second refusal) (Compare other) job first second =
     IsPairRefusedConstructive first second job.main (sources.Second refusal)
 IsAnswer (answers.Asked verdict) (AskText claim signal) job first second =
     HasTextVerdict first (question_of claim signal job) verdict
 IsAnswer (answers.Surveyed survey) SurveyText job first second = HasTextSurvey first job.assumed survey
 IsAnswer (answers.Compared comparison) (CompareTexts other) job first second =
     HasTextComparison first second comparison
-IsAnswer (answers.BadText fault) (AskText claim signal) job first second = IsOptFault first fault
-IsAnswer (answers.BadText fault) SurveyText job first second = IsOptFault first fault
-IsAnswer (answers.BadText fault) (CompareTexts other) job first second = IsOptFault first fault
-IsAnswer (answers.SecondBadText fault) (CompareTexts other) job first second =
+IsAnswer (answers.BadText First fault) (AskText claim signal) job first second = IsOptFault first fault
+IsAnswer (answers.BadText First fault) SurveyText job first second = IsOptFault first fault
+IsAnswer (answers.BadText First fault) (CompareTexts other) job first second = IsOptFault first fault
+IsAnswer (answers.BadText Second fault) (CompareTexts other) job first second =
     IsPairFault first second (pairs.Second fault)
 IsAnswer answers.NoMemory task job first second = ⊤
 IsAnswer others task job first second = ⊥
@@ -66,8 +68,7 @@ is_open (answers.Asked (deciding.Open depth)) = true
 is_open (answers.Surveyed (surveying.Partly lines)) = true
 is_open (answers.Covered (covering.Partly lines)) = true
 is_open (answers.Compared (comparing.Open depth)) = true
-is_open (answers.Refused (causes.Undecided cycle)) = true
-is_open (answers.SecondRefused (causes.Undecided cycle)) = true
+is_open (answers.Refused which (causes.Undecided cycle)) = true
 is_open others = false
 
 -- what the outcome of a task says of these texts

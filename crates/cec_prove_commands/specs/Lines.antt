@@ -9,19 +9,19 @@ use Rattle.cec_text_io.specs.ErrorLines.{GainsLine}
 use Rattle.cec_prove_commands.specs.TextFaults.{fault_text}
 use Rattle.cec_prove_commands.specs.Words.{Job, Request, Tell, Do, Task, Ask, Survey, Cover, Compare, AskText}
 use Rattle.cec_prove_commands.specs.Words.{SurveyText, CompareTexts}
+use Rattle.cec_prove_commands.specs.declared.outcome.InputFault.{InputFault}
+use Rattle.cec_prove_commands.specs.declared.outcome.InputFault.TheVariants.{Unread, Refused, NotConstructive}
+use Rattle.cec_prove_commands.specs.declared.outcome.InputFault.TheVariants.{UndecidedCycle, TooManyNets, BadText}
+use Rattle.cec_prove_commands.specs.declared.outcome.InputFault.TheVariants.{TooLong}
 use Rattle.cec_prove_commands.specs.declared.outcome.ProveOutcome.{ProveOutcome}
 use Rattle.cec_prove_commands.specs.declared.outcome.ProveOutcome.TheVariants.{Told, Proved, Refuted, Surveyed}
 use Rattle.cec_prove_commands.specs.declared.outcome.ProveOutcome.TheVariants.{Covered, PartlyCovered}
 use Rattle.cec_prove_commands.specs.declared.outcome.ProveOutcome.TheVariants.{PartlySurveyed, Undecided, NoSignal}
 use Rattle.cec_prove_commands.specs.declared.outcome.ProveOutcome.TheVariants.{NoAssumed, OtherGiven, OtherOutgoing}
-use Rattle.cec_prove_commands.specs.declared.outcome.ProveOutcome.TheVariants.{OtherRelations, Usage, FileFault}
-use Rattle.cec_prove_commands.specs.declared.outcome.ProveOutcome.TheVariants.{SecondFault, Refused, SecondRefused}
-use Rattle.cec_prove_commands.specs.declared.outcome.ProveOutcome.TheVariants.{NotConstructive, UndecidedCycle}
-use Rattle.cec_prove_commands.specs.declared.outcome.ProveOutcome.TheVariants.{TooManyNets, SecondNotConstructive}
-use Rattle.cec_prove_commands.specs.declared.outcome.ProveOutcome.TheVariants.{SecondUndecidedCycle, SecondTooManyNets}
-use Rattle.cec_prove_commands.specs.declared.outcome.ProveOutcome.TheVariants.{BadText, SecondBadText}
-use Rattle.cec_prove_commands.specs.declared.outcome.ProveOutcome.TheVariants.{TooLong, SecondTooLong}
+use Rattle.cec_prove_commands.specs.declared.outcome.ProveOutcome.TheVariants.{OtherRelations, Usage, BadInput}
 use Rattle.cec_prove_commands.specs.declared.outcome.ProveOutcome.TheVariants.{WriteFault, NoMemory}
+use Rattle.cec_prove_commands.specs.declared.outcome.Which.{Which}
+use Rattle.cec_prove_commands.specs.declared.outcome.Which.TheVariants.{First, Second}
 
 -- what a line speaks of
 pub record Subject : Type 0 where
@@ -44,17 +44,42 @@ own_line said = codes "cec-prove: " ++ (said ++ codes "\n")
 abbrev pub misuse_line : (misuse : List ℕ) → List ℕ
 misuse_line misuse = own_line (misuse ++ codes ", see cec-prove --help")
 
--- what the line of a source that does not compile speaks of, where the file has this name
-abbrev pub refused_of : Subject → (name : List ℕ) → RefusalSubject
-refused_of s name = record { program = codes "cec-prove: "; name = name; main = s.main; source = s.source }
+-- what belongs to the first file, or to the second one
+abbrev pub which_of : Which → (first second : List ℕ) → List ℕ
+which_of First first second = first
+which_of Second first second = second
 
--- the same of the second source, or text, of a comparison: the name of its file comes first
-abbrev pub second_line : Subject → List ℕ → List ℕ
-second_line s said = (codes "cec-prove: " ++ (s.other ++ codes ": ")) ++ (said ++ codes "\n")
+-- what the line of a source that does not compile speaks of
+abbrev pub refused_of : Subject → Which → RefusalSubject
+refused_of s which = record {
+  program = codes "cec-prove: ";
+  name = which_of which s.name s.other;
+  main = s.main;
+  source = s.source;
+}
+
+-- what a line about the source, or the text, in a file begins with; in that of the second file its name comes next
+abbrev pub line_begin : Subject → Which → List ℕ
+line_begin s First = codes "cec-prove: "
+line_begin s Second = codes "cec-prove: " ++ (s.other ++ codes ": ")
+
+-- such a line
+abbrev pub input_line : Subject → Which → List ℕ → List ℕ
+input_line s which said = line_begin s which ++ (said ++ codes "\n")
 
 -- the instant to which the program has no reaction, and the wires that are unknown there
 abbrev pub stuck_text : Stuck → List ℕ
 stuck_text stuck = codes "instant " ++ (decimal stuck.instant ++ (codes ": not constructive: " ++ stuck.text.items))
+
+-- the line about a fault of a file, or of the source or the text in it
+abbrev pub fault_line : Subject → Which → InputFault → List ℕ
+fault_line s which Unread = own_line (codes "cannot read " ++ which_of which s.name s.other)
+fault_line s which (Refused refusal) = refusal_line (refused_of s which) refusal
+fault_line s which (NotConstructive stuck) = input_line s which (stuck_text stuck)
+fault_line s which (UndecidedCycle cycle) = input_line s which (codes "undecided: " ++ cycle.text.items)
+fault_line s which (TooManyNets cycle) = input_line s which (codes "limit: nets: " ++ cycle.text.items)
+fault_line s which (BadText fault) = input_line s which (fault_text fault)
+fault_line s which TooLong = input_line s which (codes "limit: text")
 
 -- the line of an outcome; none for Told
 abbrev pub line_of : Subject → ProveOutcome → List ℕ
@@ -72,20 +97,7 @@ line_of s OtherGiven = own_line (codes "the given signals differ")
 line_of s OtherOutgoing = own_line (codes "the outgoing signals differ")
 line_of s OtherRelations = own_line (codes "the relations differ")
 line_of s Usage = own_line (codes "no meaning")
-line_of s FileFault = own_line (codes "cannot read " ++ s.name)
-line_of s SecondFault = own_line (codes "cannot read " ++ s.other)
-line_of s (Refused refusal) = refusal_line (refused_of s s.name) refusal
-line_of s (SecondRefused refusal) = refusal_line (refused_of s s.other) refusal
-line_of s (NotConstructive stuck) = own_line (stuck_text stuck)
-line_of s (SecondNotConstructive stuck) = second_line s (stuck_text stuck)
-line_of s (UndecidedCycle cycle) = own_line (codes "undecided: " ++ cycle.text.items)
-line_of s (SecondUndecidedCycle cycle) = second_line s (codes "undecided: " ++ cycle.text.items)
-line_of s (TooManyNets cycle) = own_line (codes "limit: nets: " ++ cycle.text.items)
-line_of s (SecondTooManyNets cycle) = second_line s (codes "limit: nets: " ++ cycle.text.items)
-line_of s (BadText fault) = own_line (fault_text fault)
-line_of s (SecondBadText fault) = second_line s (fault_text fault)
-line_of s TooLong = own_line (codes "limit: text")
-line_of s SecondTooLong = second_line s (codes "limit: text")
+line_of s (BadInput which fault) = fault_line s which fault
 line_of s WriteFault = own_line (codes "cannot write")
 line_of s NoMemory = own_line (codes "out of memory")
 
@@ -111,10 +123,8 @@ second_of (CompareTexts other) = other
 
 -- a line about a static fault speaks of the source that the file holds
 abbrev pub SpeaksOf : Content → Job → ProveOutcome → List ℕ → Type 0
-SpeaksOf content job (Refused (refusing.Static fault)) source = IsHeld content job.name source
-SpeaksOf content job (Refused others) source = ⊤
-SpeaksOf content job (SecondRefused (refusing.Static fault)) source = IsHeld content (second_of job.task) source
-SpeaksOf content job (SecondRefused others) source = ⊤
+SpeaksOf content job (BadInput which (Refused (refusing.Static fault))) source =
+    IsHeld content (which_of which job.name (second_of job.task)) source
 SpeaksOf content job others source = ⊤
 
 -- the subject of a task about a source with these bytes

@@ -10,11 +10,8 @@ use Rattle.net_ir.specs.Netlists.{Netlist}
 use Rattle.cec_compile.specs.Refusals.{IsRefused, KeepsGraphLimits}
 use Rattle.cec_compile.specs.declared.refusal.Refusal.{Refusal}
 use Rattle.cec_compile.specs.declared.refusal.Refusal.TheVariants as refusing
-use Rattle.cec_cycles.specs.Constructive.{HasCycle, IsRefusedConstructive, StandsForConstructiveMade, StandsForStuck}
-use Rattle.cec_cycles.specs.declared.findings.CycleRefusal.{CycleRefusal}
-use Rattle.cec_cycles.specs.declared.findings.CycleRefusal.TheVariants as causes
+use Rattle.cec_cycles.specs.Constructive.{HasCycle, StandsForConstructiveMade, StandsForStuck}
 use Rattle.cec_cycles.specs.declared.findings.Stuck.{Stuck}
-use Rattle.cec_opt_texts.specs.Faults.{IsOptFault}
 use Rattle.cec_text_io.specs.Contents.{Content, Holds}
 use Rattle.cec_text_io.specs.Writings.{LeavesText}
 use Rattle.cec_prove_covers.specs.Coverings.{IsCovering}
@@ -24,24 +21,24 @@ use Rattle.cec_prove_sources.specs.Verdicts.{AnswersBroken, AnswersHolds, HasSig
 use Rattle.cec_prove_sources.specs.declared.questions.Claim.{Claim}
 use Rattle.cec_prove_sources.specs.declared.questions.Layout.TheVariants.{LinePerInstant}
 use Rattle.cec_prove_commands.specs.HelpTexts.{own_text}
-use Rattle.cec_prove_commands.specs.Lines.{second_of}
+use Rattle.cec_prove_commands.specs.Lines.{second_of, which_of}
 use Rattle.cec_prove_commands.specs.Statuses.{written_of}
 use Rattle.cec_prove_commands.specs.TextOutcomes.{IsLongText, IsTextDistinction, IsTextRefutation, IsTextSurveyBy}
 use Rattle.cec_prove_commands.specs.TextOutcomes.{TextClaimSays, TextComparisonSays, TextSurveySays}
 use Rattle.cec_prove_commands.specs.Words.{Job, Request, Tell, Do, Task, Ask, Survey, Cover, Compare, AskText}
 use Rattle.cec_prove_commands.specs.Words.{SurveyText, CompareTexts}
+use Rattle.cec_prove_commands.specs.declared.outcome.InputFault.{InputFault}
+use Rattle.cec_prove_commands.specs.declared.outcome.InputFault.TheVariants.{Unread, Refused, NotConstructive}
+use Rattle.cec_prove_commands.specs.declared.outcome.InputFault.TheVariants.{UndecidedCycle, TooManyNets, TooLong}
 use Rattle.cec_prove_commands.specs.declared.outcome.ProveOutcome.{ProveOutcome}
 use Rattle.cec_prove_commands.specs.declared.outcome.ProveOutcome.TheVariants.{Told, Proved, Refuted, Surveyed}
 use Rattle.cec_prove_commands.specs.declared.outcome.ProveOutcome.TheVariants.{Covered, PartlyCovered}
 use Rattle.cec_prove_commands.specs.declared.outcome.ProveOutcome.TheVariants.{PartlySurveyed, Undecided, NoSignal}
 use Rattle.cec_prove_commands.specs.declared.outcome.ProveOutcome.TheVariants.{NoAssumed, OtherGiven, OtherOutgoing}
-use Rattle.cec_prove_commands.specs.declared.outcome.ProveOutcome.TheVariants.{OtherRelations, Usage, FileFault}
-use Rattle.cec_prove_commands.specs.declared.outcome.ProveOutcome.TheVariants.{SecondFault, Refused, SecondRefused}
-use Rattle.cec_prove_commands.specs.declared.outcome.ProveOutcome.TheVariants.{NotConstructive, UndecidedCycle}
-use Rattle.cec_prove_commands.specs.declared.outcome.ProveOutcome.TheVariants.{TooManyNets, SecondNotConstructive}
-use Rattle.cec_prove_commands.specs.declared.outcome.ProveOutcome.TheVariants.{SecondUndecidedCycle, SecondTooManyNets}
-use Rattle.cec_prove_commands.specs.declared.outcome.ProveOutcome.TheVariants.{BadText, TooLong, SecondTooLong}
+use Rattle.cec_prove_commands.specs.declared.outcome.ProveOutcome.TheVariants.{OtherRelations, Usage, BadInput}
 use Rattle.cec_prove_commands.specs.declared.outcome.ProveOutcome.TheVariants.{WriteFault, NoMemory}
+use Rattle.cec_prove_commands.specs.declared.outcome.Which.{Which}
+use Rattle.cec_prove_commands.specs.declared.outcome.Which.TheVariants.{First, Second}
 
 -- The bytes stand for a program whose graph keeps the limits, by its main module, and this is so of it. Its
 -- dependencies may go round in circles.
@@ -56,6 +53,14 @@ abbrev pub IsRefusedFor : Job → Refusal → List ℕ → Type 0
 IsRefusedFor job (refusing.Cyclic cycle) text = ⊥
 IsRefusedFor job refusing.NoMemory text = ⊥
 IsRefusedFor job refusal text = IsRefused text job.main refusal
+
+-- what the fault of a source says of it
+abbrev pub SourceFaultSays : InputFault → Job → (source : List ℕ) → Type 0
+SourceFaultSays (Refused refusal) job source = IsRefusedFor job refusal source
+SourceFaultSays (NotConstructive stuck) job source = StandsForStuck source job.main stuck
+SourceFaultSays (UndecidedCycle cycle) job source = HasCycle source job.main cycle
+SourceFaultSays (TooManyNets cycle) job source = HasCycle source job.main cycle
+SourceFaultSays others job source = ⊥
 
 -- the source stands for a program that is not constructive
 abbrev pub IsStuckSource : Job → (source : List ℕ) → Type 0
@@ -77,7 +82,7 @@ IsRefutation q job text trace = Answered text job (λ p. AnswersBroken LinePerIn
 -- the trace of a claim that ended with an outcome
 abbrev pub IsClaimTraceBy : PlainQuestion → ProveOutcome → Job → (text trace : List ℕ) → Type 0
 IsClaimTraceBy q Refuted job text trace = IsRefutation q job text trace
-IsClaimTraceBy q (NotConstructive stuck) job text trace = trace ≡ stuck.trace.items
+IsClaimTraceBy q (BadInput First (NotConstructive stuck)) job text trace = trace ≡ stuck.trace.items
 IsClaimTraceBy q others job text trace = IsRefutation q job text trace ⊎ IsStuckTrace job text trace
 
 abbrev pub ClaimSays : PlainQuestion → ProveOutcome → Job → List ℕ → Type 0
@@ -86,10 +91,7 @@ ClaimSays q Refuted job text = (trace : List ℕ) × IsRefutation q job text tra
 ClaimSays q (Undecided depth) job text = Answered text job (λ p. HasSignals p q)
 ClaimSays q NoSignal job text = Answered text job (λ p. is_among q.signal (outgoing_names p) ≡ false)
 ClaimSays q NoAssumed job text = Answered text job (λ p. IsNone p q.assumed)
-ClaimSays q (Refused refusal) job text = IsRefusedFor job refusal text
-ClaimSays q (NotConstructive stuck) job text = StandsForStuck text job.main stuck
-ClaimSays q (UndecidedCycle cycle) job text = HasCycle text job.main cycle
-ClaimSays q (TooManyNets cycle) job text = HasCycle text job.main cycle
+ClaimSays q (BadInput First fault) job text = SourceFaultSays fault job text
 ClaimSays q WriteFault job text = ((trace : List ℕ) × IsRefutation q job text trace) ⊎ IsStuckSource job text
 ClaimSays q NoMemory job text = ⊤
 ClaimSays q others job text = ⊥
@@ -104,17 +106,14 @@ IsSurveyOf job whole text lines = Answered text job (λ p. IsSurveyText p job.as
 abbrev pub IsSurveyBy : ProveOutcome → Job → List ℕ → List ℕ → Type 0
 IsSurveyBy Surveyed job text lines = IsSurveyOf job true text lines
 IsSurveyBy PartlySurveyed job text lines = IsSurveyOf job false text lines
-IsSurveyBy (NotConstructive stuck) job text lines = lines ≡ stuck.trace.items
+IsSurveyBy (BadInput First (NotConstructive stuck)) job text lines = lines ≡ stuck.trace.items
 IsSurveyBy others job text lines = ((whole : Bool) × IsSurveyOf job whole text lines) ⊎ IsStuckTrace job text lines
 
 abbrev pub SurveySays : ProveOutcome → Job → List ℕ → Type 0
 SurveySays Surveyed job text = (lines : List ℕ) × IsSurveyOf job true text lines
 SurveySays PartlySurveyed job text = (lines : List ℕ) × IsSurveyOf job false text lines
 SurveySays NoAssumed job text = Answered text job (λ p. IsNone p job.assumed)
-SurveySays (Refused refusal) job text = IsRefusedFor job refusal text
-SurveySays (NotConstructive stuck) job text = StandsForStuck text job.main stuck
-SurveySays (UndecidedCycle cycle) job text = HasCycle text job.main cycle
-SurveySays (TooManyNets cycle) job text = HasCycle text job.main cycle
+SurveySays (BadInput First fault) job text = SourceFaultSays fault job text
 SurveySays WriteFault job text =
     ((whole : Bool) × ((lines : List ℕ) × IsSurveyOf job whole text lines)) ⊎ IsStuckSource job text
 SurveySays NoMemory job text = ⊤
@@ -130,7 +129,7 @@ IsCoveringOf job whole text lines = Answered text job (λ p. IsCovering text job
 abbrev pub IsCoveringBy : ProveOutcome → Job → List ℕ → List ℕ → Type 0
 IsCoveringBy Covered job text lines = IsCoveringOf job true text lines
 IsCoveringBy PartlyCovered job text lines = IsCoveringOf job false text lines
-IsCoveringBy (NotConstructive stuck) job text lines = lines ≡ stuck.trace.items
+IsCoveringBy (BadInput First (NotConstructive stuck)) job text lines = lines ≡ stuck.trace.items
 IsCoveringBy others job text lines =
     ((whole : Bool) × IsCoveringOf job whole text lines) ⊎ IsStuckTrace job text lines
 
@@ -138,10 +137,7 @@ abbrev pub CoveringSays : ProveOutcome → Job → List ℕ → Type 0
 CoveringSays Covered job text = (lines : List ℕ) × IsCoveringOf job true text lines
 CoveringSays PartlyCovered job text = (lines : List ℕ) × IsCoveringOf job false text lines
 CoveringSays NoAssumed job text = Answered text job (λ p. IsNone p job.assumed)
-CoveringSays (Refused refusal) job text = IsRefusedFor job refusal text
-CoveringSays (NotConstructive stuck) job text = StandsForStuck text job.main stuck
-CoveringSays (UndecidedCycle cycle) job text = HasCycle text job.main cycle
-CoveringSays (TooManyNets cycle) job text = HasCycle text job.main cycle
+CoveringSays (BadInput First fault) job text = SourceFaultSays fault job text
 CoveringSays WriteFault job text =
     ((whole : Bool) × ((lines : List ℕ) × IsCoveringOf job whole text lines)) ⊎ IsStuckSource job text
 CoveringSays NoMemory job text = ⊤
@@ -169,27 +165,29 @@ abbrev pub HasConstructive : Job → (source : List ℕ) → Type 0
 HasConstructive job source =
     (program : Program) × (net : Netlist) × StandsForConstructiveMade source job.main program net
 
--- the second source has no such netlist, for this cause, and the first one has
-abbrev pub IsSecondRefused : Job → CycleRefusal → (first second : List ℕ) → Type 0
-IsSecondRefused job refusal first second =
-    HasConstructive job first × IsRefusedConstructive second job.main refusal
+-- What the fault of one of two sources says. One of the second source that is no refusal comes only where the first
+-- one is constructive.
+abbrev pub SourcesFaultSays : Which → InputFault → Job → (first second : List ℕ) → Type 0
+SourcesFaultSays First fault job first second = SourceFaultSays fault job first
+SourcesFaultSays Second (Refused refusal) job first second = IsRefusedFor job refusal second
+SourcesFaultSays Second others job first second = HasConstructive job first × SourceFaultSays others job second
 
--- the second source is not constructive, and the first one is
-abbrev pub IsSecondStuck : Job → (first second : List ℕ) → Type 0
-IsSecondStuck job first second = (stuck : Stuck) × IsSecondRefused job (causes.NotConstructive stuck) first second
+-- one of the two sources is not constructive
+abbrev pub IsStuckPair : Job → (first second : List ℕ) → Type 0
+IsStuckPair job first second =
+    (which : Which) × (stuck : Stuck) × SourcesFaultSays which (NotConstructive stuck) job first second
 
--- a trace leads to an instant to which the second source has no reaction
-abbrev pub IsSecondStuckTrace : Job → (first second trace : List ℕ) → Type 0
-IsSecondStuckTrace job first second trace =
-    (stuck : Stuck) × IsSecondRefused job (causes.NotConstructive stuck) first second × (trace ≡ stuck.trace.items)
+-- a trace leads to an instant to which one of the two sources has no reaction
+abbrev pub IsStuckPairTrace : Job → (first second trace : List ℕ) → Type 0
+IsStuckPairTrace job first second trace = (which : Which) × (stuck : Stuck)
+    × SourcesFaultSays which (NotConstructive stuck) job first second × (trace ≡ stuck.trace.items)
 
 -- the trace of a comparison that ended with an outcome
 abbrev pub IsDistinctionBy : ProveOutcome → Job → (first second trace : List ℕ) → Type 0
 IsDistinctionBy Refuted job first second trace = IsDistinction job first second trace
-IsDistinctionBy (NotConstructive stuck) job first second trace = trace ≡ stuck.trace.items
-IsDistinctionBy (SecondNotConstructive stuck) job first second trace = trace ≡ stuck.trace.items
+IsDistinctionBy (BadInput which (NotConstructive stuck)) job first second trace = trace ≡ stuck.trace.items
 IsDistinctionBy others job first second trace =
-    IsDistinction job first second trace ⊎ (IsStuckTrace job first trace ⊎ IsSecondStuckTrace job first second trace)
+    IsDistinction job first second trace ⊎ IsStuckPairTrace job first second trace
 
 abbrev pub ComparisonSays : ProveOutcome → Job → (first second : List ℕ) → Type 0
 ComparisonSays Proved job first second = Compared first second job AreSame
@@ -198,19 +196,9 @@ ComparisonSays (Undecided depth) job first second = Compared first second job Sh
 ComparisonSays OtherGiven job first second = Compared first second job (λ p q. given_names p ≢ given_names q)
 ComparisonSays OtherOutgoing job first second = Compared first second job (λ p q. outgoing_names p ≢ outgoing_names q)
 ComparisonSays OtherRelations job first second = Compared first second job (λ p q. p.relations ≢ q.relations)
-ComparisonSays (Refused refusal) job first second = IsRefusedFor job refusal first
-ComparisonSays (SecondRefused refusal) job first second = IsRefusedFor job refusal second
-ComparisonSays (NotConstructive stuck) job first second = StandsForStuck first job.main stuck
-ComparisonSays (SecondNotConstructive stuck) job first second =
-    IsSecondRefused job (causes.NotConstructive stuck) first second
-ComparisonSays (UndecidedCycle cycle) job first second = HasCycle first job.main cycle
-ComparisonSays (SecondUndecidedCycle cycle) job first second =
-    IsSecondRefused job (causes.Undecided cycle) first second
-ComparisonSays (TooManyNets cycle) job first second = HasCycle first job.main cycle
-ComparisonSays (SecondTooManyNets cycle) job first second =
-    IsSecondRefused job (causes.TooManyNets cycle) first second
-ComparisonSays WriteFault job first second = ((trace : List ℕ) × IsDistinction job first second trace)
-    ⊎ (IsStuckSource job first ⊎ IsSecondStuck job first second)
+ComparisonSays (BadInput which fault) job first second = SourcesFaultSays which fault job first second
+ComparisonSays WriteFault job first second =
+    ((trace : List ℕ) × IsDistinction job first second trace) ⊎ IsStuckPair job first second
 ComparisonSays NoMemory job first second = ⊤
 ComparisonSays others job first second = ⊥
 
@@ -222,24 +210,20 @@ BothHold content first second fact = Holds content first (λ text. Holds content
 
 -- what an outcome says of the file with the source; a file fault says nothing of bytes
 abbrev pub AgreesOnFile : Content → (name : List ℕ) → (ProveOutcome → List ℕ → Type 0) → ProveOutcome → Type 0
-AgreesOnFile content name Says FileFault = ⊤
+AgreesOnFile content name Says (BadInput First Unread) = ⊤
 AgreesOnFile content name Says others = Holds content name (Says others)
 
 -- the same of two files; where one of the sources is refused, it says nothing of the other one
 abbrev pub AgreesOnFiles : Content → Job → (other : List ℕ) → ProveOutcome → Type 0
-AgreesOnFiles content job other FileFault = ⊤
-AgreesOnFiles content job other SecondFault = ⊤
-AgreesOnFiles content job other (Refused refusal) = Holds content job.name (IsRefusedFor job refusal)
-AgreesOnFiles content job other (SecondRefused refusal) = Holds content other (IsRefusedFor job refusal)
+AgreesOnFiles content job other (BadInput which Unread) = ⊤
+AgreesOnFiles content job other (BadInput which (Refused refusal)) =
+    Holds content (which_of which job.name other) (IsRefusedFor job refusal)
 AgreesOnFiles content job other others = BothHold content job.name other (ComparisonSays others job)
 
--- the same of two texts
+-- the same of two texts; where one of them is too long, it says nothing of the other one
 abbrev pub AgreesOnTexts : Content → Job → (other : List ℕ) → ProveOutcome → Type 0
-AgreesOnTexts content job other FileFault = ⊤
-AgreesOnTexts content job other SecondFault = ⊤
-AgreesOnTexts content job other (BadText fault) = Holds content job.name (λ text. IsOptFault text fault)
-AgreesOnTexts content job other TooLong = Holds content job.name IsLongText
-AgreesOnTexts content job other SecondTooLong = Holds content other IsLongText
+AgreesOnTexts content job other (BadInput which Unread) = ⊤
+AgreesOnTexts content job other (BadInput which TooLong) = Holds content (which_of which job.name other) IsLongText
 AgreesOnTexts content job other others = BothHold content job.name other (TextComparisonSays others)
 
 abbrev pub AgreesOnTask : Task → Content → Job → ProveOutcome → Type 0
@@ -270,8 +254,8 @@ IsOutcomeOf (Ok (Do job)) content outcome = AgreesOnTask job.task content job ou
 -- The count of faults of the files and the name that failed last: a file fault raised the count, and the name is the
 -- file's; every other outcome leaves both.
 abbrev pub CountsJob : Job → ProveOutcome → (before now : ℕ) (failed_before failed_now : List ℕ) → Type 0
-CountsJob job FileFault before now failed_before failed_now = Notes before now job.name failed_now
-CountsJob job SecondFault before now failed_before failed_now = Notes before now (second_of job.task) failed_now
+CountsJob job (BadInput which Unread) before now failed_before failed_now =
+    Notes before now (which_of which job.name (second_of job.task)) failed_now
 CountsJob job others before now failed_before failed_now = KeepsFaults before now failed_before failed_now
 
 abbrev pub CountsFiles : Result Request (List ℕ) → ProveOutcome → (before now : ℕ) (failed_before failed_now : List ℕ)

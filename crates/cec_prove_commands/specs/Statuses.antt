@@ -7,19 +7,18 @@ use Rattle.cec_compile.specs.declared.refusal.Refusal as refusals
 use Rattle.cec_compile.specs.declared.refusal.Refusal.TheVariants as refusing
 use Rattle.cec_text_io.specs.declared.writing.Written.{Written}
 use Rattle.cec_text_io.specs.declared.writing.Written.TheVariants as ends
+use Rattle.cec_prove_commands.specs.declared.outcome.InputFault.{InputFault}
+use Rattle.cec_prove_commands.specs.declared.outcome.InputFault.TheVariants.{Unread, Refused, NotConstructive}
+use Rattle.cec_prove_commands.specs.declared.outcome.InputFault.TheVariants.{UndecidedCycle, TooManyNets, BadText}
+use Rattle.cec_prove_commands.specs.declared.outcome.InputFault.TheVariants.{TooLong}
 use Rattle.cec_prove_commands.specs.declared.outcome.ProveOutcome.{ProveOutcome}
 use Rattle.cec_prove_commands.specs.declared.outcome.ProveOutcome.TheVariants.{Told, Proved, Refuted, Surveyed}
 use Rattle.cec_prove_commands.specs.declared.outcome.ProveOutcome.TheVariants.{Covered, PartlyCovered}
 use Rattle.cec_prove_commands.specs.declared.outcome.ProveOutcome.TheVariants.{PartlySurveyed, Undecided, NoSignal}
 use Rattle.cec_prove_commands.specs.declared.outcome.ProveOutcome.TheVariants.{NoAssumed, OtherGiven, OtherOutgoing}
-use Rattle.cec_prove_commands.specs.declared.outcome.ProveOutcome.TheVariants.{OtherRelations, Usage, FileFault}
-use Rattle.cec_prove_commands.specs.declared.outcome.ProveOutcome.TheVariants.{SecondFault, Refused, SecondRefused}
-use Rattle.cec_prove_commands.specs.declared.outcome.ProveOutcome.TheVariants.{NotConstructive, UndecidedCycle}
-use Rattle.cec_prove_commands.specs.declared.outcome.ProveOutcome.TheVariants.{TooManyNets, SecondNotConstructive}
-use Rattle.cec_prove_commands.specs.declared.outcome.ProveOutcome.TheVariants.{SecondUndecidedCycle, SecondTooManyNets}
-use Rattle.cec_prove_commands.specs.declared.outcome.ProveOutcome.TheVariants.{BadText, SecondBadText}
-use Rattle.cec_prove_commands.specs.declared.outcome.ProveOutcome.TheVariants.{TooLong, SecondTooLong}
+use Rattle.cec_prove_commands.specs.declared.outcome.ProveOutcome.TheVariants.{OtherRelations, Usage, BadInput}
 use Rattle.cec_prove_commands.specs.declared.outcome.ProveOutcome.TheVariants.{WriteFault, NoMemory}
+use Rattle.cec_prove_commands.specs.declared.outcome.Which.{Which}
 
 -- of a source that does not compile: that of `cec`
 abbrev pub refusal_status : refusals.Refusal → ℕ
@@ -27,6 +26,16 @@ refusal_status (refusing.Static fault) = 4
 refusal_status (refusing.Cyclic cycle) = 5
 refusal_status (refusing.Limit limit) = 8
 refusal_status refusing.NoMemory = 10
+
+-- after a fault of a file, or of the source or the text in it
+abbrev pub fault_status : InputFault → ℕ
+fault_status Unread = 3
+fault_status (Refused refusal) = refusal_status refusal
+fault_status (NotConstructive stuck) = 12
+fault_status (UndecidedCycle cycle) = 21
+fault_status (TooManyNets cycle) = 8
+fault_status (BadText fault) = 7
+fault_status TooLong = 8
 
 abbrev pub status_of : ProveOutcome → ℕ
 status_of Told = 0
@@ -43,20 +52,7 @@ status_of OtherGiven = 23
 status_of OtherOutgoing = 23
 status_of OtherRelations = 23
 status_of Usage = 2
-status_of FileFault = 3
-status_of SecondFault = 3
-status_of (Refused refusal) = refusal_status refusal
-status_of (SecondRefused refusal) = refusal_status refusal
-status_of (NotConstructive stuck) = 12
-status_of (SecondNotConstructive stuck) = 12
-status_of (UndecidedCycle cycle) = 21
-status_of (SecondUndecidedCycle cycle) = 21
-status_of (TooManyNets cycle) = 8
-status_of (SecondTooManyNets cycle) = 8
-status_of (BadText fault) = 7
-status_of (SecondBadText fault) = 7
-status_of TooLong = 8
-status_of SecondTooLong = 8
+status_of (BadInput which fault) = fault_status fault
 status_of WriteFault = 9
 status_of NoMemory = 10
 
@@ -69,8 +65,7 @@ written_of Surveyed = Some ends.Done
 written_of PartlySurveyed = Some ends.Done
 written_of Covered = Some ends.Done
 written_of PartlyCovered = Some ends.Done
-written_of (NotConstructive stuck) = Some ends.Done
-written_of (SecondNotConstructive stuck) = Some ends.Done
+written_of (BadInput which (NotConstructive stuck)) = Some ends.Done
 written_of WriteFault = Some ends.WriteFault
 written_of NoMemory = Some ends.NoMemory
 written_of others = None
@@ -81,31 +76,16 @@ written_outcome done ends.Done = done
 written_outcome done ends.WriteFault = WriteFault
 written_outcome done ends.NoMemory = NoMemory
 
-abbrev pub refusal_outcome : refusals.Refusal → ProveOutcome
-refusal_outcome refusing.NoMemory = NoMemory
-refusal_outcome others = Refused others
-
--- of the second source of a comparison
-abbrev pub second_refusal_outcome : refusals.Refusal → ProveOutcome
-second_refusal_outcome refusing.NoMemory = NoMemory
-second_refusal_outcome others = SecondRefused others
+abbrev pub refusal_outcome : Which → refusals.Refusal → ProveOutcome
+refusal_outcome which refusing.NoMemory = NoMemory
+refusal_outcome which others = BadInput which (Refused others)
 
 -- of a text, or a source, that is too long
-abbrev pub long_outcome : (of_texts : Bool) → ProveOutcome
-long_outcome true = TooLong
-long_outcome false = Refused (refusing.Limit limits.Source)
+abbrev pub long_fault : (of_texts : Bool) → InputFault
+long_fault true = TooLong
+long_fault false = Refused (refusing.Limit limits.Source)
 
-abbrev pub unread_outcome : (of_texts : Bool) → unread.FileFault → ProveOutcome
-unread_outcome of_texts reading.Failed = FileFault
-unread_outcome of_texts reading.TooLong = long_outcome of_texts
-unread_outcome of_texts reading.NoMemory = NoMemory
-
--- of the second file of a comparison
-abbrev pub second_long_outcome : (of_texts : Bool) → ProveOutcome
-second_long_outcome true = SecondTooLong
-second_long_outcome false = SecondRefused (refusing.Limit limits.Source)
-
-abbrev pub second_unread_outcome : (of_texts : Bool) → unread.FileFault → ProveOutcome
-second_unread_outcome of_texts reading.Failed = SecondFault
-second_unread_outcome of_texts reading.TooLong = second_long_outcome of_texts
-second_unread_outcome of_texts reading.NoMemory = NoMemory
+abbrev pub unread_outcome : Which → (of_texts : Bool) → unread.FileFault → ProveOutcome
+unread_outcome which of_texts reading.Failed = BadInput which Unread
+unread_outcome which of_texts reading.TooLong = BadInput which (long_fault of_texts)
+unread_outcome which of_texts reading.NoMemory = NoMemory

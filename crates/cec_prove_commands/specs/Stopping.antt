@@ -7,9 +7,11 @@ use Rattle.cec_cycles.specs.declared.findings.CycleRefusal.TheVariants as causes
 use Rattle.cec_cycles.specs.declared.findings.Stuck.{Stuck}
 use Rattle.cec_text_io.specs.Writings.{LeavesText}
 use Rattle.cec_text_io.specs.declared.writing.Written.{Written}
-use Rattle.cec_prove_commands.specs.Statuses.{refusal_outcome, second_refusal_outcome, written_outcome}
+use Rattle.cec_prove_commands.specs.Statuses.{refusal_outcome, written_outcome}
+use Rattle.cec_prove_commands.specs.declared.outcome.InputFault.TheVariants as faults
 use Rattle.cec_prove_commands.specs.declared.outcome.ProveOutcome.{ProveOutcome}
-use Rattle.cec_prove_commands.specs.declared.outcome.ProveOutcome.TheVariants as outcomes
+use Rattle.cec_prove_commands.specs.declared.outcome.ProveOutcome.TheVariants.{BadInput}
+use Rattle.cec_prove_commands.specs.declared.outcome.Which.{Which}
 
 -- the trace of a source that is not constructive was to be written
 pub record IsStuckOutcome (stuck : Stuck) (done : ProveOutcome) (s : SinkChange) (outcome : ProveOutcome) : Type 0 where
@@ -22,19 +24,11 @@ pub record IsSilentOutcome (expected : ProveOutcome) (s : SinkChange) (outcome :
   pub is : outcome ≡ expected
   pub silent : Appends s.before s.after s.faults_before s.faults_now []
 
-abbrev pub IsRefusedOutcome : CycleRefusal → SinkChange → ProveOutcome → Type 0
-IsRefusedOutcome (causes.Source refusal) s outcome = IsSilentOutcome (refusal_outcome refusal) s outcome
-IsRefusedOutcome (causes.NotConstructive stuck) s outcome =
-    IsStuckOutcome stuck (outcomes.NotConstructive stuck) s outcome
-IsRefusedOutcome (causes.Undecided cycle) s outcome = IsSilentOutcome (outcomes.UndecidedCycle cycle) s outcome
-IsRefusedOutcome (causes.TooManyNets cycle) s outcome = IsSilentOutcome (outcomes.TooManyNets cycle) s outcome
-
--- of the second source of a comparison
-abbrev pub IsSecondRefusedOutcome : CycleRefusal → SinkChange → ProveOutcome → Type 0
-IsSecondRefusedOutcome (causes.Source refusal) s outcome = IsSilentOutcome (second_refusal_outcome refusal) s outcome
-IsSecondRefusedOutcome (causes.NotConstructive stuck) s outcome =
-    IsStuckOutcome stuck (outcomes.SecondNotConstructive stuck) s outcome
-IsSecondRefusedOutcome (causes.Undecided cycle) s outcome =
-    IsSilentOutcome (outcomes.SecondUndecidedCycle cycle) s outcome
-IsSecondRefusedOutcome (causes.TooManyNets cycle) s outcome =
-    IsSilentOutcome (outcomes.SecondTooManyNets cycle) s outcome
+abbrev pub IsRefusedOutcome : Which → CycleRefusal → SinkChange → ProveOutcome → Type 0
+IsRefusedOutcome which (causes.Source refusal) s outcome = IsSilentOutcome (refusal_outcome which refusal) s outcome
+IsRefusedOutcome which (causes.NotConstructive stuck) s outcome =
+    IsStuckOutcome stuck (BadInput which (faults.NotConstructive stuck)) s outcome
+IsRefusedOutcome which (causes.Undecided cycle) s outcome =
+    IsSilentOutcome (BadInput which (faults.UndecidedCycle cycle)) s outcome
+IsRefusedOutcome which (causes.TooManyNets cycle) s outcome =
+    IsSilentOutcome (BadInput which (faults.TooManyNets cycle)) s outcome

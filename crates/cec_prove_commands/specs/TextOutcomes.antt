@@ -12,13 +12,15 @@ use Rattle.cec_prove_texts.specs.Sameness.{AreDifferentDevices, AreSameDevices, 
 use Rattle.cec_prove_texts.specs.Surveys.{IsDeviceSurveyText}
 use Rattle.cec_prove_texts.specs.Verdicts.{AnswersDeviceBroken, AnswersDeviceHolds, DeviceHasSignals, IsNoOutput}
 use Rattle.cec_prove_texts.specs.declared.fault.PairFault.TheVariants as pairs
+use Rattle.cec_prove_commands.specs.declared.outcome.InputFault.{InputFault}
+use Rattle.cec_prove_commands.specs.declared.outcome.InputFault.TheVariants.{BadText, TooLong}
 use Rattle.cec_prove_commands.specs.declared.outcome.ProveOutcome.{ProveOutcome}
 use Rattle.cec_prove_commands.specs.declared.outcome.ProveOutcome.TheVariants.{Proved, Refuted, Surveyed}
 use Rattle.cec_prove_commands.specs.declared.outcome.ProveOutcome.TheVariants.{PartlySurveyed, Undecided, NoSignal}
 use Rattle.cec_prove_commands.specs.declared.outcome.ProveOutcome.TheVariants.{NoAssumed, OtherGiven, OtherOutgoing}
-use Rattle.cec_prove_commands.specs.declared.outcome.ProveOutcome.TheVariants.{BadText, SecondBadText}
-use Rattle.cec_prove_commands.specs.declared.outcome.ProveOutcome.TheVariants.{TooLong, SecondTooLong}
-use Rattle.cec_prove_commands.specs.declared.outcome.ProveOutcome.TheVariants.{WriteFault, NoMemory}
+use Rattle.cec_prove_commands.specs.declared.outcome.ProveOutcome.TheVariants.{BadInput, WriteFault, NoMemory}
+use Rattle.cec_prove_commands.specs.declared.outcome.Which.{Which}
+use Rattle.cec_prove_commands.specs.declared.outcome.Which.TheVariants.{First, Second}
 
 -- The text describes a circuit whose outputs have names, and this is so of the circuit.
 pub record TextAnswered (text : List ℕ) (Says : Device → Type 0) : Type 0 where
@@ -30,6 +32,12 @@ pub record TextAnswered (text : List ℕ) (Says : Device → Type 0) : Type 0 wh
 -- the text has too many bytes
 abbrev pub IsLongText : List ℕ → Type 0
 IsLongText text = TEXT_BYTES < length text
+
+-- what the fault of a text says of it
+abbrev pub TextFaultSays : InputFault → (text : List ℕ) → Type 0
+TextFaultSays (BadText fault) text = IsOptFault text fault
+TextFaultSays TooLong text = IsLongText text
+TextFaultSays others text = ⊥
 
 -- ---- claims
 
@@ -43,8 +51,7 @@ TextClaimSays q Refuted text = (trace : List ℕ) × IsTextRefutation q text tra
 TextClaimSays q (Undecided depth) text = TextAnswered text (λ d. DeviceHasSignals d q)
 TextClaimSays q NoSignal text = TextAnswered text (λ d. is_among q.signal d.outputs ≡ false)
 TextClaimSays q NoAssumed text = TextAnswered text (λ d. IsNoOutput d q.assumed)
-TextClaimSays q (BadText fault) text = IsOptFault text fault
-TextClaimSays q TooLong text = IsLongText text
+TextClaimSays q (BadInput First fault) text = TextFaultSays fault text
 TextClaimSays q WriteFault text = (trace : List ℕ) × IsTextRefutation q text trace
 TextClaimSays q NoMemory text = ⊤
 TextClaimSays q others text = ⊥
@@ -66,8 +73,7 @@ abbrev pub TextSurveySays : ProveOutcome → (assumed : Option (List ℕ)) → (
 TextSurveySays Surveyed assumed text = (lines : List ℕ) × IsTextSurveyOf assumed true text lines
 TextSurveySays PartlySurveyed assumed text = (lines : List ℕ) × IsTextSurveyOf assumed false text lines
 TextSurveySays NoAssumed assumed text = TextAnswered text (λ d. IsNoOutput d assumed)
-TextSurveySays (BadText fault) assumed text = IsOptFault text fault
-TextSurveySays TooLong assumed text = IsLongText text
+TextSurveySays (BadInput First fault) assumed text = TextFaultSays fault text
 TextSurveySays WriteFault assumed text =
     (whole : Bool) × ((lines : List ℕ) × IsTextSurveyOf assumed whole text lines)
 TextSurveySays NoMemory assumed text = ⊤
@@ -89,7 +95,12 @@ pub record TextsCompared (first second : List ℕ) (Says : Device → Device →
 abbrev pub IsTextDistinction : (first second trace : List ℕ) → Type 0
 IsTextDistinction first second trace = TextsCompared first second (λ d e. AreDifferentDevices d e trace)
 
--- what is said of two texts; a fault of the second one comes only where the first one has none
+-- what the fault of one of two texts says; one of the second text comes only where the first one has a netlist
+abbrev pub TextsFaultSays : Which → InputFault → (first second : List ℕ) → Type 0
+TextsFaultSays First fault first second = TextFaultSays fault first
+TextsFaultSays Second (BadText fault) first second = IsPairFault first second (pairs.Second fault)
+TextsFaultSays Second others first second = TextFaultSays others second
+
 abbrev pub TextComparisonSays : ProveOutcome → (first second : List ℕ) → Type 0
 TextComparisonSays Proved first second = TextsCompared first second (λ d e. AreSameDevices d e)
 TextComparisonSays Refuted first second = (trace : List ℕ) × IsTextDistinction first second trace
@@ -97,10 +108,7 @@ TextComparisonSays (Undecided depth) first second = TextsCompared first second (
 TextComparisonSays OtherGiven first second = TextsCompared first second (λ d e. d.inputs ≢ e.inputs)
 TextComparisonSays OtherOutgoing first second =
     TextsCompared first second (λ d e. (d.inputs ≡ e.inputs) × (d.outputs ≢ e.outputs))
-TextComparisonSays (BadText fault) first second = IsPairFault first second (pairs.First fault)
-TextComparisonSays (SecondBadText fault) first second = IsPairFault first second (pairs.Second fault)
-TextComparisonSays TooLong first second = IsLongText first
-TextComparisonSays SecondTooLong first second = IsLongText second
+TextComparisonSays (BadInput which fault) first second = TextsFaultSays which fault first second
 TextComparisonSays WriteFault first second = (trace : List ℕ) × IsTextDistinction first second trace
 TextComparisonSays NoMemory first second = ⊤
 TextComparisonSays others first second = ⊥

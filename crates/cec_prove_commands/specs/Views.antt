@@ -10,7 +10,8 @@ use Rattle.cec_prove_commands.specs.declared.words.Request.TheVariants as asks
 use Rattle.cec_prove_commands.specs.declared.words.Task as tasks
 use Rattle.cec_prove_commands.specs.declared.words.Task.TheVariants as doing
 use Rattle.cec_prove_commands.specs.declared.outcome.ProveOutcome.{ProveOutcome}
-use Rattle.cec_prove_commands.specs.declared.outcome.ProveOutcome.TheVariants.{SecondRefused}
+use Rattle.cec_prove_commands.specs.declared.outcome.ProveOutcome.TheVariants.{BadInput}
+use Rattle.cec_prove_commands.specs.declared.outcome.Which.TheVariants.{Second}
 use Rattle.cec_prove_commands.specs.Lines.{Subject}
 use Rattle.cec_prove_commands.specs.Words.{Command, Asks, Surveys, Covers, Compares, Job, Request, Tell, Do, Task, Ask}
 use Rattle.cec_prove_commands.specs.Words.{Survey, Cover, Compare, AskText, SurveyText, CompareTexts}
@@ -56,9 +57,9 @@ subject_is s = record {
   source = s.source.now;
 }
 
--- the source that a line about a comparison speaks of: the second one where it is refused
+-- the source that a line about a comparison speaks of: the second one where it has a fault
 abbrev pub spoken_source : ProveOutcome → (first second : List ℕ) → List ℕ
-spoken_source (SecondRefused refusal) first second = second
+spoken_source (BadInput Second fault) first second = second
 spoken_source others first second = first
 
 -- a line about a text speaks of no source

@@ -3,6 +3,7 @@
 ghost use Rattle.std.specs.Prelude.{◌≡◌};
 ghost use Rattle.cec_prove_commands.specs.Answers.{is_open};
 
+use crate::outcome::Which;
 use cec_cycles::CycleRefusal;
 use cec_opt_texts::OptFault;
 use cec_prove_covers::Covering;
@@ -19,14 +20,10 @@ pub(crate) enum Answer {
     Covered(Covering),
     /// About two sources, or two texts.
     Compared(Comparison),
-    /// The source is refused.
-    Refused(CycleRefusal),
-    /// The second source of a comparison is refused, and the first one is not.
-    SecondRefused(CycleRefusal),
-    /// The text has this fault.
-    BadText(OptFault),
-    /// The second text of a comparison has this fault, and the first one has none.
-    SecondBadText(OptFault),
+    /// This source is refused. The second one of a comparison is so only where the first one is not.
+    Refused(Which, CycleRefusal),
+    /// This text has this fault. The second one of a comparison is reported only where the first one has none.
+    BadText(Which, OptFault),
     /// Running out of memory.
     NoMemory,
 }
@@ -40,8 +37,7 @@ pub(crate) fn is_open(answer: &Answer) -> bool
         Answer::Surveyed(Survey::Partly(_)) => true,
         Answer::Covered(Covering::Partly(_)) => true,
         Answer::Compared(Comparison::Open(_)) => true,
-        Answer::Refused(CycleRefusal::Undecided(_)) => true,
-        Answer::SecondRefused(CycleRefusal::Undecided(_)) => true,
+        Answer::Refused(_, CycleRefusal::Undecided(_)) => true,
         _ => false,
     }
 }

@@ -16,7 +16,7 @@ ghost use Rattle.cec_prove_commands.specs.Views.{job_is, spoken_of, subject_is, 
 ghost use Rattle.cec_prove_commands.specs.Words.{is_comparison, is_of_texts, request_by, Do, Tell};
 
 use crate::lines::{Subject, report, report_after, report_misuse};
-use crate::outcome::{ProveOutcome, second_unread_outcome, unread_outcome, written_outcome};
+use crate::outcome::{ProveOutcome, Which, unread_outcome, written_outcome};
 use crate::search::{Searched, patient_answer};
 use crate::words::{About, Job, Request, Task, is_comparison, is_of_texts, request_by};
 use crate::writing::answer_outcome;
@@ -62,6 +62,8 @@ const VERSION: &[u8] = b"cec-prove 0.1.0\n";
 /// a hundredth, a tenth and the whole, a line says so. Nothing of an earlier try is written to `out`. Nothing more goes
 /// to `err` once it has failed.
 ///
+/// `BadInput` names the file, the source or the text that has a fault, as a `Which`, and the fault.
+///
 /// The dependencies of a source may go round in circles, if its program is constructive over every such list. Else
 /// `NotConstructive` has a trace, and the program has no reaction to its last event. `UndecidedCycle` and `TooManyNets`
 /// show a cycle, so a source without one never has them.
@@ -74,7 +76,7 @@ const VERSION: &[u8] = b"cec-prove 0.1.0\n";
 ///
 /// Of texts the same holds over every list of events with one value for each input, and resets: the circuit has a run,
 /// and all its runs show the output as claimed (`DeviceHolds`), or as the circuit of the other text shows all outputs
-/// and `_paused` (`SameRows`). `BadText` and `SecondBadText` have the first fault of a text, or that of its circuit.
+/// and `_paused` (`SameRows`). `BadText` has the first fault of a text, or that of its circuit.
 pub fn cec_prove<F: Files, O: Sink, E: Sink>(
     alloc: Global,
     words: &[String],
@@ -208,7 +210,7 @@ fn do_file<F: Files, O: Sink, E: Sink>(
     match files.read(alloc, job.name, byte_limit(job.task)) {
         Ok(text) => do_text(alloc, job, &text, files, progress, out, err),
         Err(fault) => {
-            let outcome = unread_outcome(is_of_texts(job.task), fault);
+            let outcome = unread_outcome(Which::First, is_of_texts(job.task), fault);
             report(err, subject_of(job, b""), &outcome);
             outcome
         }
@@ -268,7 +270,7 @@ fn do_second<F: Files, O: Sink, E: Sink>(
     match files.read(alloc, second_of(job.task), byte_limit(job.task)) {
         Ok(second) => told_answer(alloc, job, text, &second, progress, out, err),
         Err(fault) => {
-            let outcome = second_unread_outcome(is_of_texts(job.task), fault);
+            let outcome = unread_outcome(Which::Second, is_of_texts(job.task), fault);
             report(err, subject_of(job, b""), &outcome);
             outcome
         }
@@ -301,7 +303,7 @@ fn told_answer<O: Sink, E: Sink>(
     outcome
 }
 
-// The source that a line speaks of: the second one where it is refused, and none where the task is about texts.
+// The source that a line speaks of: the second one where it has a fault, and none where the task is about texts.
 fn spoken_of<'a>(
     of_texts: bool,
     outcome: &ProveOutcome,
@@ -317,7 +319,7 @@ fn spoken_of<'a>(
         return b"";
     }
     match outcome {
-        ProveOutcome::SecondRefused(_) => second,
+        ProveOutcome::BadInput(Which::Second, _) => second,
         _ => first,
     }
 }

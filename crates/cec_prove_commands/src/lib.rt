@@ -19,4 +19,4 @@ mod words;
 mod writing;
 
 pub use command::cec_prove;
-pub use outcome::ProveOutcome;
+pub use outcome::{InputFault, ProveOutcome, Which};

@@ -4,16 +4,15 @@ ghost use Rattle.std.specs.Prelude.{◌≡◌, ◌≤◌, ◌++◌, ℕ, List, O
 ghost use Rattle.base_types.specs.Writing.{Wrote};
 ghost use Rattle.cec_text_io.specs.ErrorLines.{GainsLine};
 ghost use Rattle.cec_refusals.specs.Views.{refused_is};
-ghost use Rattle.cec_prove_commands.specs.Lines.{line_of, misuse_line, own_line, progress_line, refused_of};
-ghost use Rattle.cec_prove_commands.specs.Lines.{second_line, stuck_text};
+ghost use Rattle.cec_prove_commands.specs.Lines.{fault_line, input_line, line_begin, line_of, misuse_line, own_line};
+ghost use Rattle.cec_prove_commands.specs.Lines.{progress_line, refused_of, stuck_text, which_of};
 ghost use Rattle.cec_prove_commands.specs.TextFaults.{fault_text};
 ghost use Rattle.cec_prove_commands.specs.Views.{misuse_is, subject_is};
 
 use crate::faults::put_fault;
-use crate::outcome::ProveOutcome;
+use crate::outcome::{InputFault, ProveOutcome, Which};
 use crate::words::Misuse;
 use base_types::{Limits, Sink, SinkFault, write_pieces};
-use cec_compile::Cycle;
 use cec_cycles::Stuck;
 use cec_opt_texts::OptFault;
 use cec_refusals::{RefusedSource, put_refusal};
@@ -136,74 +135,97 @@ fn put_line<E: Sink>(
         ProveOutcome::OtherOutgoing => put_said(err, b"the outgoing signals differ", b""),
         ProveOutcome::OtherRelations => put_said(err, b"the relations differ", b""),
         ProveOutcome::Usage => put_said(err, b"no meaning", b""),
-        ProveOutcome::FileFault => put_said(err, b"cannot read ", subject.name.as_bytes()),
-        ProveOutcome::SecondFault => put_said(err, b"cannot read ", subject.other.as_bytes()),
-        ProveOutcome::Refused(refusal) => put_refusal(
-            err,
-            refused_of(subject, subject.name),
-            refusal,
-        ),
-        ProveOutcome::SecondRefused(refusal) => put_refusal(
-            err,
-            refused_of(subject, subject.other),
-            refusal,
-        ),
-        ProveOutcome::NotConstructive(stuck) => put_stuck(err, b"cec-prove: ", stuck),
-        ProveOutcome::SecondNotConstructive(stuck) => put_second_stuck(err, subject, stuck),
-        ProveOutcome::UndecidedCycle(cycle) => put_said(err, b"undecided: ", &cycle.text),
-        ProveOutcome::SecondUndecidedCycle(cycle) => {
-            put_second_cycle(err, subject, b"undecided: ", cycle)
-        }
-        ProveOutcome::TooManyNets(cycle) => put_said(err, b"limit: nets: ", &cycle.text),
-        ProveOutcome::SecondTooManyNets(cycle) => {
-            put_second_cycle(err, subject, b"limit: nets: ", cycle)
-        }
-        ProveOutcome::BadText(fault) => put_fault(err, b"cec-prove: ", fault),
-        ProveOutcome::SecondBadText(fault) => put_second_fault(err, subject, fault),
-        ProveOutcome::TooLong => put_said(err, b"limit: text", b""),
-        ProveOutcome::SecondTooLong => put_second_limit(err, subject),
+        ProveOutcome::BadInput(which, fault) => put_input_fault(err, subject, *which, fault),
         ProveOutcome::WriteFault => put_said(err, b"cannot write", b""),
         ProveOutcome::NoMemory => put_said(err, b"out of memory", b""),
     }
 }
 
-// The line about the second text of a comparison, which has a fault.
-fn put_second_fault<E: Sink>(
+// The line about a fault of a file, or of the source or the text in it.
+fn put_input_fault<E: Sink>(
     err: &mut E,
     subject: Subject<'_>,
+    which: Which,
+    fault: &InputFault,
+) -> Result<(), SinkFault>
+    requires { length subject.source.now ≤ Limits.SOURCE_BYTES }
+    ensures { Wrote (E.told err.old) (E.told err.new) (E.faults err.old) (E.faults err.new)
+        (fault_line (subject_is subject.entry) which fault.now) result }
+{
+    match fault {
+        InputFault::Unread => put_said(err, b"cannot read ", file_name(subject, which).as_bytes()),
+        InputFault::Refused(refusal) => put_refusal(err, refused_of(subject, which), refusal),
+        InputFault::NotConstructive(stuck) => put_stuck(err, subject, which, stuck),
+        InputFault::UndecidedCycle(cycle) => {
+            put_input_line(err, subject, which, b"undecided: ", &cycle.text)
+        }
+        InputFault::TooManyNets(cycle) => {
+            put_input_line(err, subject, which, b"limit: nets: ", &cycle.text)
+        }
+        InputFault::BadText(fault) => put_bad_text(err, subject, which, fault),
+        InputFault::TooLong => put_input_line(err, subject, which, b"limit: text", b""),
+    }
+}
+
+// The line about what is in a file, in two parts.
+fn put_input_line<E: Sink>(
+    err: &mut E,
+    subject: Subject<'_>,
+    which: Which,
+    said: &[u8],
+    of: &[u8],
+) -> Result<(), SinkFault>
+    ensures { Wrote (E.told err.old) (E.told err.new) (E.faults err.old) (E.faults err.new)
+        (input_line (subject_is subject.entry) which (said.now ++ of.now)) result }
+{
+    if let Err(stop) = put_begin(err, subject, which) {
+        return Err(stop);
+    }
+    write_pieces(err, &[said, of, b"\n"])
+}
+
+// The line of a text that has a fault.
+fn put_bad_text<E: Sink>(
+    err: &mut E,
+    subject: Subject<'_>,
+    which: Which,
     fault: &OptFault,
 ) -> Result<(), SinkFault>
     ensures { Wrote (E.told err.old) (E.told err.new) (E.faults err.old) (E.faults err.new)
-        (second_line (subject_is subject.entry) (fault_text fault.now)) result }
+        (input_line (subject_is subject.entry) which (fault_text fault.now)) result }
 {
-    if let Err(stop) = put_second_name(err, subject) {
+    if let Err(stop) = put_begin(err, subject, which) {
         return Err(stop);
     }
     put_fault(err, b"", fault)
 }
 
-// The line about the second text of a comparison, which is too long.
-fn put_second_limit<E: Sink>(err: &mut E, subject: Subject<'_>) -> Result<(), SinkFault>
+// The line of a program that is not constructive.
+fn put_stuck<E: Sink>(
+    err: &mut E,
+    subject: Subject<'_>,
+    which: Which,
+    stuck: &Stuck,
+) -> Result<(), SinkFault>
     ensures { Wrote (E.told err.old) (E.told err.new) (E.faults err.old) (E.faults err.new)
-        (second_line (subject_is subject.entry) (codes "limit: text")) result }
+        (input_line (subject_is subject.entry) which (stuck_text stuck.now)) result }
 {
-    if let Err(stop) = put_second_name(err, subject) {
+    if let Err(stop) = put_begin(err, subject, which) {
         return Err(stop);
     }
-    write_pieces(err, &[b"limit: text", b"\n"])
+    put_instant(err, stuck)
 }
 
-// The line of a program that is not constructive, after its beginning.
-fn put_stuck<E: Sink>(err: &mut E, begin: &[u8], stuck: &Stuck) -> Result<(), SinkFault>
+// The instant to which a program has no reaction, and the wires that are unknown there.
+fn put_instant<E: Sink>(err: &mut E, stuck: &Stuck) -> Result<(), SinkFault>
     ensures { Wrote (E.told err.old) (E.told err.new) (E.faults err.old) (E.faults err.new)
-        (begin.now ++ (stuck_text stuck.now ++ codes "\n")) result }
+        (stuck_text stuck.now ++ codes "\n") result }
 {
     let mut shown = Buffer::new();
     let shown = shown.format(stuck.instant).as_bytes();
     write_pieces(
         err,
         &[
-            begin,
             b"instant ",
             shown,
             b": not constructive: ",
@@ -213,43 +235,15 @@ fn put_stuck<E: Sink>(err: &mut E, begin: &[u8], stuck: &Stuck) -> Result<(), Si
     )
 }
 
-// The line about the second source of a comparison, which is not constructive.
-fn put_second_stuck<E: Sink>(
-    err: &mut E,
-    subject: Subject<'_>,
-    stuck: &Stuck,
-) -> Result<(), SinkFault>
+// What a line about what is in a file begins with.
+fn put_begin<E: Sink>(err: &mut E, subject: Subject<'_>, which: Which) -> Result<(), SinkFault>
     ensures { Wrote (E.told err.old) (E.told err.new) (E.faults err.old) (E.faults err.new)
-        (second_line (subject_is subject.entry) (stuck_text stuck.now)) result }
+        (line_begin (subject_is subject.entry) which) result }
 {
-    if let Err(stop) = put_second_name(err, subject) {
-        return Err(stop);
+    match which {
+        Which::First => write_pieces(err, &[b"cec-prove: "]),
+        Which::Second => write_pieces(err, &[b"cec-prove: ", subject.other.as_bytes(), b": "]),
     }
-    put_stuck(err, b"", stuck)
-}
-
-// The line about the second source of a comparison, whose dependencies have a cycle.
-fn put_second_cycle<E: Sink>(
-    err: &mut E,
-    subject: Subject<'_>,
-    said: &[u8],
-    cycle: &Cycle,
-) -> Result<(), SinkFault>
-    ensures { Wrote (E.told err.old) (E.told err.new) (E.faults err.old) (E.faults err.new)
-        (second_line (subject_is subject.entry) (said.now ++ cycle.now.text.items)) result }
-{
-    if let Err(stop) = put_second_name(err, subject) {
-        return Err(stop);
-    }
-    write_pieces(err, &[said, &cycle.text, b"\n"])
-}
-
-// The name of the second file, with which such a line begins.
-fn put_second_name<E: Sink>(err: &mut E, subject: Subject<'_>) -> Result<(), SinkFault>
-    ensures { Wrote (E.told err.old) (E.told err.new) (E.faults err.old) (E.faults err.new)
-        (codes "cec-prove: " ++ (subject.entry.other.now ++ codes ": ")) result }
-{
-    write_pieces(err, &[b"cec-prove: ", subject.other.as_bytes(), b": "])
 }
 
 // The line of a search that ended without an answer.
@@ -265,14 +259,24 @@ fn put_depth<E: Sink>(err: &mut E, depth: usize) -> Result<(), SinkFault>
     )
 }
 
-// What the line about a refused source in the file of this name speaks of.
-fn refused_of<'a>(subject: Subject<'a>, name: &'a str) -> RefusedSource<'a>
-    ensures refused { refused_is result ≡ refused_of (subject_is subject.entry) name.now }
+// The name of a file.
+fn file_name(subject: Subject<'_>, which: Which) -> &str
+    ensures { result.now ≡ which_of which subject.entry.name.now subject.entry.other.now }
+{
+    match which {
+        Which::First => subject.name,
+        Which::Second => subject.other,
+    }
+}
+
+// What the line about a source that is refused speaks of.
+fn refused_of(subject: Subject<'_>, which: Which) -> RefusedSource<'_>
+    ensures refused { refused_is result ≡ refused_of (subject_is subject.entry) which }
     ensures source { result.source.now ≡ subject.entry.source.now }
 {
     RefusedSource {
         program: b"cec-prove: ",
-        name,
+        name: file_name(subject, which),
         main: subject.main,
         source: subject.source,
     }

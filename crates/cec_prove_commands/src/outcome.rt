@@ -1,9 +1,8 @@
 // How a command ended.
 
 ghost use Rattle.std.specs.Prelude.{◌≡◌};
-ghost use Rattle.cec_prove_commands.specs.Statuses.{written_outcome, refusal_outcome, second_refusal_outcome};
-ghost use Rattle.cec_prove_commands.specs.Statuses.{refusal_status, second_unread_outcome, status_of, unread_outcome};
-ghost use Rattle.cec_prove_commands.specs.Statuses.{long_outcome, second_long_outcome};
+ghost use Rattle.cec_prove_commands.specs.Statuses.{fault_status, long_fault, refusal_outcome, refusal_status};
+ghost use Rattle.cec_prove_commands.specs.Statuses.{status_of, unread_outcome, written_outcome};
 
 use base_types::FileFault;
 use cec_compile::{Cycle, Limit, Refusal};
@@ -42,39 +41,44 @@ pub enum ProveOutcome {
     OtherRelations,
     /// The words have no meaning.
     Usage,
-    /// The file was not read: the count of faults of the files rose, and the name that failed last is that of the file.
-    FileFault,
-    /// The same of the second file of a comparison.
-    SecondFault,
-    /// The source does not compile, for another cause than a cycle.
-    Refused(Refusal),
-    /// The second source of a comparison does not compile, for another cause than a cycle.
-    SecondRefused(Refusal),
-    /// The source's program is not constructive: the trace was written, and the program has no reaction to its last
-    /// event.
-    NotConstructive(Stuck),
-    /// The same of the second source of a comparison, the first one of which is constructive.
-    SecondNotConstructive(Stuck),
-    /// The dependencies have this cycle, and it was not shown whether the program is constructive.
-    UndecidedCycle(Cycle),
-    /// The same of the second source of a comparison, the first one of which is constructive.
-    SecondUndecidedCycle(Cycle),
-    /// The dependencies have this cycle, and the netlist that shows it would be too large.
-    TooManyNets(Cycle),
-    /// The same of the second source of a comparison, the first one of which is constructive.
-    SecondTooManyNets(Cycle),
-    /// The first fault of the text, or that of its circuit.
-    BadText(OptFault),
-    /// The same of the second text of a comparison, the first one of which has none.
-    SecondBadText(OptFault),
-    /// The text has more bytes than `Limits::TEXT_BYTES`.
-    TooLong,
-    /// The same of the second text of a comparison.
-    SecondTooLong,
+    /// This file, or the source or the text in it, has this fault.
+    BadInput(Which, InputFault),
     /// The output was not taken: its count of faults rose.
     WriteFault,
     /// Running out of memory.
     NoMemory,
+}
+
+/// The place of a file among the files of a command.
+#[derive(Clone, Copy)]
+pub enum Which {
+    /// The only file, or the first one of a comparison.
+    First,
+    /// The second file of a comparison.
+    Second,
+}
+
+/// What is wrong with a file, or with the source or the text in it.
+#[derive(Drop)]
+pub enum InputFault {
+    /// The file was not read: the count of faults of the files rose, and the name that failed last is that of the file.
+    Unread,
+    /// The source does not compile, for another cause than a cycle.
+    Refused(Refusal),
+    /// The source's program is not constructive: the trace was written, and the program has no reaction to its last
+    /// event. If the source is the second one of a comparison, the first one is constructive.
+    NotConstructive(Stuck),
+    /// The dependencies have this cycle, and it was not shown whether the program is constructive. If the source is the
+    /// second one of a comparison, the first one is constructive.
+    UndecidedCycle(Cycle),
+    /// The dependencies have this cycle, and the netlist that shows it would be too large. If the source is the second
+    /// one of a comparison, the first one is constructive.
+    TooManyNets(Cycle),
+    /// The first fault of the text, or that of its circuit. If the text is the second one of a comparison, the first
+    /// one has no fault.
+    BadText(OptFault),
+    /// The text has more bytes than `Limits::TEXT_BYTES`.
+    TooLong,
 }
 
 /// The outcome of a writing that ended so, where it is this one when all is written.
@@ -89,66 +93,34 @@ pub(crate) fn written_outcome(done: ProveOutcome, written: Written) -> ProveOutc
 }
 
 /// The outcome of a source that has no answer.
-pub(crate) fn refusal_outcome(refusal: Refusal) -> ProveOutcome
-    ensures { result ≡ refusal_outcome refusal }
+pub(crate) fn refusal_outcome(which: Which, refusal: Refusal) -> ProveOutcome
+    ensures { result ≡ refusal_outcome which refusal }
 {
     match refusal {
         Refusal::NoMemory => ProveOutcome::NoMemory,
-        others => ProveOutcome::Refused(others),
-    }
-}
-
-/// The same of the second source of a comparison.
-pub(crate) fn second_refusal_outcome(refusal: Refusal) -> ProveOutcome
-    ensures { result ≡ second_refusal_outcome refusal }
-{
-    match refusal {
-        Refusal::NoMemory => ProveOutcome::NoMemory,
-        others => ProveOutcome::SecondRefused(others),
+        others => ProveOutcome::BadInput(which, InputFault::Refused(others)),
     }
 }
 
 /// The outcome of a file that was not read, with a text or a source.
-pub(crate) fn unread_outcome(of_texts: bool, fault: FileFault) -> ProveOutcome
-    ensures { result ≡ unread_outcome of_texts fault }
+pub(crate) fn unread_outcome(which: Which, of_texts: bool, fault: FileFault) -> ProveOutcome
+    ensures { result ≡ unread_outcome which of_texts fault }
 {
     match fault {
-        FileFault::Failed => ProveOutcome::FileFault,
-        FileFault::TooLong => long_outcome(of_texts),
+        FileFault::Failed => ProveOutcome::BadInput(which, InputFault::Unread),
+        FileFault::TooLong => ProveOutcome::BadInput(which, long_fault(of_texts)),
         FileFault::NoMemory => ProveOutcome::NoMemory,
     }
 }
 
-// The outcome of a text, or a source, that is too long.
-fn long_outcome(of_texts: bool) -> ProveOutcome
-    ensures { result ≡ long_outcome of_texts }
+// The fault of a text, or a source, that is too long.
+fn long_fault(of_texts: bool) -> InputFault
+    ensures { result ≡ long_fault of_texts }
 {
     if of_texts {
-        ProveOutcome::TooLong
+        InputFault::TooLong
     } else {
-        ProveOutcome::Refused(Refusal::Limit(Limit::Source))
-    }
-}
-
-/// The same of the second file of a comparison.
-pub(crate) fn second_unread_outcome(of_texts: bool, fault: FileFault) -> ProveOutcome
-    ensures { result ≡ second_unread_outcome of_texts fault }
-{
-    match fault {
-        FileFault::Failed => ProveOutcome::SecondFault,
-        FileFault::TooLong => second_long_outcome(of_texts),
-        FileFault::NoMemory => ProveOutcome::NoMemory,
-    }
-}
-
-// The outcome of a second text, or source, that is too long.
-fn second_long_outcome(of_texts: bool) -> ProveOutcome
-    ensures { result ≡ second_long_outcome of_texts }
-{
-    if of_texts {
-        ProveOutcome::SecondTooLong
-    } else {
-        ProveOutcome::SecondRefused(Refusal::Limit(Limit::Source))
+        InputFault::Refused(Refusal::Limit(Limit::Source))
     }
 }
 
@@ -161,23 +133,30 @@ impl ProveOutcome {
             ProveOutcome::Told | ProveOutcome::Proved => 0,
             ProveOutcome::Surveyed | ProveOutcome::Covered => 0,
             ProveOutcome::Usage => 2,
-            ProveOutcome::FileFault | ProveOutcome::SecondFault => 3,
-            ProveOutcome::Refused(refusal) => refusal_status(refusal),
-            ProveOutcome::SecondRefused(refusal) => refusal_status(refusal),
-            ProveOutcome::BadText(_) | ProveOutcome::SecondBadText(_) => 7,
-            ProveOutcome::TooLong | ProveOutcome::SecondTooLong => 8,
-            ProveOutcome::TooManyNets(_) | ProveOutcome::SecondTooManyNets(_) => 8,
+            ProveOutcome::BadInput(_, fault) => fault_status(fault),
             ProveOutcome::WriteFault => 9,
             ProveOutcome::NoMemory => 10,
-            ProveOutcome::NotConstructive(_) | ProveOutcome::SecondNotConstructive(_) => 12,
             ProveOutcome::Refuted => 20,
             ProveOutcome::PartlySurveyed | ProveOutcome::PartlyCovered => 21,
             ProveOutcome::Undecided(_) => 21,
-            ProveOutcome::UndecidedCycle(_) | ProveOutcome::SecondUndecidedCycle(_) => 21,
             ProveOutcome::NoSignal | ProveOutcome::NoAssumed => 22,
             ProveOutcome::OtherGiven | ProveOutcome::OtherOutgoing | ProveOutcome::OtherRelations =>
                 23,
         }
+    }
+}
+
+// The status after a fault.
+fn fault_status(fault: &InputFault) -> u8
+    ensures { result ≡ fault_status fault.now }
+{
+    match fault {
+        InputFault::Unread => 3,
+        InputFault::Refused(refusal) => refusal_status(refusal),
+        InputFault::BadText(_) => 7,
+        InputFault::TooLong | InputFault::TooManyNets(_) => 8,
+        InputFault::NotConstructive(_) => 12,
+        InputFault::UndecidedCycle(_) => 21,
     }
 }
 

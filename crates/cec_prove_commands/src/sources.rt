@@ -11,6 +11,7 @@ ghost use Rattle.cec_prove_commands.specs.Views.{job_is, task_is};
 ghost use Rattle.cec_prove_commands.specs.Words.{Ask, Compare, Cover, Survey as OfSignals, is_of_texts};
 
 use crate::answers::Answer;
+use crate::outcome::Which;
 use crate::texts::{text_claim_answer, text_comparison_answer, text_survey_answer};
 use crate::words::{Job, Task};
 use base_types::Limits;
@@ -60,7 +61,7 @@ fn claim_answer(
 {
     match verdict(alloc, job, claim, signal, text, effort) {
         Ok(verdict) => Answer::Asked(verdict),
-        Err(refusal) => Answer::Refused(refusal),
+        Err(refusal) => Answer::Refused(Which::First, refusal),
     }
 }
 
@@ -92,7 +93,7 @@ fn survey_answer(alloc: Global, job: Job<'_>, text: &[u8], effort: u64) -> Answe
 {
     match survey(alloc, job, text, effort) {
         Ok(survey) => Answer::Surveyed(survey),
-        Err(refusal) => Answer::Refused(refusal),
+        Err(refusal) => Answer::Refused(Which::First, refusal),
     }
 }
 
@@ -111,7 +112,7 @@ fn covering_answer(alloc: Global, job: Job<'_>, text: &[u8], effort: u64) -> Ans
 {
     match covering(alloc, job, text, effort) {
         Ok(covering) => Answer::Covered(covering),
-        Err(refusal) => Answer::Refused(refusal),
+        Err(refusal) => Answer::Refused(Which::First, refusal),
     }
 }
 
@@ -137,8 +138,8 @@ fn comparison_answer(
 {
     match comparison(alloc, job, first, second, effort) {
         Ok(comparison) => Answer::Compared(comparison),
-        Err(CyclePairRefusal::First(refusal)) => Answer::Refused(refusal),
-        Err(CyclePairRefusal::Second(refusal)) => Answer::SecondRefused(refusal),
+        Err(CyclePairRefusal::First(refusal)) => Answer::Refused(Which::First, refusal),
+        Err(CyclePairRefusal::Second(refusal)) => Answer::Refused(Which::Second, refusal),
     }
 }
 

@@ -13,6 +13,7 @@ ghost use Rattle.cec_prove_commands.specs.Views.{job_is};
 ghost use Rattle.cec_prove_commands.specs.Words.{AskText, CompareTexts, SurveyText};
 
 use crate::answers::Answer;
+use crate::outcome::Which;
 use crate::words::Job;
 use base_types::{Limits, Stop};
 use cec_opt_texts::OptFault;
@@ -34,7 +35,7 @@ pub(crate) fn text_claim_answer(
 {
     match verdict(alloc, job, claim, signal, text, effort) {
         Ok(verdict) => Answer::Asked(verdict),
-        Err(Stop::Fault(fault)) => Answer::BadText(fault),
+        Err(Stop::Fault(fault)) => Answer::BadText(Which::First, fault),
         Err(Stop::NoMemory) => Answer::NoMemory,
     }
 }
@@ -66,7 +67,7 @@ pub(crate) fn text_survey_answer(alloc: Global, job: Job<'_>, text: &[u8], effor
 {
     match survey(alloc, job, text, effort) {
         Ok(survey) => Answer::Surveyed(survey),
-        Err(Stop::Fault(fault)) => Answer::BadText(fault),
+        Err(Stop::Fault(fault)) => Answer::BadText(Which::First, fault),
         Err(Stop::NoMemory) => Answer::NoMemory,
     }
 }
@@ -93,8 +94,8 @@ pub(crate) fn text_comparison_answer(
 {
     match text_comparison_of(alloc, first, second, effort) {
         Ok(comparison) => Answer::Compared(comparison),
-        Err(Stop::Fault(PairFault::First(fault))) => Answer::BadText(fault),
-        Err(Stop::Fault(PairFault::Second(fault))) => Answer::SecondBadText(fault),
+        Err(Stop::Fault(PairFault::First(fault))) => Answer::BadText(Which::First, fault),
+        Err(Stop::Fault(PairFault::Second(fault))) => Answer::BadText(Which::Second, fault),
         Err(Stop::NoMemory) => Answer::NoMemory,
     }
 }

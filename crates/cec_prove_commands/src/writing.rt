@@ -19,8 +19,8 @@ ghost use Rattle.cec_prove_commands.specs.TextOutcomes.{TextClaimSays, TextCompa
 ghost use Rattle.cec_prove_commands.specs.Words.{Job, Task};
 
 use crate::answers::Answer;
-use crate::outcome::{ProveOutcome, written_outcome};
-use crate::stopping::{refused, second_refused};
+use crate::outcome::{InputFault, ProveOutcome, written_outcome};
+use crate::stopping::refused;
 use base_types::Sink;
 use cec_prove_covers::Covering;
 use cec_prove_sources::{Comparison, Survey, Verdict};
@@ -39,10 +39,10 @@ pub(crate) fn answer_outcome<O: Sink>(answer: Answer, out: &mut O) -> ProveOutco
         Answer::Surveyed(survey) => survey_outcome(survey, out),
         Answer::Covered(covering) => covering_outcome(covering, out),
         Answer::Compared(comparison) => comparison_outcome(comparison, out),
-        Answer::Refused(refusal) => refused(refusal, out),
-        Answer::SecondRefused(refusal) => second_refused(refusal, out),
-        Answer::BadText(fault) => ProveOutcome::BadText(fault),
-        Answer::SecondBadText(fault) => ProveOutcome::SecondBadText(fault),
+        Answer::Refused(which, refusal) => refused(which, refusal, out),
+        Answer::BadText(which, fault) => {
+            ProveOutcome::BadInput(which, InputFault::BadText(fault))
+        }
         Answer::NoMemory => ProveOutcome::NoMemory,
     }
 }

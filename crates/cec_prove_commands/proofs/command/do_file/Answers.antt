@@ -9,6 +9,7 @@ use Rattle.cec_prove_commands.specs.Outcomes.{GainsOut, IsOutcomeOf, IsTextOf}
 use Rattle.cec_prove_commands.specs.Statuses.{unread_outcome}
 use Rattle.cec_prove_commands.specs.Views.{job_is}
 use Rattle.cec_prove_commands.specs.Words.{Do}
+use Rattle.cec_prove_commands.specs.declared.outcome.Which.TheVariants.{First}
 use Rattle.cec_prove_commands.proofs.Outcomes.{counts-later, held_short, unread_agrees, unread_counts, unread_err, unread_out}
 use Rattle.cec_prove_commands.proofs.command.do_file.Goals as goal
 
@@ -53,19 +54,19 @@ returns-in-Err-clause-agrees g c =
 
 pub returns-in-Err-clause-files_counted : goal.returns-in-Err-clause-files_counted
 returns-in-Err-clause-files_counted g c =
-    rw c.unread_outcome-outcome.ensures (unread_counts c.is_of_texts.result (job_is c.args.job) c.in-Err.fault _ _ _ _ c.in-Err.ensures.counts)
+    rw c.unread_outcome-outcome.ensures (unread_counts First c.is_of_texts.result (job_is c.args.job) c.in-Err.fault _ _ _ _ c.in-Err.ensures.counts)
 
 pub returns-in-Err-clause-out : goal.returns-in-Err-clause-out
 returns-in-Err-clause-out g c =
     let job = job_is c.args.job in
     rw c.unread_outcome-outcome.ensures
-    (unread_out c.is_of_texts.result
-    (IsTextOf job.task job (g.F.Files.content c.args.files.now) (unread_outcome c.is_of_texts.result c.in-Err.fault))
+    (unread_out First c.is_of_texts.result
+    (IsTextOf job.task job (g.F.Files.content c.args.files.now) (unread_outcome First c.is_of_texts.result c.in-Err.fault))
     c.in-Err.fault
     (change g.O.Sink.told g.O.Sink.faults c.args.out.now c.args.out.now)
     (appends-nothing (g.O.Sink.told c.args.out.now) (g.O.Sink.faults c.args.out.now)))
 
 pub returns-in-Err-clause-err : goal.returns-in-Err-clause-err
 returns-in-Err-clause-err g c =
-    unread_err c.args.progress c.is_of_texts.result (g.F.Files.content c.args.files.now) (job_is c.args.job) c.in-Err.fault _ _ _ _ _ _ _
+    unread_err First c.args.progress c.is_of_texts.result (g.F.Files.content c.args.files.now) (job_is c.args.job) c.in-Err.fault _ _ _ _ _ _ _
     c.unread_outcome-outcome.ensures c.subject_of.ensures.subject c.report.ensures

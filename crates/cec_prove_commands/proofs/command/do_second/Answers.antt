@@ -4,9 +4,10 @@ use Rattle.base_types.specs.SinkChanges.{change}
 use Rattle.base_types.specs.Reading.{Reads}
 use Rattle.cec_text_io.proofs.Exports.{held_read}
 use Rattle.cec_prove_commands.specs.Outcomes.{IsTextOf}
-use Rattle.cec_prove_commands.specs.Statuses.{second_unread_outcome}
+use Rattle.cec_prove_commands.specs.Statuses.{unread_outcome}
 use Rattle.cec_prove_commands.specs.Views.{job_is}
-use Rattle.cec_prove_commands.proofs.Outcomes.{both_held, read_counts, second_agrees, second_counts, second_err, second_unread_out, texts_agree}
+use Rattle.cec_prove_commands.specs.declared.outcome.Which.TheVariants.{Second}
+use Rattle.cec_prove_commands.proofs.Outcomes.{both_held, read_counts, second_agrees, second_counts, texts_agree, unread_err, unread_out}
 use Rattle.cec_prove_commands.proofs.Outcomes.{held_short, texts_err, texts_out, texts_read}
 use Rattle.cec_prove_commands.proofs.command.do_second.Goals as goal
 
@@ -59,25 +60,25 @@ pub returns-in-Err-clause-agrees : goal.returns-in-Err-clause-agrees
 returns-in-Err-clause-agrees g c =
     let job = job_is c.args.job in
     let content = g.F.Files.content c.args.files.now in
-    rw (c.second_unread_outcome-outcome.ensures, c.is_of_texts.ensures)
+    rw (c.unread_outcome-outcome.ensures, c.is_of_texts.ensures)
     (second_agrees content job.task job _ c.in-Err.fault c.requires.compares c.second_of.ensures
     (subst (λ n. Reads content c.second_of.result.now n (Err c.in-Err.fault)) c.byte_limit.ensures c.in-Err.ensures.bytes))
 
 pub returns-in-Err-clause-files_counted : goal.returns-in-Err-clause-files_counted
 returns-in-Err-clause-files_counted g c =
-    rw c.second_unread_outcome-outcome.ensures
+    rw c.unread_outcome-outcome.ensures
     (second_counts c.is_of_texts.result (job_is c.args.job) _ c.in-Err.fault _ _ _ _ c.second_of.ensures c.in-Err.ensures.counts)
 
 pub returns-in-Err-clause-out : goal.returns-in-Err-clause-out
 returns-in-Err-clause-out g c =
     let job = job_is c.args.job in
-    rw c.second_unread_outcome-outcome.ensures
-    (second_unread_out c.is_of_texts.result
-    (IsTextOf job.task job (g.F.Files.content c.args.files.now) (second_unread_outcome c.is_of_texts.result c.in-Err.fault)) c.in-Err.fault
+    rw c.unread_outcome-outcome.ensures
+    (unread_out Second c.is_of_texts.result
+    (IsTextOf job.task job (g.F.Files.content c.args.files.now) (unread_outcome Second c.is_of_texts.result c.in-Err.fault)) c.in-Err.fault
     (change g.O.Sink.told g.O.Sink.faults c.args.out.now c.args.out.now)
     (appends-nothing (g.O.Sink.told c.args.out.now) (g.O.Sink.faults c.args.out.now)))
 
 pub returns-in-Err-clause-err : goal.returns-in-Err-clause-err
 returns-in-Err-clause-err g c =
-    second_err c.args.progress c.is_of_texts.result (g.F.Files.content c.args.files.now) (job_is c.args.job) c.in-Err.fault _ _ _ _ _ _ _
-    c.second_unread_outcome-outcome.ensures c.subject_of.ensures.subject c.report.ensures
+    unread_err Second c.args.progress c.is_of_texts.result (g.F.Files.content c.args.files.now) (job_is c.args.job) c.in-Err.fault _ _ _ _ _ _ _
+    c.unread_outcome-outcome.ensures c.subject_of.ensures.subject c.report.ensures

@@ -1,11 +1,13 @@
-use Rattle.std.proofs.Common.{append_assoc, codes, ◌++◌}
+use Rattle.std.proofs.Common.{◌++◌, codes}
+use Rattle.base_types.proofs.Exports.{wrote-behind, stops-early}
+use Rattle.cec_prove_commands.specs.Lines.{line_begin, stuck_text}
+use Rattle.cec_prove_commands.specs.Views.{subject_is}
 use Rattle.cec_prove_commands.proofs.lines.put_stuck.Goals as goal
+
+pub returns-in-Err : goal.returns-in-Err
+returns-in-Err g c = stops-early _ _ _ _ (line_begin (subject_is c.args.subject) c.args.which) (stuck_text c.args.stuck.now ++ codes "\n") c.in-Err.ensures
 
 pub returns : goal.returns
 returns g c =
-    rw (
-      ← c.format.ensures.text,
-      ← c.as_bytes-shown.ensures.value,
-      ← c.deref.ensures.value,
-      append_assoc c.as_bytes-shown.result.now (codes ": not constructive: " ++ c.deref.result.now) (codes "\n"),
-    ) c.write_pieces.ensures
+    wrote-behind _ _ _ _ _ _ (line_begin (subject_is c.args.subject) c.args.which) (stuck_text c.args.stuck.now ++ codes "\n") c.put_instant.result
+    c.in_default.ensures c.put_instant.ensures

@@ -4,8 +4,8 @@ use Rattle.base_types.proofs.Exports.{appends-nothing}
 use Rattle.cec_prove_commands.specs.Answers.{IsAnswer}
 use Rattle.cec_prove_commands.specs.declared.answers.Answer.{Answer}
 use Rattle.cec_prove_commands.proofs.Answering.{asked_out, asked_says, bad_text_says, compared_out, compared_says, covered_out, covered_says}
-use Rattle.cec_prove_commands.proofs.Answering.{no_memory_says, second_bad_text_says, surveyed_out, surveyed_says}
-use Rattle.cec_prove_commands.proofs.Refused.{refused_out, refused_says, second_refused_out, second_refused_says}
+use Rattle.cec_prove_commands.proofs.Answering.{no_memory_says, surveyed_out, surveyed_says}
+use Rattle.cec_prove_commands.proofs.Refused.{refused_out, refused_says}
 use Rattle.cec_prove_commands.proofs.writing.answer_outcome.Goals as goal
 
 pub returns-in-Asked-clause-says : goal.returns-in-Asked-clause-says
@@ -57,37 +57,21 @@ returns-in-Compared-clause-out g c = λ task job first second h.
 
 pub returns-in-Refused-clause-says : goal.returns-in-Refused-clause-says
 returns-in-Refused-clause-says g c = λ task job first second h.
-    refused_says c.in-Refused.refusal (change g.O.Sink.told g.O.Sink.faults c.args.out.now c.refused.new.out) c.refused.result task job first second
-    c.refused.ensures (subst (λ (a : Answer). IsAnswer a task job first second) c.in-Refused.is h)
+    refused_says c.in-Refused.which c.in-Refused.refusal (change g.O.Sink.told g.O.Sink.faults c.args.out.now c.refused.new.out) c.refused.result task
+    job first second c.refused.ensures (subst (λ (a : Answer). IsAnswer a task job first second) c.in-Refused.is h)
 
 pub returns-in-Refused-clause-out : goal.returns-in-Refused-clause-out
 returns-in-Refused-clause-out g c = λ task job first second h.
-    refused_out c.in-Refused.refusal (change g.O.Sink.told g.O.Sink.faults c.args.out.now c.refused.new.out) c.refused.result task job first second
-    c.refused.ensures (subst (λ (a : Answer). IsAnswer a task job first second) c.in-Refused.is h)
-
-pub returns-in-SecondRefused-clause-says : goal.returns-in-SecondRefused-clause-says
-returns-in-SecondRefused-clause-says g c = λ task job first second h.
-    second_refused_says c.in-SecondRefused.refusal (change g.O.Sink.told g.O.Sink.faults c.args.out.now c.second_refused.new.out) c.second_refused.result
-    task job first second c.second_refused.ensures (subst (λ (a : Answer). IsAnswer a task job first second) c.in-SecondRefused.is h)
-
-pub returns-in-SecondRefused-clause-out : goal.returns-in-SecondRefused-clause-out
-returns-in-SecondRefused-clause-out g c = λ task job first second h.
-    second_refused_out c.in-SecondRefused.refusal (change g.O.Sink.told g.O.Sink.faults c.args.out.now c.second_refused.new.out) c.second_refused.result
-    task job first second c.second_refused.ensures (subst (λ (a : Answer). IsAnswer a task job first second) c.in-SecondRefused.is h)
+    refused_out c.in-Refused.which c.in-Refused.refusal (change g.O.Sink.told g.O.Sink.faults c.args.out.now c.refused.new.out) c.refused.result task
+    job first second c.refused.ensures (subst (λ (a : Answer). IsAnswer a task job first second) c.in-Refused.is h)
 
 pub returns-in-BadText-clause-says : goal.returns-in-BadText-clause-says
 returns-in-BadText-clause-says g c = λ task job first second h.
-    bad_text_says c.in-BadText.fault task job first second (subst (λ (a : Answer). IsAnswer a task job first second) c.in-BadText.is h)
+    bad_text_says c.in-BadText.which c.in-BadText.fault task job first second
+    (subst (λ (a : Answer). IsAnswer a task job first second) c.in-BadText.is h)
 
 pub returns-in-BadText-clause-out : goal.returns-in-BadText-clause-out
 returns-in-BadText-clause-out g c = λ task job first second h. appends-nothing _ _
-
-pub returns-in-SecondBadText-clause-says : goal.returns-in-SecondBadText-clause-says
-returns-in-SecondBadText-clause-says g c = λ task job first second h.
-    second_bad_text_says c.in-SecondBadText.fault task job first second (subst (λ (a : Answer). IsAnswer a task job first second) c.in-SecondBadText.is h)
-
-pub returns-in-SecondBadText-clause-out : goal.returns-in-SecondBadText-clause-out
-returns-in-SecondBadText-clause-out g c = λ task job first second h. appends-nothing _ _
 
 pub returns-in-NoMemory-clause-says : goal.returns-in-NoMemory-clause-says
 returns-in-NoMemory-clause-says g c = λ task job first second h. no_memory_says task job first second
