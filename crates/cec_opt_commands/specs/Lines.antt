@@ -1,5 +1,5 @@
 -- To believe: the line that is written about an outcome.
-use Rattle.std.specs.Prelude.{⊤, ℕ, Bool, true, false, IsTrue, List, [], ◌++◌, Option, Some, None, codes, decimal}
+use Rattle.std.specs.Prelude.{⊤, ℕ, Bool, true, false, IsTrue, List, [], ◌++◌, Option, codes, decimal}
 use Rattle.std.specs.Prelude.{unwrap_or, Result, Ok, Err}
 use Rattle.base_types.specs.SinkChanges.{SinkChange}
 use Rattle.blif_net.specs.declared.fault.CircuitFault.{CircuitFault}

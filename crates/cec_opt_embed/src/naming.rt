@@ -7,7 +7,7 @@ ghost use Rattle.csub_embed.specs.Faults.{signals, under_name, IsEmbeddable, IsE
 ghost use Rattle.cec_opt_faults.specs.Causes.{IsUnmade};
 
 use base_types::Stop;
-use cec_opt_faults::{Unmade, no_text};
+use cec_opt_faults::Unmade;
 use csub_embed::{EmbedFault, embedded_net};
 use net_ir::Net;
 use std::alloc::Global;
@@ -24,6 +24,7 @@ pub(crate) fn named_net<C>(
 {
     match embedded_net(alloc, net, name) {
         Ok(named) => Ok(named),
-        Err(stop) => Err(no_text(stop)),
+        Err(Stop::Fault(fault)) => Err(Stop::Fault(Unmade::NoText(fault))),
+        Err(Stop::NoMemory) => Err(Stop::NoMemory),
     }
 }

@@ -10,7 +10,7 @@ ghost use Rattle.cec_opt_embed.specs.Texts.{EmbedKeeps, IsSmallComponent};
 
 use crate::naming::named_net;
 use base_types::{Limits, Stop};
-use cec_opt_faults::{Unmade, no_net};
+use cec_opt_faults::Unmade;
 use cec_opt_texts::{GivenRelation, OptFault, optimized_net};
 use csub_embed::{EmbedFault, EmbedLayout, write_embedded};
 use net_ir::Net;
@@ -60,6 +60,7 @@ pub fn embedded_text_net(
 {
     match optimized_net(alloc, text, given) {
         Ok(net) => named_net(alloc, net, name),
-        Err(stop) => Err(no_net(stop)),
+        Err(Stop::Fault(fault)) => Err(Stop::Fault(Unmade::NoNet(fault))),
+        Err(Stop::NoMemory) => Err(Stop::NoMemory),
     }
 }

@@ -8,19 +8,9 @@ use Rattle.cec_cycles.specs.Constructive.{IsRefusedConstructive}
 use Rattle.cec_cycles.specs.declared.findings.CycleRefusal.{CycleRefusal}
 use Rattle.cec_cycles.specs.declared.findings.CycleRefusal.TheVariants as causes
 use Rattle.cec_opt_faults.specs.Causes.{IsSourceCause, IsUnmade}
-use Rattle.cec_opt_faults.specs.Stops.{no_net, no_source_net, no_text}
+use Rattle.cec_opt_faults.specs.Stops.{no_source_net}
 use Rattle.cec_opt_faults.specs.declared.unmade.Unmade.{Unmade}
 use Rattle.cec_opt_faults.specs.declared.unmade.Unmade.TheVariants.{NoNet, NoText}
-
-pub unmade-net : {C F : Type 0} (IsCause : C → Type 0) (IsFault : F → Type 0) (stop : Stop C) → FaultIs IsCause stop
-    → FaultIs (IsUnmade IsCause IsFault) (no_net stop)
-unmade-net IsCause IsFault (stops.Fault cause) is = is
-unmade-net IsCause IsFault stops.NoMemory is = tt
-
-pub unmade-text : {C F : Type 0} (IsCause : C → Type 0) (IsFault : F → Type 0) (stop : Stop F) → FaultIs IsFault stop
-    → FaultIs (IsUnmade IsCause IsFault) (no_text stop)
-unmade-text IsCause IsFault (stops.Fault fault) is = is
-unmade-text IsCause IsFault stops.NoMemory is = tt
 
 pub unmade-source : {F : Type 0} (IsFault : F → Type 0) (source : List ℕ) (main : Option (List ℕ)) (refusal : CycleRefusal)
     → IsRefusedConstructive source main refusal → FaultIs (IsUnmade (IsSourceCause source main) IsFault) (no_source_net refusal)

@@ -1,2 +1,2 @@
 -- What other crates use of these proofs.
-pub use Rattle.cec_opt_faults.proofs.CauseLaws.{unmade-as, unmade-net, unmade-source, unmade-text}
+pub use Rattle.cec_opt_faults.proofs.CauseLaws.{unmade-as, unmade-source}

@@ -7,5 +7,5 @@
 mod stops;
 mod unmade;
 
-pub use stops::{no_net, no_source_net, no_text};
+pub use stops::no_source_net;
 pub use unmade::Unmade;

@@ -9,7 +9,7 @@ ghost use Rattle.vlog_reset.specs.Written.{written, Means};
 ghost use Rattle.cec_opt_faults.specs.Causes.{IsUnmade};
 
 use base_types::Stop;
-use cec_opt_faults::{Unmade, no_text};
+use cec_opt_faults::Unmade;
 use net_ir::Net;
 use std::alloc::Global;
 use vlog_reset::{ResetFault, ResetOptions, reset_text};
@@ -27,6 +27,7 @@ pub(crate) fn net_text<C>(
 {
     match reset_text(alloc, net, options) {
         Ok(text) => Ok(text),
-        Err(stop) => Err(no_text(stop)),
+        Err(Stop::Fault(fault)) => Err(Stop::Fault(Unmade::NoText(fault))),
+        Err(Stop::NoMemory) => Err(Stop::NoMemory),
     }
 }

@@ -9,7 +9,7 @@ ghost use Rattle.cec_opt_reset.specs.Texts.{ResetKeeps};
 
 use crate::net_texts::net_text;
 use base_types::{Limits, Stop};
-use cec_opt_faults::{Unmade, no_net};
+use cec_opt_faults::Unmade;
 use cec_opt_texts::{GivenRelation, OptFault, optimized_net};
 use std::alloc::Global;
 use vlog_reset::{ResetFault, ResetOptions};
@@ -38,6 +38,7 @@ pub fn optimized_reset(
 {
     match optimized_net(alloc, text, given) {
         Ok(net) => net_text(alloc, &net, options),
-        Err(stop) => Err(no_net(stop)),
+        Err(Stop::Fault(fault)) => Err(Stop::Fault(Unmade::NoNet(fault))),
+        Err(Stop::NoMemory) => Err(Stop::NoMemory),
     }
 }

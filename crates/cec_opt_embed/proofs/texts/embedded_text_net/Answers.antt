@@ -1,9 +1,6 @@
 use Rattle.std.proofs.Common.{map}
 use Rattle.net_ir.specs.Runs.{netlist_of}
-use Rattle.cec_opt_faults.proofs.Exports.{unmade-net}
-use Rattle.cec_opt_texts.specs.Faults.{IsGivenFault}
 use Rattle.cec_opt_texts.specs.Related.{named_relation}
-use Rattle.cec_opt_embed.specs.Faults.{IsTextNameFault}
 use Rattle.cec_opt_embed.proofs.CircuitTexts.{text-fault, text-net}
 use Rattle.cec_opt_embed.proofs.texts.embedded_text_net.Goals as goal
 
@@ -16,9 +13,3 @@ pub returns-in-Ok-clause-fault : goal.returns-in-Ok-clause-fault
 returns-in-Ok-clause-fault c =
     text-fault c.args.text.now (map named_relation c.args.given.now) c.args.name.now (netlist_of c.in-Ok.net) c.named_net.result c.in-Ok.ensures.small
     c.named_net.ensures.fault
-
-pub returns-in-Err-clause-fault : goal.returns-in-Err-clause-fault
-returns-in-Err-clause-fault c =
-    let given = map named_relation c.args.given.now in
-    rw c.no_net.ensures
-    (unmade-net (IsGivenFault c.args.text.now given) (IsTextNameFault c.args.text.now given c.args.name.now) c.in-Err.stop c.in-Err.ensures.fault)
