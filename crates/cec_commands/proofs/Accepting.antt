@@ -25,8 +25,8 @@ use Rattle.run_trace_io.specs.Answers.{IsFault, IsTrace, beginning}
 use Rattle.run_trace_io.specs.Traces.{Reading, TraceGroup, next_group}
 use Rattle.run_trace_io.specs.Traces as groups
 use Rattle.run_over_traces.proofs.Exports.{front-of, front-whole}
-use Rattle.blif_run.specs.declared.language.BlifTextFault as circuits
-use Rattle.blif_run.specs.declared.language.BlifTextFault.TheVariants.{Line, TwoDrivers, NoDriver, Loop}
+use Rattle.blif_read.specs.declared.fault.BlifFault.{BlifFault}
+use Rattle.blif_read.specs.declared.fault.BlifFault.TheVariants.{Line, TwoDrivers, NoDriver, Loop}
 use Rattle.blif_run.specs.Texts.{ReadsCircuit, IsTextFault as IsCircuitFault}
 use Rattle.csub_run.specs.declared.language.CTextFault as programs
 use Rattle.csub_run.specs.declared.language.CTextFault.TheVariants.{Syntax, Twice, Undeclared, Unset}
@@ -379,7 +379,7 @@ react_end job held trace (NotConstructive wires) s w on unread written g =
 read_no_fault : (bytes : List ℕ) (fault : VlogFault) → IsTextIn module_texts.ReadsModule bytes → ReadsFault bytes fault → LacksRoom bytes fault
 read_no_fault bytes fault t h = (modules_read.described-are-read bytes t.program t.read.is_read.describes).refusals fault h
 
-circuit_no_fault : (bytes : List ℕ) (fault : circuits.BlifTextFault) → IsTextIn ReadsCircuit bytes → IsCircuitFault bytes fault → ⊥
+circuit_no_fault : (bytes : List ℕ) (fault : BlifFault) → IsTextIn ReadsCircuit bytes → IsCircuitFault bytes fault → ⊥
 circuit_no_fault bytes (Line number) t h = let both = sym t.read.is_read ∙ h in cc
 circuit_no_fault bytes (TwoDrivers name) t h = let both = sym t.read.is_read ∙ h in cc
 circuit_no_fault bytes (NoDriver name) t h = let both = sym t.read.is_read ∙ h in cc
@@ -387,6 +387,7 @@ circuit_no_fault bytes (Loop names) t h =
     let both = sym t.read.is_read ∙ h.1 in
     let same : h.0 ≡ t.program = cc both in
     t.read.acyclic names.items (subst (λ (c : Circuit). IsLoop c names.items) same h.2)
+circuit_no_fault bytes _ t h = h
 
 program_no_fault : (bytes : List ℕ) (fault : programs.CTextFault) → IsTextIn ReadsAs bytes → IsProgramFault bytes fault → ⊥
 program_no_fault bytes (Syntax place) t h = (described-are-read bytes t.program t.read.describes).refusals (c_faults.Syntax place) (t.read.short, h)

@@ -2,15 +2,14 @@
 
 ghost use Rattle.std.specs.Prelude.{◌++◌, codes, decimal, map};
 ghost use Rattle.base_types.specs.Writing.{Wrote};
-ghost use Rattle.cec_commands.specs.Lines.{circuit_fault_text, program_fault_text, text_fault_text};
+ghost use Rattle.cec_commands.specs.Lines.{program_fault_text, text_fault_text};
 ghost use Rattle.cec_commands.specs.Lines.{guarded_fault_text, module_fault_text, trace_text, unknown_text};
 ghost use Rattle.grc_graph.specs.PlainWireNames.{wire_name_of};
 
 use crate::text_faults::TextFault;
 use crate::unknown_wires::UnknownWires;
 use base_types::{Sink, SinkFault, write_pieces};
-use blif_run::BlifTextFault as CircuitFault;
-use cec_text_io::put_loop;
+use cec_text_io::{put_blif_fault, put_loop};
 use csub_guard_run::GuardedTextFault as GuardedFault;
 use csub_run::CTextFault as ProgramFault;
 use itoa::Buffer;
@@ -97,29 +96,10 @@ pub(crate) fn put_text_fault<E: Sink>(err: &mut E, fault: &TextFault) -> Result<
         (codes "cec: " ++ (text_fault_text fault.now ++ codes "\n")) result }
 {
     match fault {
-        TextFault::Blif(fault) => put_circuit_fault(err, fault),
+        TextFault::Blif(fault) => put_blif_fault(err, b"cec: ", fault),
         TextFault::C(fault) => put_program_fault(err, fault),
         TextFault::Guard(fault) => put_guarded_fault(err, fault),
         TextFault::Verilog(fault) => put_module_fault(err, fault),
-    }
-}
-
-// The line of a fault of a BLIF text.
-fn put_circuit_fault<E: Sink>(err: &mut E, fault: &CircuitFault) -> Result<(), SinkFault>
-    ensures { Wrote (E.told err.old) (E.told err.new) (E.faults err.old) (E.faults err.new)
-        (codes "cec: " ++ (circuit_fault_text fault.now ++ codes "\n")) result }
-{
-    match fault {
-        CircuitFault::Line(number) => {
-            put_numbered(err, b"line ", *number, b": not in the profile", b"")
-        }
-        CircuitFault::TwoDrivers(name) => {
-            write_pieces(err, &[b"cec: ", b"two drivers: ", name.bytes(), b"\n"])
-        }
-        CircuitFault::NoDriver(name) => {
-            write_pieces(err, &[b"cec: ", b"no driver: ", name.bytes(), b"\n"])
-        }
-        CircuitFault::Loop(names) => put_loop(err, b"cec: ", names),
     }
 }
 

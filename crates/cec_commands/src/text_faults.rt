@@ -5,7 +5,7 @@ ghost use Rattle.cec_commands.specs.declared.text_faults.TextFault.TheVariants.{
 ghost use Rattle.cec_commands.specs.declared.text_faults.TextFault.TheVariants.{Guard as of_guarded};
 ghost use Rattle.cec_commands.specs.declared.text_faults.TextFault.TheVariants.{Verilog as of_verilog};
 
-use blif_run::BlifTextFault as CircuitFault;
+use blif_read::BlifFault;
 use csub_guard_run::GuardedTextFault as GuardedFault;
 use csub_run::CTextFault as ProgramFault;
 use thiserror::Error;
@@ -16,7 +16,7 @@ use vlog_run::VerilogTextFault as ModuleFault;
 pub enum TextFault {
     /// Of a BLIF text.
     #[error(transparent)]
-    Blif(CircuitFault),
+    Blif(BlifFault),
     /// Of a text of the C subset.
     #[error(transparent)]
     C(ProgramFault),
@@ -28,10 +28,10 @@ pub enum TextFault {
     Verilog(ModuleFault),
 }
 
-impl From<CircuitFault> for TextFault {
+impl From<BlifFault> for TextFault {
     ghost from_gives = { λ fault told. told ≡ of_blif fault };
 
-    fn from(fault: CircuitFault) -> TextFault {
+    fn from(fault: BlifFault) -> TextFault {
         TextFault::Blif(fault)
     }
 }

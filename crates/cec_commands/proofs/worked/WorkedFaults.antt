@@ -1,7 +1,7 @@
 -- Worked lines of texts that are not run, by hand, of each language, of cycles, and of instants that are not constructive; and their statuses.
 use Rattle.std.proofs.Common.{◌≡◌, ◌++◌, ℕ, List, [], ◌∷◌, None, map, codes, refl, ap, Vec, Global}
 use Rattle.std.specs.Fmt.{digits}
-use Rattle.blif_run.specs.declared.language.BlifTextFault.TheVariants as circuits
+use Rattle.blif_read.specs.declared.fault.BlifFault.TheVariants as circuits
 use Rattle.cec_compile.specs.Cycles.{cycle_text}
 use Rattle.cec_compile.specs.declared.cycles.Cycle.{Cycle}
 use Rattle.cec_compile.specs.declared.refusal.Refusal.TheVariants as refusals

@@ -1,11 +1,25 @@
-// Why a circuit is no netlist's.
+// The faults of a BLIF text.
 
 use base_types::Text;
 use thiserror::Error;
 
-/// Why a circuit has no netlist, the first of its faults in this order.
+/// Why a BLIF text is not taken: the first of its faults, in the order in which they are looked for. The contract of a
+/// call states which of them it can have.
 #[derive(Debug, Drop, Error)]
-pub enum CircuitFault {
+pub enum BlifFault {
+    /// The text has more bytes than `Limits::TEXT_BYTES`.
+    #[error("the text is too long")]
+    TooLong,
+    /// The first line that is no line of the profile in its place, counted from 1. A missing `.end` is
+    /// refused at the number after that of the last line.
+    #[error("line {0} is not in the profile")]
+    Line(u32),
+    /// The first name in the text that is driven a second time.
+    #[error("a name has two drivers")]
+    TwoDrivers(Text),
+    /// The first name in the text that is used and not driven.
+    #[error("a name has no driver")]
+    NoDriver(Text),
     /// The last output is not `_paused`, or there is none.
     #[error("the last output is not `_paused`")]
     NoPause,
@@ -29,4 +43,7 @@ pub enum CircuitFault {
     /// each input and each latch, and one more.
     #[error("the netlist needs too many nets")]
     TooManyNets,
+    /// The text has a netlist, and this is the first name of a given relation that is none of its inputs.
+    #[error("a relation names no input")]
+    NoInput(Text),
 }
