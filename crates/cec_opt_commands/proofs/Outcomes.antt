@@ -23,7 +23,7 @@ use Rattle.cec_opt_embed.specs.declared.faults.TextEmbedFault.{TextEmbedFault}
 use Rattle.cec_opt_embed.specs.declared.faults.TextEmbedFault.TheVariants as text_faults
 use Rattle.cec_opt_texts.specs.Faults.{IsGivenFault}
 use Rattle.cec_opt_texts.specs.Related.{GivenRelation}
-use Rattle.cec_opt_texts.specs.declared.fault.OptFault.{OptFault}
+use Rattle.blif_read.specs.declared.fault.BlifFault.{BlifFault}
 use Rattle.csub_embed.specs.declared.layout.EmbedLayout.{EmbedLayout}
 use Rattle.vlog_reset.specs.Options.{ModuleOptions}
 use Rattle.cec_opt_sources.specs.declared.light.Coding.{Coding}
@@ -109,12 +109,12 @@ source_whole P task source main s ended f l =
 
 -- ---- a text without a netlist
 
-pub stop_says : (task : Task) (given : List GivenRelation) (stop : Stop OptFault) (text : List ℕ) → length text ≤ TEXT_BYTES
+pub stop_says : (task : Task) (given : List GivenRelation) (stop : Stop BlifFault) (text : List ℕ) → length text ≤ TEXT_BYTES
     → FaultIs (IsGivenFault text given) stop → SaysOf task given (stop_outcome stop) text
 stop_says task given (stops.Fault fault) text short is = (short, is)
 stop_says task given stops.NoMemory text short is = tt
 
-pub stop_leaves : (task : Task) (P : List ℕ → Type 0) (stop : Stop OptFault) (s : SinkChange) → Appends s.before s.after s.faults_before s.faults_now []
+pub stop_leaves : (task : Task) (P : List ℕ → Type 0) (stop : Stop BlifFault) (s : SinkChange) → Appends s.before s.after s.faults_before s.faults_now []
     → LeavesAnswer task P s (stop_outcome stop)
 stop_leaves (Write form) P (stops.Fault fault) s a = a
 stop_leaves (Write form) P stops.NoMemory s a = inl a

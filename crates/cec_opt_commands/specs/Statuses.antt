@@ -12,7 +12,7 @@ use Rattle.cec_opt_embed.specs.declared.faults.TextEmbedFault.{TextEmbedFault}
 use Rattle.cec_opt_embed.specs.declared.faults.TextEmbedFault.TheVariants as embedding
 use Rattle.cec_opt_reset.specs.declared.faults.TextResetFault.{TextResetFault}
 use Rattle.cec_opt_reset.specs.declared.faults.TextResetFault.TheVariants as resetting
-use Rattle.cec_opt_texts.specs.declared.fault.OptFault.{OptFault}
+use Rattle.blif_read.specs.declared.fault.BlifFault.{BlifFault}
 use Rattle.cec_text_io.specs.declared.writing.Written.{Written}
 use Rattle.cec_text_io.specs.declared.writing.Written.TheVariants as ends
 use Rattle.cec_opt_commands.specs.declared.outcome.OptOutcome.{OptOutcome}
@@ -63,7 +63,7 @@ stuck_outcome stuck ends.Done = NotConstructive stuck
 stuck_outcome stuck ends.WriteFault = WriteFault
 stuck_outcome stuck ends.NoMemory = NoMemory
 
-abbrev pub stop_outcome : Stop OptFault → OptOutcome
+abbrev pub stop_outcome : Stop BlifFault → OptOutcome
 stop_outcome (stops.Fault fault) = BadText fault
 stop_outcome stops.NoMemory = NoMemory
 

@@ -6,11 +6,11 @@ ghost use Rattle.cec_opt_commands.specs.Statuses.{source_unread_outcome, status_
 ghost use Rattle.cec_opt_commands.specs.Statuses.{stop_outcome, unread_outcome, written_outcome};
 
 use base_types::{FileFault, Stop};
+use blif_read::BlifFault;
 use cec_compile::{Cycle, Limit, Refusal};
 use cec_cycles::Stuck;
 use cec_opt_embed::TextEmbedFault;
 use cec_opt_reset::TextResetFault;
-use cec_opt_texts::OptFault;
 use cec_text_io::Written;
 use csub_embed::EmbedFault;
 use vlog_reset::ResetFault;
@@ -25,7 +25,7 @@ pub enum OptOutcome {
     /// The file was not read: the count of faults of the files rose, and the name that failed last is that of the file.
     FileFault,
     /// The first fault of the text.
-    BadText(OptFault),
+    BadText(BlifFault),
     /// The text or the source has a netlist, which has no embedded C text under the name after `--embed`. This is the
     /// first fault of the name and of the signals.
     BadComponent(EmbedFault),
@@ -61,10 +61,10 @@ impl From<Written> for OptOutcome {
     }
 }
 
-impl From<Stop<OptFault>> for OptOutcome {
+impl From<Stop<BlifFault>> for OptOutcome {
     ghost from_gives = { λ stop outcome. outcome ≡ stop_outcome stop };
 
-    fn from(stop: Stop<OptFault>) -> OptOutcome {
+    fn from(stop: Stop<BlifFault>) -> OptOutcome {
         match stop {
             Stop::Fault(fault) => OptOutcome::BadText(fault),
             Stop::NoMemory => OptOutcome::NoMemory,

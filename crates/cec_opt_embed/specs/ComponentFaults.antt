@@ -7,7 +7,7 @@ use Rattle.cec_compile.specs.declared.refusal.Refusal.{Refusal}
 use Rattle.cec_compile.specs.declared.refusal.Refusal.TheVariants as refusals
 use Rattle.cec_cycles.specs.declared.findings.CycleRefusal.{CycleRefusal}
 use Rattle.cec_cycles.specs.declared.findings.CycleRefusal.TheVariants as causes
-use Rattle.cec_opt_texts.specs.declared.fault.OptFault.{OptFault}
+use Rattle.blif_read.specs.declared.fault.BlifFault.{BlifFault}
 use Rattle.cec_opt_embed.specs.declared.faults.SourceEmbedFault.{SourceEmbedFault}
 use Rattle.cec_opt_embed.specs.declared.faults.SourceEmbedFault.TheVariants as source_faults
 use Rattle.cec_opt_embed.specs.declared.faults.TextEmbedFault.{TextEmbedFault}
@@ -31,7 +31,7 @@ IsTextComponentStop (Fault fault) stop = stop ≡ Fault (text_faults.Component f
 IsTextComponentStop NoMemory stop = stop ≡ NoMemory
 
 -- so does a fault of a BLIF text
-abbrev pub IsTextStop : Stop OptFault → Stop TextEmbedFault → Type 0
+abbrev pub IsTextStop : Stop BlifFault → Stop TextEmbedFault → Type 0
 IsTextStop (Fault fault) stop = stop ≡ Fault (text_faults.Text fault)
 IsTextStop NoMemory stop = stop ≡ NoMemory
 

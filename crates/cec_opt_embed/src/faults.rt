@@ -1,7 +1,7 @@
 // Why a source or a BLIF text has no embedded text under a name.
 
+use blif_read::BlifFault;
 use cec_cycles::CycleRefusal;
-use cec_opt_texts::OptFault;
 use csub_embed::EmbedFault;
 use thiserror::Error;
 
@@ -21,7 +21,7 @@ pub enum SourceEmbedFault {
 pub enum TextEmbedFault {
     /// The text has no netlist. This is its first fault.
     #[error(transparent)]
-    Text(OptFault),
+    Text(BlifFault),
     /// The text has a netlist, which has no embedded text under the name.
     #[error(transparent)]
     Component(EmbedFault),

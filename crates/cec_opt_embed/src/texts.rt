@@ -12,7 +12,8 @@ ghost use Rattle.cec_opt_embed.specs.Texts.{EmbedKeeps, IsSmallComponent};
 
 use crate::faults::TextEmbedFault;
 use base_types::{Limits, Stop};
-use cec_opt_texts::{GivenRelation, OptFault, optimized_net};
+use blif_read::BlifFault;
+use cec_opt_texts::{GivenRelation, optimized_net};
 use csub_embed::{EmbedFault, EmbedLayout, embedded_net, write_embedded};
 use net_ir::Net;
 use std::alloc::Global;
@@ -89,7 +90,7 @@ fn component_stop(stop: Stop<EmbedFault>) -> Stop<TextEmbedFault>
 }
 
 // Why the text has no netlist.
-fn text_stop(stop: Stop<OptFault>) -> Stop<TextEmbedFault>
+fn text_stop(stop: Stop<BlifFault>) -> Stop<TextEmbedFault>
     ensures same { IsTextStop stop result }
     ensures fault { (text name : List ℕ) (given : List SpecRelation) → FaultIs (IsGivenFault text given) stop
         → FaultIs (IsTextEmbedFault text given name) result }

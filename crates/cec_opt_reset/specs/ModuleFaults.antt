@@ -7,7 +7,7 @@ use Rattle.cec_compile.specs.declared.refusal.Refusal.{Refusal}
 use Rattle.cec_compile.specs.declared.refusal.Refusal.TheVariants as refusals
 use Rattle.cec_cycles.specs.declared.findings.CycleRefusal.{CycleRefusal}
 use Rattle.cec_cycles.specs.declared.findings.CycleRefusal.TheVariants as causes
-use Rattle.cec_opt_texts.specs.declared.fault.OptFault.{OptFault}
+use Rattle.blif_read.specs.declared.fault.BlifFault.{BlifFault}
 use Rattle.cec_opt_reset.specs.declared.faults.SourceResetFault.{SourceResetFault}
 use Rattle.cec_opt_reset.specs.declared.faults.SourceResetFault.TheVariants as source_faults
 use Rattle.cec_opt_reset.specs.declared.faults.TextResetFault.{TextResetFault}
@@ -31,7 +31,7 @@ IsTextModuleStop (Fault fault) stop = stop ≡ Fault (text_faults.Module fault)
 IsTextModuleStop NoMemory stop = stop ≡ NoMemory
 
 -- so does a fault of a BLIF text
-abbrev pub IsReadStop : Stop OptFault → Stop TextResetFault → Type 0
+abbrev pub IsReadStop : Stop BlifFault → Stop TextResetFault → Type 0
 IsReadStop (Fault fault) stop = stop ≡ Fault (text_faults.Text fault)
 IsReadStop NoMemory stop = stop ≡ NoMemory
 

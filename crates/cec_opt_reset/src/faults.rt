@@ -1,7 +1,7 @@
 // Why a source or a BLIF text has no Verilog with a reset.
 
+use blif_read::BlifFault;
 use cec_cycles::CycleRefusal;
-use cec_opt_texts::OptFault;
 use thiserror::Error;
 use vlog_reset::ResetFault;
 
@@ -21,7 +21,7 @@ pub enum SourceResetFault {
 pub enum TextResetFault {
     /// The text has no netlist. This is its first fault.
     #[error(transparent)]
-    Text(OptFault),
+    Text(BlifFault),
     /// The text has a netlist, which has no text with these names.
     #[error(transparent)]
     Module(ResetFault),

@@ -16,7 +16,8 @@ ghost use Rattle.cec_opt_reset.specs.Texts.{ResetKeeps};
 
 use crate::faults::TextResetFault;
 use base_types::{Limits, Stop};
-use cec_opt_texts::{GivenRelation, OptFault, optimized_net};
+use blif_read::BlifFault;
+use cec_opt_texts::{GivenRelation, optimized_net};
 use net_ir::Net;
 use std::alloc::Global;
 use vlog_reset::{ResetFault, ResetOptions, reset_text};
@@ -78,7 +79,7 @@ fn module_stop(stop: Stop<ResetFault>) -> Stop<TextResetFault>
 }
 
 // Why the text has no netlist.
-fn text_stop(stop: Stop<OptFault>) -> Stop<TextResetFault>
+fn text_stop(stop: Stop<BlifFault>) -> Stop<TextResetFault>
     ensures same { IsReadStop stop result }
     ensures fault { (text : List ℕ) (given : List SpecRelation) (o : ModuleOptions)
         → FaultIs (IsGivenFault text given) stop → FaultIs (IsTextResetFault text given o) result }

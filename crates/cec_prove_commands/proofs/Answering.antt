@@ -19,7 +19,7 @@ use Rattle.cec_prove_texts.specs.Devices.{Device, circuit_device}
 use Rattle.cec_prove_texts.specs.Sameness.{HasTextComparison, IsDeviceComparison}
 use Rattle.cec_prove_texts.specs.Surveys.{HasTextSurvey, IsDeviceSurvey}
 use Rattle.cec_prove_texts.specs.Verdicts.{HasTextVerdict, IsDeviceVerdict}
-use Rattle.cec_opt_texts.specs.declared.fault.OptFault.{OptFault}
+use Rattle.blif_read.specs.declared.fault.BlifFault.{BlifFault}
 use Rattle.cec_prove_commands.specs.Answers.{IsAnswer, IsWrittenBy, SaysOfTexts}
 use Rattle.cec_prove_commands.specs.Outcomes.{Answered, ClaimSays, Compared, ComparisonSays, CoveringSays, IsClaimTraceBy, IsCoveringBy, IsCoveringOf}
 use Rattle.cec_prove_commands.specs.Outcomes.{IsDistinction, IsDistinctionBy, IsRefutation, IsSurveyBy, IsSurveyOf, SurveySays, question_of}
@@ -307,7 +307,7 @@ compared_out v o s (AskText claim signal) job first second f t h = absurd h
 compared_out v o s SurveyText job first second f t h = absurd h
 compared_out v o s (CompareTexts other) job first second f t h = t first second h
 
-pub bad_text_says : (fault : OptFault) (task : Task) (job : Job) (first second : List ℕ) → IsAnswer (answers.BadText fault) task job first second
+pub bad_text_says : (fault : BlifFault) (task : Task) (job : Job) (first second : List ℕ) → IsAnswer (answers.BadText fault) task job first second
     → SaysOfTexts task (BadText fault) job first second
 bad_text_says fault (Ask claim signal) job first second h = absurd h
 bad_text_says fault Surveys job first second h = absurd h
@@ -317,7 +317,7 @@ bad_text_says fault (AskText claim signal) job first second h = h
 bad_text_says fault SurveyText job first second h = h
 bad_text_says fault (CompareTexts other) job first second h = h
 
-pub second_bad_text_says : (fault : OptFault) (task : Task) (job : Job) (first second : List ℕ)
+pub second_bad_text_says : (fault : BlifFault) (task : Task) (job : Job) (first second : List ℕ)
     → IsAnswer (answers.SecondBadText fault) task job first second → SaysOfTexts task (SecondBadText fault) job first second
 second_bad_text_says fault (Ask claim signal) job first second h = absurd h
 second_bad_text_says fault Surveys job first second h = absurd h

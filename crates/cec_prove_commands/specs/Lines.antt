@@ -5,8 +5,7 @@ use Rattle.cec_compile.specs.declared.refusal.Refusal.TheVariants as refusing
 use Rattle.cec_cycles.specs.declared.findings.Stuck.{Stuck}
 use Rattle.cec_refusals.specs.RefusalLines.{RefusalSubject, refusal_line}
 use Rattle.cec_text_io.specs.Contents.{Content, IsHeld}
-use Rattle.cec_text_io.specs.ErrorLines.{GainsLine}
-use Rattle.cec_prove_commands.specs.TextFaults.{fault_text}
+use Rattle.cec_text_io.specs.ErrorLines.{GainsLine, blif_fault_text}
 use Rattle.cec_prove_commands.specs.Words.{Job, Request, Tell, Do, Task, Ask, Survey, Cover, Compare, AskText}
 use Rattle.cec_prove_commands.specs.Words.{SurveyText, CompareTexts}
 use Rattle.cec_prove_commands.specs.declared.outcome.ProveOutcome.{ProveOutcome}
@@ -82,8 +81,8 @@ line_of s (UndecidedCycle cycle) = own_line (codes "undecided: " ++ cycle.text.i
 line_of s (SecondUndecidedCycle cycle) = second_line s (codes "undecided: " ++ cycle.text.items)
 line_of s (TooManyNets cycle) = own_line (codes "limit: nets: " ++ cycle.text.items)
 line_of s (SecondTooManyNets cycle) = second_line s (codes "limit: nets: " ++ cycle.text.items)
-line_of s (BadText fault) = own_line (fault_text fault)
-line_of s (SecondBadText fault) = second_line s (fault_text fault)
+line_of s (BadText fault) = own_line (blif_fault_text fault)
+line_of s (SecondBadText fault) = second_line s (blif_fault_text fault)
 line_of s TooLong = own_line (codes "limit: text")
 line_of s SecondTooLong = second_line s (codes "limit: text")
 line_of s WriteFault = own_line (codes "cannot write")

@@ -3,8 +3,8 @@
 ghost use Rattle.std.specs.Prelude.{◌≡◌};
 ghost use Rattle.cec_prove_commands.specs.Answers.{is_open};
 
+use blif_read::BlifFault;
 use cec_cycles::CycleRefusal;
-use cec_opt_texts::OptFault;
 use cec_prove_covers::Covering;
 use cec_prove_sources::{Comparison, Survey, Verdict};
 
@@ -24,9 +24,9 @@ pub(crate) enum Answer {
     /// The second source of a comparison is refused, and the first one is not.
     SecondRefused(CycleRefusal),
     /// The text has this fault.
-    BadText(OptFault),
+    BadText(BlifFault),
     /// The second text of a comparison has this fault, and the first one has none.
-    SecondBadText(OptFault),
+    SecondBadText(BlifFault),
     /// Running out of memory.
     NoMemory,
 }

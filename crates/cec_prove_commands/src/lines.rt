@@ -2,21 +2,20 @@
 
 ghost use Rattle.std.specs.Prelude.{◌≡◌, ◌≤◌, ◌++◌, ℕ, List, Option, codes, decimal, length};
 ghost use Rattle.base_types.specs.Writing.{Wrote};
-ghost use Rattle.cec_text_io.specs.ErrorLines.{GainsLine};
+ghost use Rattle.cec_text_io.specs.ErrorLines.{GainsLine, blif_fault_text};
 ghost use Rattle.cec_refusals.specs.Views.{refused_is};
 ghost use Rattle.cec_prove_commands.specs.Lines.{line_of, misuse_line, own_line, progress_line, refused_of};
 ghost use Rattle.cec_prove_commands.specs.Lines.{second_line, stuck_text};
-ghost use Rattle.cec_prove_commands.specs.TextFaults.{fault_text};
 ghost use Rattle.cec_prove_commands.specs.Views.{misuse_is, subject_is};
 
-use crate::faults::put_fault;
 use crate::outcome::ProveOutcome;
 use crate::words::Misuse;
 use base_types::{Limits, Sink, SinkFault, write_pieces};
+use blif_read::BlifFault;
 use cec_compile::Cycle;
 use cec_cycles::Stuck;
-use cec_opt_texts::OptFault;
 use cec_refusals::{RefusedSource, put_refusal};
+use cec_text_io::put_blif_fault;
 use itoa::Buffer;
 
 /// What a line speaks of: the names of the files, the signals, the main module, and the source.
@@ -158,7 +157,7 @@ fn put_line<E: Sink>(
         ProveOutcome::SecondTooManyNets(cycle) => {
             put_second_cycle(err, subject, b"limit: nets: ", cycle)
         }
-        ProveOutcome::BadText(fault) => put_fault(err, b"cec-prove: ", fault),
+        ProveOutcome::BadText(fault) => put_blif_fault(err, b"cec-prove: ", fault),
         ProveOutcome::SecondBadText(fault) => put_second_fault(err, subject, fault),
         ProveOutcome::TooLong => put_said(err, b"limit: text", b""),
         ProveOutcome::SecondTooLong => put_second_limit(err, subject),
@@ -171,15 +170,15 @@ fn put_line<E: Sink>(
 fn put_second_fault<E: Sink>(
     err: &mut E,
     subject: Subject<'_>,
-    fault: &OptFault,
+    fault: &BlifFault,
 ) -> Result<(), SinkFault>
     ensures { Wrote (E.told err.old) (E.told err.new) (E.faults err.old) (E.faults err.new)
-        (second_line (subject_is subject.entry) (fault_text fault.now)) result }
+        (second_line (subject_is subject.entry) (blif_fault_text fault.now)) result }
 {
     if let Err(stop) = put_second_name(err, subject) {
         return Err(stop);
     }
-    put_fault(err, b"", fault)
+    put_blif_fault(err, b"", fault)
 }
 
 // The line about the second text of a comparison, which is too long.

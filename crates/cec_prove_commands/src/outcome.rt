@@ -6,9 +6,9 @@ ghost use Rattle.cec_prove_commands.specs.Statuses.{refusal_status, second_unrea
 ghost use Rattle.cec_prove_commands.specs.Statuses.{long_outcome, second_long_outcome};
 
 use base_types::FileFault;
+use blif_read::BlifFault;
 use cec_compile::{Cycle, Limit, Refusal};
 use cec_cycles::Stuck;
-use cec_opt_texts::OptFault;
 use cec_text_io::Written;
 
 /// How a command ended, with the cause of each refusal.
@@ -64,9 +64,9 @@ pub enum ProveOutcome {
     /// The same of the second source of a comparison, the first one of which is constructive.
     SecondTooManyNets(Cycle),
     /// The first fault of the text, or that of its circuit.
-    BadText(OptFault),
+    BadText(BlifFault),
     /// The same of the second text of a comparison, the first one of which has none.
-    SecondBadText(OptFault),
+    SecondBadText(BlifFault),
     /// The text has more bytes than `Limits::TEXT_BYTES`.
     TooLong,
     /// The same of the second text of a comparison.

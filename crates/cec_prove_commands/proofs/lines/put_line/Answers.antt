@@ -56,7 +56,7 @@ pub returns-in-TooLong : goal.returns-in-TooLong
 returns-in-TooLong g c = rw c.in-TooLong.is c.put_said-in-TooLong.ensures
 
 pub returns-in-BadText : goal.returns-in-BadText
-returns-in-BadText g c = rw c.in-BadText.is c.put_fault.ensures
+returns-in-BadText g c = rw c.in-BadText.is c.put_blif_fault.ensures
 
 pub returns-in-SecondBadText : goal.returns-in-SecondBadText
 returns-in-SecondBadText g c = rw c.in-SecondBadText.is c.put_second_fault.ensures
