@@ -51,8 +51,6 @@ use Rattle.vlog_read.specs.Laws.{LacksRoom}
 use Rattle.vlog_run.specs.Loops as v_loops
 use Rattle.vlog_run.specs.ModuleAnswers as module_answers
 use Rattle.vlog_run.specs.Texts as module_texts
-use Rattle.vlog_run.specs.declared.language.VerilogTextFault as modules
-use Rattle.vlog_run.specs.declared.language.VerilogTextFault.TheVariants as m_faults
 use Rattle.vlog_text.specs.Trees.{VerilogModule}
 use Rattle.cec_compile.specs.declared.forms.TextForm.{TextForm}
 use Rattle.cec_compile.specs.declared.forms.TextForm.TheVariants as forms
@@ -407,15 +405,16 @@ guarded_no_fault bytes (guarded_faults.Undeclared name) t h = guarded_lacks byte
 guarded_no_fault bytes (guarded_faults.Again name) t h = guarded_lacks bytes (g_faults.Again name) t (t.read.short, h)
 guarded_no_fault bytes (guarded_faults.Unset name) t h = guarded_lacks bytes (g_faults.Unset name) t (t.read.short, h)
 
-module_no_fault : (bytes : List ℕ) (fault : modules.VerilogTextFault) → IsTextIn module_texts.ReadsModule bytes → module_texts.IsTextFault bytes fault → ⊥
-module_no_fault bytes (m_faults.Syntax place) t h = read_no_fault bytes (v_faults.Syntax place) t (t.read.is_read.short, h)
-module_no_fault bytes (m_faults.Twice name) t h = read_no_fault bytes (v_faults.Twice name) t (t.read.is_read.short, h)
-module_no_fault bytes (m_faults.Port name) t h = read_no_fault bytes (v_faults.Port name) t (t.read.is_read.short, h)
-module_no_fault bytes (m_faults.Undeclared name) t h = read_no_fault bytes (v_faults.Undeclared name) t (t.read.is_read.short, h)
-module_no_fault bytes (m_faults.TwoDrivers name) t h = read_no_fault bytes (v_faults.TwoDrivers name) t (t.read.is_read.short, h)
-module_no_fault bytes (m_faults.NoDriver name) t h = read_no_fault bytes (v_faults.NoDriver name) t (t.read.is_read.short, h)
-module_no_fault bytes (m_faults.Loop names) t h =
+module_no_fault : (bytes : List ℕ) (fault : VlogFault) → IsTextIn module_texts.ReadsModule bytes → module_texts.IsTextFault bytes fault → ⊥
+module_no_fault bytes (v_faults.Syntax place) t h = read_no_fault bytes (v_faults.Syntax place) t (t.read.is_read.short, h)
+module_no_fault bytes (v_faults.Twice name) t h = read_no_fault bytes (v_faults.Twice name) t (t.read.is_read.short, h)
+module_no_fault bytes (v_faults.Port name) t h = read_no_fault bytes (v_faults.Port name) t (t.read.is_read.short, h)
+module_no_fault bytes (v_faults.Undeclared name) t h = read_no_fault bytes (v_faults.Undeclared name) t (t.read.is_read.short, h)
+module_no_fault bytes (v_faults.TwoDrivers name) t h = read_no_fault bytes (v_faults.TwoDrivers name) t (t.read.is_read.short, h)
+module_no_fault bytes (v_faults.NoDriver name) t h = read_no_fault bytes (v_faults.NoDriver name) t (t.read.is_read.short, h)
+module_no_fault bytes (v_faults.Loop names) t h =
     t.read.acyclic names.items (subst (λ (m : VerilogModule). v_loops.IsLoop m names.items) (t.read.is_read.only h.0 h.1.describes) h.2)
+module_no_fault bytes _ t h = h
 
 text_no_fault : (via : Via) (bytes : List ℕ) (fault : TextFault) → IsRunnable via bytes → TextHasFault via bytes fault → ⊥
 text_no_fault Blif bytes fault t h = circuit_no_fault bytes h.0 t h.1

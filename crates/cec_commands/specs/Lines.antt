@@ -10,8 +10,8 @@ use Rattle.csub_run.specs.declared.language.CTextFault as programs
 use Rattle.csub_run.specs.declared.language.CTextFault.TheVariants.{Syntax, Twice, Undeclared, Unset}
 use Rattle.csub_guard_run.specs.declared.language.GuardedTextFault as guardeds
 use Rattle.csub_guard_run.specs.declared.language.GuardedTextFault.TheVariants as guarded_faults
-use Rattle.vlog_run.specs.declared.language.VerilogTextFault as modules
-use Rattle.vlog_run.specs.declared.language.VerilogTextFault.TheVariants as module_faults
+use Rattle.vlog_read.specs.declared.refusal.VlogFault.{VlogFault}
+use Rattle.vlog_read.specs.declared.refusal.VlogFault.TheVariants as module_faults
 use Rattle.cec_commands.specs.declared.text_faults.TextFault.{TextFault}
 use Rattle.cec_commands.specs.declared.text_faults.TextFault.TheVariants as texts
 use Rattle.est_front.specs.Lines.{fault_text}
@@ -78,7 +78,8 @@ guarded_fault_text (guarded_faults.Undeclared name) = codes "undeclared: " ++ na
 guarded_fault_text (guarded_faults.Again name) = codes "assigned twice: " ++ name
 guarded_fault_text (guarded_faults.Unset name) = codes "unset: " ++ name
 
-abbrev pub module_fault_text : modules.VerilogTextFault → List ℕ
+abbrev pub module_fault_text : VlogFault → List ℕ
+module_fault_text module_faults.TooLong = codes "limit: text"
 module_fault_text (module_faults.Syntax place) = codes "byte " ++ (decimal place ++ codes ": syntax")
 module_fault_text (module_faults.Twice name) = codes "declared twice: " ++ name
 module_fault_text (module_faults.Port name) = codes "bad port: " ++ name

@@ -14,7 +14,7 @@ use csub_guard_run::GuardedTextFault as GuardedFault;
 use csub_run::CTextFault as ProgramFault;
 use itoa::Buffer;
 use run_trace_io::TraceFault;
-use vlog_run::VerilogTextFault as ModuleFault;
+use vlog_read::VlogFault;
 
 /// The line of a fault of a trace.
 pub(crate) fn put_trace_fault<E: Sink>(err: &mut E, fault: &TraceFault) -> Result<(), SinkFault>
@@ -145,27 +145,28 @@ fn put_guarded_fault<E: Sink>(err: &mut E, fault: &GuardedFault) -> Result<(), S
 }
 
 // The line of a fault of a Verilog text.
-fn put_module_fault<E: Sink>(err: &mut E, fault: &ModuleFault) -> Result<(), SinkFault>
+fn put_module_fault<E: Sink>(err: &mut E, fault: &VlogFault) -> Result<(), SinkFault>
     ensures { Wrote (E.told err.old) (E.told err.new) (E.faults err.old) (E.faults err.new)
         (codes "cec: " ++ (module_fault_text fault.now ++ codes "\n")) result }
 {
     match fault {
-        ModuleFault::Syntax(place) => put_numbered(err, b"byte ", *place, b": syntax", b""),
-        ModuleFault::Twice(name) => {
+        VlogFault::TooLong => write_pieces(err, &[b"cec: ", b"limit: text", b"\n"]),
+        VlogFault::Syntax(place) => put_numbered(err, b"byte ", *place, b": syntax", b""),
+        VlogFault::Twice(name) => {
             write_pieces(err, &[b"cec: ", b"declared twice: ", name.bytes(), b"\n"])
         }
-        ModuleFault::Port(name) => {
+        VlogFault::Port(name) => {
             write_pieces(err, &[b"cec: ", b"bad port: ", name.bytes(), b"\n"])
         }
-        ModuleFault::Undeclared(name) => {
+        VlogFault::Undeclared(name) => {
             write_pieces(err, &[b"cec: ", b"undeclared: ", name.bytes(), b"\n"])
         }
-        ModuleFault::TwoDrivers(name) => {
+        VlogFault::TwoDrivers(name) => {
             write_pieces(err, &[b"cec: ", b"two drivers: ", name.bytes(), b"\n"])
         }
-        ModuleFault::NoDriver(name) => {
+        VlogFault::NoDriver(name) => {
             write_pieces(err, &[b"cec: ", b"no driver: ", name.bytes(), b"\n"])
         }
-        ModuleFault::Loop(names) => put_loop(err, b"cec: ", names),
+        VlogFault::Loop(names) => put_loop(err, b"cec: ", names),
     }
 }

@@ -9,7 +9,7 @@ use blif_read::BlifFault;
 use csub_guard_run::GuardedTextFault as GuardedFault;
 use csub_run::CTextFault as ProgramFault;
 use thiserror::Error;
-use vlog_run::VerilogTextFault as ModuleFault;
+use vlog_read::VlogFault;
 
 /// The first fault of a text that must be run, by its language.
 #[derive(Debug, Drop, Error)]
@@ -25,7 +25,7 @@ pub enum TextFault {
     Guard(GuardedFault),
     /// Of a text of structural Verilog.
     #[error(transparent)]
-    Verilog(ModuleFault),
+    Verilog(VlogFault),
 }
 
 impl From<BlifFault> for TextFault {
@@ -52,10 +52,10 @@ impl From<GuardedFault> for TextFault {
     }
 }
 
-impl From<ModuleFault> for TextFault {
+impl From<VlogFault> for TextFault {
     ghost from_gives = { λ fault told. told ≡ of_verilog fault };
 
-    fn from(fault: ModuleFault) -> TextFault {
+    fn from(fault: VlogFault) -> TextFault {
         TextFault::Verilog(fault)
     }
 }

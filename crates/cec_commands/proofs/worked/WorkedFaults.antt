@@ -16,7 +16,7 @@ use Rattle.cec_commands.specs.Statuses.{status_of, outcome_of}
 use Rattle.csub_run.specs.declared.language.CTextFault.TheVariants as programs
 use Rattle.grc_graph.specs.PlainWireNames.{wire_name_of}
 use Rattle.csub_guard_run.specs.declared.language.GuardedTextFault.TheVariants as guardeds
-use Rattle.vlog_run.specs.declared.language.VerilogTextFault.TheVariants as modules
+use Rattle.vlog_read.specs.declared.refusal.VlogFault.TheVariants as modules
 
 abbrev subject : Subject
 subject = record { name = codes "p.blif"; trace = codes "t.txt"; main = []; source = [] }
