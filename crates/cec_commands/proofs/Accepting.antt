@@ -16,7 +16,8 @@ use Rattle.est_front.proofs.Exports.{one_program}
 use Rattle.est_front.proofs.Unrefused as front
 use Rattle.cec_words.specs.declared.asked.Via.{Via}
 use Rattle.cec_words.specs.declared.asked.Via.TheVariants.{Blif, C, Guard, Verilog}
-use Rattle.csub_read.specs.declared.refusal.CError.TheVariants as c_faults
+use Rattle.csub_read.specs.declared.refusal.CFault.{CFault}
+use Rattle.csub_read.specs.declared.refusal.CFault.TheVariants as c_faults
 use Rattle.csub_read.proofs.Exports.{described-are-read}
 use Rattle.csub_text.specs.Trees as c_trees
 use Rattle.run_trace_io.specs.declared.faults.TraceFault.{TraceFault}
@@ -28,8 +29,6 @@ use Rattle.run_over_traces.proofs.Exports.{front-of, front-whole}
 use Rattle.blif_read.specs.declared.fault.BlifFault.{BlifFault}
 use Rattle.blif_read.specs.declared.fault.BlifFault.TheVariants.{Line, TwoDrivers, NoDriver, Loop}
 use Rattle.blif_run.specs.Texts.{ReadsCircuit, IsTextFault as IsCircuitFault}
-use Rattle.csub_run.specs.declared.language.CTextFault as programs
-use Rattle.csub_run.specs.declared.language.CTextFault.TheVariants.{Syntax, Twice, Undeclared, Unset}
 use Rattle.csub_run.specs.Texts.{IsTextFault as IsProgramFault}
 use Rattle.csub_read.specs.Faults.{ReadsAs}
 use Rattle.csub_guard.specs.Trees as guarded_trees
@@ -387,12 +386,13 @@ circuit_no_fault bytes (Loop names) t h =
     t.read.acyclic names.items (subst (λ (c : Circuit). IsLoop c names.items) same h.2)
 circuit_no_fault bytes _ t h = h
 
-program_no_fault : (bytes : List ℕ) (fault : programs.CTextFault) → IsTextIn ReadsAs bytes → IsProgramFault bytes fault → ⊥
-program_no_fault bytes (Syntax place) t h = (described-are-read bytes t.program t.read.describes).refusals (c_faults.Syntax place) (t.read.short, h)
-program_no_fault bytes (Twice name) t h = (described-are-read bytes t.program t.read.describes).refusals (c_faults.Twice name) (t.read.short, h)
-program_no_fault bytes (Undeclared name) t h =
+program_no_fault : (bytes : List ℕ) (fault : CFault) → IsTextIn ReadsAs bytes → IsProgramFault bytes fault → ⊥
+program_no_fault bytes (c_faults.Syntax place) t h = (described-are-read bytes t.program t.read.describes).refusals (c_faults.Syntax place) (t.read.short, h)
+program_no_fault bytes (c_faults.Twice name) t h = (described-are-read bytes t.program t.read.describes).refusals (c_faults.Twice name) (t.read.short, h)
+program_no_fault bytes (c_faults.Undeclared name) t h =
     (described-are-read bytes t.program t.read.describes).refusals (c_faults.Undeclared name) (t.read.short, h)
-program_no_fault bytes (Unset name) t h = (described-are-read bytes t.program t.read.describes).refusals (c_faults.Unset name) (t.read.short, h)
+program_no_fault bytes (c_faults.Unset name) t h = (described-are-read bytes t.program t.read.describes).refusals (c_faults.Unset name) (t.read.short, h)
+program_no_fault bytes _ t h = h
 
 guarded_lacks : (bytes : List ℕ) (fault : GuardedFault) → IsTextIn guarded_reads.ReadsAs bytes → guarded_reads.ReadsFault bytes fault
     → guarded_laws.LacksRoom bytes fault

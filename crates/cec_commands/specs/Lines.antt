@@ -6,8 +6,8 @@ use Rattle.grc_graph.specs.PlainWireNames.{wire_name_of}
 use Rattle.grc_graph.specs.WireNames.{WireName}
 use Rattle.run_trace_io.specs.declared.faults.TraceFault.{TraceFault}
 use Rattle.run_trace_io.specs.declared.faults.TraceFault.TheVariants as traces
-use Rattle.csub_run.specs.declared.language.CTextFault as programs
-use Rattle.csub_run.specs.declared.language.CTextFault.TheVariants.{Syntax, Twice, Undeclared, Unset}
+use Rattle.csub_read.specs.declared.refusal.CFault.{CFault}
+use Rattle.csub_read.specs.declared.refusal.CFault.TheVariants.{TooLong, Syntax, Twice, Undeclared, Unset}
 use Rattle.csub_guard_run.specs.declared.language.GuardedTextFault as guardeds
 use Rattle.csub_guard_run.specs.declared.language.GuardedTextFault.TheVariants as guarded_faults
 use Rattle.vlog_read.specs.declared.refusal.VlogFault.{VlogFault}
@@ -65,7 +65,8 @@ trace_text (traces.BadReset instant) = in_instant instant (codes ": bad reset")
 trace_text (traces.OpenInstant instant) = in_instant instant (codes ": open")
 trace_text (traces.Breaks instant relation) = in_instant instant (codes ": breaks relation " ++ decimal relation)
 
-abbrev pub program_fault_text : programs.CTextFault → List ℕ
+abbrev pub program_fault_text : CFault → List ℕ
+program_fault_text TooLong = codes "limit: text"
 program_fault_text (Syntax place) = codes "byte " ++ (decimal place ++ codes ": syntax")
 program_fault_text (Twice name) = codes "declared twice: " ++ name
 program_fault_text (Undeclared name) = codes "undeclared: " ++ name

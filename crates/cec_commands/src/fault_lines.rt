@@ -11,7 +11,7 @@ use crate::unknown_wires::UnknownWires;
 use base_types::{Sink, SinkFault, write_pieces};
 use cec_text_io::{put_blif_fault, put_loop};
 use csub_guard_run::GuardedTextFault as GuardedFault;
-use csub_run::CTextFault as ProgramFault;
+use csub_read::CFault;
 use itoa::Buffer;
 use run_trace_io::TraceFault;
 use vlog_read::VlogFault;
@@ -104,19 +104,20 @@ pub(crate) fn put_text_fault<E: Sink>(err: &mut E, fault: &TextFault) -> Result<
 }
 
 // The line of a fault of a text of the C subset.
-fn put_program_fault<E: Sink>(err: &mut E, fault: &ProgramFault) -> Result<(), SinkFault>
+fn put_program_fault<E: Sink>(err: &mut E, fault: &CFault) -> Result<(), SinkFault>
     ensures { Wrote (E.told err.old) (E.told err.new) (E.faults err.old) (E.faults err.new)
         (codes "cec: " ++ (program_fault_text fault.now ++ codes "\n")) result }
 {
     match fault {
-        ProgramFault::Syntax(place) => put_numbered(err, b"byte ", *place, b": syntax", b""),
-        ProgramFault::Twice(name) => {
+        CFault::TooLong => write_pieces(err, &[b"cec: ", b"limit: text", b"\n"]),
+        CFault::Syntax(place) => put_numbered(err, b"byte ", *place, b": syntax", b""),
+        CFault::Twice(name) => {
             write_pieces(err, &[b"cec: ", b"declared twice: ", name.bytes(), b"\n"])
         }
-        ProgramFault::Undeclared(name) => {
+        CFault::Undeclared(name) => {
             write_pieces(err, &[b"cec: ", b"undeclared: ", name.bytes(), b"\n"])
         }
-        ProgramFault::Unset(name) => {
+        CFault::Unset(name) => {
             write_pieces(err, &[b"cec: ", b"unset: ", name.bytes(), b"\n"])
         }
     }

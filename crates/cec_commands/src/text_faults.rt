@@ -7,7 +7,7 @@ ghost use Rattle.cec_commands.specs.declared.text_faults.TextFault.TheVariants.{
 
 use blif_read::BlifFault;
 use csub_guard_run::GuardedTextFault as GuardedFault;
-use csub_run::CTextFault as ProgramFault;
+use csub_read::CFault;
 use thiserror::Error;
 use vlog_read::VlogFault;
 
@@ -19,7 +19,7 @@ pub enum TextFault {
     Blif(BlifFault),
     /// Of a text of the C subset.
     #[error(transparent)]
-    C(ProgramFault),
+    C(CFault),
     /// Of a guarded text.
     #[error(transparent)]
     Guard(GuardedFault),
@@ -36,10 +36,10 @@ impl From<BlifFault> for TextFault {
     }
 }
 
-impl From<ProgramFault> for TextFault {
+impl From<CFault> for TextFault {
     ghost from_gives = { λ fault told. told ≡ of_c fault };
 
-    fn from(fault: ProgramFault) -> TextFault {
+    fn from(fault: CFault) -> TextFault {
         TextFault::C(fault)
     }
 }

@@ -1,5 +1,5 @@
 use Rattle.csub_run.proofs.Machines.{fresh-by, keeps-by}
-use Rattle.csub_run.proofs.runner.ProgramRun.new.Goals as goal
+use Rattle.csub_run.proofs.runner.CRunner.new.Goals as goal
 
 pub invariant_of-result : goal.invariant_of-result
 invariant_of-result c =

@@ -6,7 +6,8 @@ use Rattle.csub_text.specs.Names.{declared}
 use Rattle.run_steps.specs.Slots.{value_at}
 use Rattle.csub_run.specs.Runners.{Runner, Resets}
 use Rattle.csub_run.proofs.Machines.{wide-first, outputs-low, fresh-by, keeps-by}
-use Rattle.csub_run.proofs.runner.ProgramRun.reset.Goals as goal
+use Rattle.csub_run.proofs.Showing.{put_back}
+use Rattle.csub_run.proofs.runner.CRunnerRunner.reset.Goals as goal
 
 pub put_front-requires : goal.put_front-requires
 put_front-requires c =
@@ -33,8 +34,8 @@ invariant_of-self c =
     ∙ c.take_values.ensures ∙ ap (λ v. map (value_at v) c.deref-2.result.now) c.deref-3.ensures.value ∙ ap (map (value_at _)) c.deref-2.ensures.value in
     keeps-by _ c.self.invariant.names_fit c.self.invariant.plan wide shown
 
-pub returns : goal.returns
-returns c =
+pub returns-clause-put_back : goal.returns-clause-put_back
+returns-clause-put_back c =
     let code = c.self.inside.program in
     let p = program_of code in
     let n = length (declared p) in
@@ -45,4 +46,4 @@ returns c =
     let new = with_items c.self.inside.values c.put_front.new.values in
     let is = ap (take n) begun ∙ ap (λ k. take k c.put_front.new.values) (sym count) ∙ c.put_front.ensures.front ∙ front in
     let next : Runner = record { code = code; values = take n new.items } in
-    subst (λ r. Resets r next) c.self.view_is (record { same = refl; fresh = fresh-by code (take n new.items) is })
+    put_back c.args.self.now next (subst (λ r. Resets r next) c.self.view_is (record { same = refl; fresh = fresh-by code (take n new.items) is }))

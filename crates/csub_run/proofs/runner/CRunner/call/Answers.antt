@@ -9,7 +9,7 @@ use Rattle.run_steps.specs.Plans.{term_value}
 use Rattle.csub_run.specs.Plans.{put_all}
 use Rattle.csub_run.specs.Runners.{Runner, Reacts}
 use Rattle.csub_run.proofs.Machines.{inputs-low, outputs-low, called-front, body-made, body-says, reacts-by, keeps-by}
-use Rattle.csub_run.proofs.runner.ProgramRun.react.Goals as goal
+use Rattle.csub_run.proofs.runner.CRunner.call.Goals as goal
 
 pub put_values-requires-clause-within : goal.put_values-requires-clause-within
 put_values-requires-clause-within c =
