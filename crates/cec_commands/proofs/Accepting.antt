@@ -40,8 +40,6 @@ use Rattle.csub_guard_read.proofs.Exports as guardeds_read
 use Rattle.csub_guard_run.specs.CountedRuns.{RunsCounted}
 use Rattle.csub_guard_run.specs.ProgramAnswers as guarded_answers
 use Rattle.csub_guard_run.specs.Texts as guarded_texts
-use Rattle.csub_guard_run.specs.declared.language.GuardedTextFault as guardeds
-use Rattle.csub_guard_run.specs.declared.language.GuardedTextFault.TheVariants as guarded_faults
 use Rattle.vlog_read.specs.declared.refusal.VlogFault.TheVariants as v_faults
 use Rattle.vlog_read.proofs.ReadBack as modules_read
 use Rattle.vlog_read.specs.declared.refusal.VlogFault.{VlogFault}
@@ -398,12 +396,13 @@ guarded_lacks : (bytes : List ℕ) (fault : GuardedFault) → IsTextIn guarded_r
     → guarded_laws.LacksRoom bytes fault
 guarded_lacks bytes fault t h = (guardeds_read.described-are-read bytes t.program t.read.describes).refusals fault h
 
-guarded_no_fault : (bytes : List ℕ) (fault : guardeds.GuardedTextFault) → IsTextIn guarded_reads.ReadsAs bytes → guarded_texts.IsTextFault bytes fault → ⊥
-guarded_no_fault bytes (guarded_faults.Syntax place) t h = guarded_lacks bytes (g_faults.Syntax place) t (t.read.short, h)
-guarded_no_fault bytes (guarded_faults.Twice name) t h = guarded_lacks bytes (g_faults.Twice name) t (t.read.short, h)
-guarded_no_fault bytes (guarded_faults.Undeclared name) t h = guarded_lacks bytes (g_faults.Undeclared name) t (t.read.short, h)
-guarded_no_fault bytes (guarded_faults.Again name) t h = guarded_lacks bytes (g_faults.Again name) t (t.read.short, h)
-guarded_no_fault bytes (guarded_faults.Unset name) t h = guarded_lacks bytes (g_faults.Unset name) t (t.read.short, h)
+guarded_no_fault : (bytes : List ℕ) (fault : GuardedFault) → IsTextIn guarded_reads.ReadsAs bytes → guarded_texts.IsTextFault bytes fault → ⊥
+guarded_no_fault bytes (g_faults.Syntax place) t h = guarded_lacks bytes (g_faults.Syntax place) t (t.read.short, h)
+guarded_no_fault bytes (g_faults.Twice name) t h = guarded_lacks bytes (g_faults.Twice name) t (t.read.short, h)
+guarded_no_fault bytes (g_faults.Undeclared name) t h = guarded_lacks bytes (g_faults.Undeclared name) t (t.read.short, h)
+guarded_no_fault bytes (g_faults.Again name) t h = guarded_lacks bytes (g_faults.Again name) t (t.read.short, h)
+guarded_no_fault bytes (g_faults.Unset name) t h = guarded_lacks bytes (g_faults.Unset name) t (t.read.short, h)
+guarded_no_fault bytes _ t h = h
 
 module_no_fault : (bytes : List ℕ) (fault : VlogFault) → IsTextIn module_texts.ReadsModule bytes → module_texts.IsTextFault bytes fault → ⊥
 module_no_fault bytes (v_faults.Syntax place) t h = read_no_fault bytes (v_faults.Syntax place) t (t.read.is_read.short, h)

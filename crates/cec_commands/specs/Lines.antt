@@ -8,8 +8,8 @@ use Rattle.run_trace_io.specs.declared.faults.TraceFault.{TraceFault}
 use Rattle.run_trace_io.specs.declared.faults.TraceFault.TheVariants as traces
 use Rattle.csub_read.specs.declared.refusal.CFault.{CFault}
 use Rattle.csub_read.specs.declared.refusal.CFault.TheVariants.{TooLong, Syntax, Twice, Undeclared, Unset}
-use Rattle.csub_guard_run.specs.declared.language.GuardedTextFault as guardeds
-use Rattle.csub_guard_run.specs.declared.language.GuardedTextFault.TheVariants as guarded_faults
+use Rattle.csub_guard_read.specs.declared.refusal.GuardedFault.{GuardedFault}
+use Rattle.csub_guard_read.specs.declared.refusal.GuardedFault.TheVariants as guarded_faults
 use Rattle.vlog_read.specs.declared.refusal.VlogFault.{VlogFault}
 use Rattle.vlog_read.specs.declared.refusal.VlogFault.TheVariants as module_faults
 use Rattle.cec_commands.specs.declared.text_faults.TextFault.{TextFault}
@@ -72,7 +72,8 @@ program_fault_text (Twice name) = codes "declared twice: " ++ name
 program_fault_text (Undeclared name) = codes "undeclared: " ++ name
 program_fault_text (Unset name) = codes "unset: " ++ name
 
-abbrev pub guarded_fault_text : guardeds.GuardedTextFault → List ℕ
+abbrev pub guarded_fault_text : GuardedFault → List ℕ
+guarded_fault_text guarded_faults.TooLong = codes "limit: text"
 guarded_fault_text (guarded_faults.Syntax place) = codes "byte " ++ (decimal place ++ codes ": syntax")
 guarded_fault_text (guarded_faults.Twice name) = codes "declared twice: " ++ name
 guarded_fault_text (guarded_faults.Undeclared name) = codes "undeclared: " ++ name

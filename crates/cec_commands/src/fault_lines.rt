@@ -10,7 +10,7 @@ use crate::text_faults::TextFault;
 use crate::unknown_wires::UnknownWires;
 use base_types::{Sink, SinkFault, write_pieces};
 use cec_text_io::{put_blif_fault, put_loop};
-use csub_guard_run::GuardedTextFault as GuardedFault;
+use csub_guard_read::GuardedFault;
 use csub_read::CFault;
 use itoa::Buffer;
 use run_trace_io::TraceFault;
@@ -117,9 +117,7 @@ fn put_program_fault<E: Sink>(err: &mut E, fault: &CFault) -> Result<(), SinkFau
         CFault::Undeclared(name) => {
             write_pieces(err, &[b"cec: ", b"undeclared: ", name.bytes(), b"\n"])
         }
-        CFault::Unset(name) => {
-            write_pieces(err, &[b"cec: ", b"unset: ", name.bytes(), b"\n"])
-        }
+        CFault::Unset(name) => { write_pieces(err, &[b"cec: ", b"unset: ", name.bytes(), b"\n"]) }
     }
 }
 
@@ -129,6 +127,7 @@ fn put_guarded_fault<E: Sink>(err: &mut E, fault: &GuardedFault) -> Result<(), S
         (codes "cec: " ++ (guarded_fault_text fault.now ++ codes "\n")) result }
 {
     match fault {
+        GuardedFault::TooLong => write_pieces(err, &[b"cec: ", b"limit: text", b"\n"]),
         GuardedFault::Syntax(place) => put_numbered(err, b"byte ", *place, b": syntax", b""),
         GuardedFault::Twice(name) => {
             write_pieces(err, &[b"cec: ", b"declared twice: ", name.bytes(), b"\n"])

@@ -6,7 +6,7 @@ ghost use Rattle.cec_commands.specs.declared.text_faults.TextFault.TheVariants.{
 ghost use Rattle.cec_commands.specs.declared.text_faults.TextFault.TheVariants.{Verilog as of_verilog};
 
 use blif_read::BlifFault;
-use csub_guard_run::GuardedTextFault as GuardedFault;
+use csub_guard_read::GuardedFault;
 use csub_read::CFault;
 use thiserror::Error;
 use vlog_read::VlogFault;

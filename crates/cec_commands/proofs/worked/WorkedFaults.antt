@@ -15,7 +15,7 @@ use Rattle.cec_commands.specs.Outcomes.{ExecutesIn, MakesOn}
 use Rattle.cec_commands.specs.Statuses.{status_of, outcome_of}
 use Rattle.csub_read.specs.declared.refusal.CFault.TheVariants as programs
 use Rattle.grc_graph.specs.PlainWireNames.{wire_name_of}
-use Rattle.csub_guard_run.specs.declared.language.GuardedTextFault.TheVariants as guardeds
+use Rattle.csub_guard_read.specs.declared.refusal.GuardedFault.TheVariants as guardeds
 use Rattle.vlog_read.specs.declared.refusal.VlogFault.TheVariants as modules
 
 abbrev subject : Subject

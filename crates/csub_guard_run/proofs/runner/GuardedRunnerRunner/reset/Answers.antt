@@ -5,11 +5,14 @@ use Rattle.csub_guard.specs.Names.{declared}
 use Rattle.csub_guard.specs.Views.{program_of}
 use Rattle.csub_run.proofs.Exports.{wide-first, outputs-low}
 use Rattle.run_steps.specs.Slots.{value_at}
-use Rattle.csub_guard_run.specs.Runners.{Runner, Resets}
+use Rattle.csub_guard_run.specs.Runners.{Resets}
+use Rattle.csub_guard_run.specs.Showing.{Counter}
+use Rattle.csub_guard_run.specs.Totals.{worth_of}
+use Rattle.csub_guard_run.proofs.Showing.{put_back, reset_passes}
 use Rattle.csub_guard_run.proofs.Bodies.{names-low}
 use Rattle.csub_guard_run.proofs.Keeping.{shell, fresh-by, keeps-by}
 use Rattle.csub_guard_run.proofs.Tracks.{track-fits}
-use Rattle.csub_guard_run.proofs.runner.GuardedRun.reset.Goals as goal
+use Rattle.csub_guard_run.proofs.runner.GuardedRunnerRunner.reset.Goals as goal
 
 pub put_front-requires : goal.put_front-requires
 put_front-requires c =
@@ -39,10 +42,10 @@ invariant_of-self c =
     let shown = with_items_is c.self.inside.outputs c.take_values.new.taken (c.take_values.auto.taken ∙ c.deref_mut-2.ensures.len)
     ∙ c.take_values.ensures ∙ ap (λ v. map (value_at v) c.deref-2.result.now) c.deref-3.ensures.value ∙ ap (map (value_at _)) c.deref-2.ensures.value in
     keeps-by _ c.self.invariant.names_fit c.self.invariant.plan (omega (arith, wide, c.self.invariant.each_slot))
-    shown
+    shown c.self.invariant.room
 
-pub returns : goal.returns
-returns c =
+pub returns-clause-put_back : goal.returns-clause-put_back
+returns-clause-put_back c =
     let code = c.self.inside.program in
     let p = program_of code in
     let n = length (declared p) in
@@ -52,5 +55,22 @@ returns c =
     let count = ap length front ∙ wide-first (shell p) in
     let new = with_items c.self.inside.values c.put_front.new.values in
     let is = ap (take n) begun ∙ ap (λ k. take k c.put_front.new.values) (sym count) ∙ c.put_front.ensures.front ∙ front in
-    let next : Runner = record { code = code; values = take n new.items; count = 0 } in
-    subst (λ r. Resets r next) c.self.view_is (record { same = refl; fresh = fresh-by code (take n new.items) 0 is refl })
+    let next : Counter = record { calls = record { code = code; values = take n new.items; count = 0 }; total = worth_of c.self.inside.total } in
+    put_back c.args.self.now next (subst (λ (m : Counter). Resets m.calls next.calls) c.self.view_is
+    (record { same = refl; fresh = fresh-by code (take n new.items) 0 is refl }))
+
+pub returns-clause-passes : goal.returns-clause-passes
+returns-clause-passes c =
+    let code = c.self.inside.program in
+    let p = program_of code in
+    let n = length (declared p) in
+    let plan = c.self.invariant.plan in
+    let begun = with_items_is c.self.inside.values c.put_front.new.values (c.put_front.auto.values ∙ c.deref_mut.ensures.len) in
+    let front = c.deref.ensures.value ∙ plan.initial_is in
+    let count = ap length front ∙ wide-first (shell p) in
+    let new = with_items c.self.inside.values c.put_front.new.values in
+    let is = ap (take n) begun ∙ ap (λ k. take k c.put_front.new.values) (sym count) ∙ c.put_front.ensures.front ∙ front in
+    let next : Counter = record { calls = record { code = code; values = take n new.items; count = 0 }; total = worth_of c.self.inside.total } in
+    reset_passes c.args.self.now next (subst (λ (m : Counter). Resets m.calls next.calls) c.self.view_is
+    (record { same = refl; fresh = fresh-by code (take n new.items) 0 is refl }))
+    (ap (λ (m : Counter). m.total) c.self.view_is)

@@ -9,11 +9,13 @@ use Rattle.run_steps.specs.Plans.{term_value}
 use Rattle.run_steps.specs.Slots.{value_at}
 use Rattle.csub_guard_run.specs.Runners.{Reacts}
 use Rattle.csub_guard_run.specs.Runs.{BodyFits}
+use Rattle.csub_guard_run.specs.Showing.{Counter, IsSum}
+use Rattle.csub_guard_run.specs.Totals.{worth_of}
 use Rattle.csub_guard_run.specs.declared.track.Jump.{Jump}
 use Rattle.csub_guard_run.proofs.Bodies.{names-low}
 use Rattle.csub_guard_run.proofs.Keeping.{shell, called-by, keeps-by, reacts-by, tests-fit}
 use Rattle.csub_guard_run.proofs.Tracks.{track-made, track-counted, track-fits, track-ordered, track-tests}
-use Rattle.csub_guard_run.proofs.runner.GuardedRun.react.Goals as goal
+use Rattle.csub_guard_run.proofs.runner.GuardedRunner.call.Goals as goal
 
 pub put_values-requires-clause-within : goal.put_values-requires-clause-within
 put_values-requires-clause-within c =
@@ -85,11 +87,11 @@ invariant_of-self c =
     ∙ ap length c.deref_mut.ensures.value in
     let shown = with_items_is c.self.inside.outputs c.take_values.new.taken (c.take_values.auto.taken ∙ c.deref_mut-3.ensures.len)
     ∙ c.take_values.ensures ∙ ap (λ v. map (value_at v) c.deref-2.result.now) c.deref-3.ensures.value ∙ ap (map (value_at _)) c.deref-2.ensures.value in
-    keeps-by _ c.self.invariant.names_fit c.self.invariant.plan (omega (arith, wide, c.self.invariant.each_slot))
-    shown
+    keeps-by _ c.self.invariant.names_fit c.self.invariant.plan (omega (arith, wide, c.self.invariant.each_slot)) shown
+    c.sum_of-self-inside.ensures.room
 
-pub returns : goal.returns
-returns c =
+pub returns-clause-reacts : goal.returns-clause-reacts
+returns-clause-reacts c =
     let code = c.self.inside.program in
     let p = program_of code in
     let plan = c.self.invariant.plan in
@@ -111,7 +113,13 @@ returns c =
     (c.run_track-self-inside.ensures.values ∙ track-made plan.body c.self.inside.plan.track begun plan.track_is) in
     let new = with_items (with_items c.self.inside.values c.put_values.new.values) c.run_track-self-inside.new.values in
     let answer = c.value.ensures ∙ ap (term_value c.self.inside.plan.answer) (c.deref-4.ensures.value ∙ ended) in
-    subst (λ r. Reacts r inputs c.value.result (record { code = code; values = take n new.items; count = c.run_track-self-inside.result })) c.self.view_is
+    subst (λ (m : Counter). Reacts m.calls inputs c.value.result (record { code = code; values = take n new.items; count = c.run_track-self-inside.result }))
+    c.self.view_is
     (reacts-by code plan.body c.self.inside.plan.answer inputs values begun c.run_track-self-inside.new.values new.items c.self.inside.count
     c.run_track-self-inside.result c.value.result called ended
     (c.run_track-self-inside.ensures.count ∙ track-counted plan.body c.self.inside.plan.track begun plan.track_is) answer)
+
+pub returns-clause-sum : goal.returns-clause-sum
+returns-clause-sum c =
+    subst (λ total. IsSum total c.run_track-self-inside.result (worth_of c.sum_of-self-inside.result)) (ap (λ (m : Counter). m.total) c.self.view_is)
+    c.sum_of-self-inside.ensures.sum
