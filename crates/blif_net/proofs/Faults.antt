@@ -7,11 +7,12 @@ use Rattle.blif_run.specs.CircuitAnswers.{tells_pause, listed_count, listed_name
 use Rattle.std.specs.Result.{OnOk}
 use Rattle.base_types.specs.declared.stop.Stop.{Stop}
 use Rattle.base_types.specs.declared.stop.Stop.TheVariants.{Fault, NoMemory}
-use Rattle.base_types.specs.Stops.{IfFault}
+use Rattle.base_types.specs.Stops.{FaultIs, IfFault}
 use Rattle.net_ir.specs.NameLists.{first_again}
 use Rattle.blif_text.specs.Circuits.{Circuit}
-use Rattle.blif_net.specs.declared.fault.CircuitFault.{CircuitFault}
-use Rattle.blif_net.specs.declared.fault.CircuitFault.TheVariants.{NoPause, Model, Input, Output, Again, Loop, TooManyNets}
+use Rattle.blif_read.specs.declared.fault.BlifFault.{BlifFault}
+use Rattle.blif_read.specs.declared.fault.BlifFault.TheVariants.{Again, Loop}
+use Rattle.blif_run.specs.Loops.{LoopFault}
 use Rattle.blif_net.specs.Checking.{IsAgain}
 use Rattle.blif_net.specs.Interfaces.{IsFirstWithout, NamesFit, IsFit, HasName, IsCircuitFault}
 
@@ -52,19 +53,20 @@ map-same [] = refl
 map-same (x ∷ xs) = ap (λ l. x ∷ l) (map-same xs)
 
 -- behind the last check: the names fit, or one stands again
-pub once-fits : {T : Type 0} (c : Circuit) (r : Result T (Stop CircuitFault)) → NamesFit c → All (HasName c.inputs) (listed_names c.outputs)
+pub once-fits : {T : Type 0} (c : Circuit) (r : Result T (Stop BlifFault)) → NamesFit c → All (HasName c.inputs) (listed_names c.outputs)
     → OnOk r (first_again [] (listed_names c.outputs) ≡ None) → OnOk r (IsFit c)
 once-fits c (Ok x) names outputs once = record { names = names; outputs = outputs; once = once }
 once-fits c (Err stop) names outputs once = tt
 
-pub once-fault : {T : Type 0} (c : Circuit) (r : Result T (Stop CircuitFault)) → NamesFit c → All (HasName c.inputs) (listed_names c.outputs)
+pub once-fault : {T : Type 0} (c : Circuit) (r : Result T (Stop BlifFault)) → NamesFit c → All (HasName c.inputs) (listed_names c.outputs)
     → IfFault r (IsAgain (listed_names c.outputs)) → IfFault r (IsCircuitFault c)
 once-fault c (Ok x) names outputs is = tt
 once-fault c (Err NoMemory) names outputs is = tt
-once-fault c (Err (Fault NoPause)) names outputs is = absurd is
-once-fault c (Err (Fault (Model name))) names outputs is = absurd is
-once-fault c (Err (Fault (Input name))) names outputs is = absurd is
-once-fault c (Err (Fault (Output word))) names outputs is = absurd is
 once-fault c (Err (Fault (Again word))) names outputs is = record { names = names; outputs = outputs; again = is }
-once-fault c (Err (Fault (Loop cycle))) names outputs is = absurd is
-once-fault c (Err (Fault TooManyNets)) names outputs is = absurd is
+once-fault c (Err (Fault _)) names outputs is = absurd is
+
+-- a combinational cycle, where the names fit
+pub loop-fits : (c : Circuit) (stop : Stop BlifFault) → IsFit c → FaultIs (LoopFault c) stop → FaultIs (IsCircuitFault c) stop
+loop-fits c (Fault (Loop names)) fits is = record { fits = fits; cycle = is }
+loop-fits c (Fault _) fits is = absurd is
+loop-fits c NoMemory fits is = tt

@@ -6,9 +6,9 @@ use Rattle.blif_text.specs.Circuits.{Circuit}
 use Rattle.blif_text.specs.OutputNames.{output_word}
 use Rattle.blif_run.specs.CircuitAnswers.{tells_pause, listed_names}
 use Rattle.blif_run.specs.Loops.{IsLoop, HasNoLoop}
-use Rattle.blif_net.specs.declared.fault.CircuitFault.{CircuitFault}
-use Rattle.blif_net.specs.declared.fault.CircuitFault.TheVariants.{NoPause, Model, Input, Output, Again, Loop}
-use Rattle.blif_net.specs.declared.fault.CircuitFault.TheVariants.{TooManyNets}
+use Rattle.blif_read.specs.declared.fault.BlifFault.{BlifFault}
+use Rattle.blif_read.specs.declared.fault.BlifFault.TheVariants.{NoPause, Model, Input, Output, Again, Loop}
+use Rattle.blif_read.specs.declared.fault.BlifFault.TheVariants.{TooManyNets}
 use Rattle.blif_net.specs.Sizes.{nets_at_most}
 
 -- a word is that of an output of a netlist with these inputs
@@ -65,7 +65,7 @@ pub record IsLargeFault (c : Circuit) : Type 0 where
   pub large : 2 ^ 32 < nets_at_most c
 
 -- the first fault of a circuit
-abbrev pub IsCircuitFault : Circuit → CircuitFault → Type 0
+abbrev pub IsCircuitFault : Circuit → BlifFault → Type 0
 IsCircuitFault c NoPause = tells_pause c.outputs ≡ false
 IsCircuitFault c (Model name) = IsModelFault c name
 IsCircuitFault c (Input name) = IsInputFault c name
@@ -73,3 +73,4 @@ IsCircuitFault c (Output word) = IsOutputFault c word
 IsCircuitFault c (Again word) = IsAgainFault c word
 IsCircuitFault c (Loop names) = IsLoopFault c names.items
 IsCircuitFault c TooManyNets = IsLargeFault c
+IsCircuitFault c others = ⊥

@@ -12,8 +12,8 @@ ghost use Rattle.blif_text.specs.Runs.{driven_names};
 ghost use Rattle.blif_net.specs.Interfaces.{IsFit, IsCircuitFault, HasName};
 ghost use Rattle.blif_net.specs.Checking.{IsModel, IsInput, IsOutput, IsAgain};
 
-use crate::fault::CircuitFault;
 use base_types::{NoMemory, Stop, Text, is_letter, is_name_byte};
+use blif_read::BlifFault;
 use blif_run::{listed_count, tells_pause};
 use blif_text::Blif;
 use indexmap::IndexSet;
@@ -26,13 +26,13 @@ pub(crate) fn check_interface(
     alloc: Global,
     blif: &Blif,
     slots: &IndexSet<&[u8]>,
-) -> Result<(), Stop<CircuitFault>>
+) -> Result<(), Stop<BlifFault>>
     requires { map (λ k. k.now) slots.now.keys ≡ driven_names (plain_circuit blif.now) }
     ensures fits { OnOk result (IsFit (plain_circuit blif.now)) }
     ensures fault { IfFault result (IsCircuitFault (plain_circuit blif.now)) }
 {
     if !tells_pause(&blif.outputs) {
-        return Err(Stop::Fault(CircuitFault::NoPause));
+        return Err(Stop::Fault(BlifFault::NoPause));
     }
     check_model(alloc, &blif.name)?;
     check_inputs(alloc, &blif.inputs)?;
@@ -41,7 +41,7 @@ pub(crate) fn check_interface(
     check_once(alloc, listed)
 }
 
-fn check_model(alloc: Global, name: &Text) -> Result<(), Stop<CircuitFault>>
+fn check_model(alloc: Global, name: &Text) -> Result<(), Stop<BlifFault>>
     ensures fits { OnOk result (IsTrue (is_name name.now)) }
     ensures fault { IfFault result (IsModel name.now) }
 {
@@ -49,17 +49,17 @@ fn check_model(alloc: Global, name: &Text) -> Result<(), Stop<CircuitFault>>
         return Ok(());
     }
     let copy = Text::from_bytes(alloc, name.bytes())?;
-    Err(Stop::Fault(CircuitFault::Model(copy)))
+    Err(Stop::Fault(BlifFault::Model(copy)))
 }
 
-fn check_inputs(alloc: Global, inputs: &[Text]) -> Result<(), Stop<CircuitFault>>
+fn check_inputs(alloc: Global, inputs: &[Text]) -> Result<(), Stop<BlifFault>>
     ensures fit { OnOk result (All (λ name. IsTrue (is_name name)) inputs.now) }
     ensures fault { IfFault result (IsInput inputs.now) }
 {
     for input in inputs {
         if !is_name(input.bytes()) {
             let copy = Text::from_bytes(alloc, input.bytes())?;
-            return Err(Stop::Fault(CircuitFault::Input(copy)));
+            return Err(Stop::Fault(BlifFault::Input(copy)));
         }
     }
     Ok(())
@@ -71,7 +71,7 @@ fn check_outputs(
     inputs: &[Text],
     slots: &IndexSet<&[u8]>,
     words: &[Text],
-) -> Result<(), Stop<CircuitFault>>
+) -> Result<(), Stop<BlifFault>>
     requires slots { (others : List (List ℕ)) × (map (λ k. k.now) slots.now.keys ≡ inputs.now ++ others) }
     requires inputs { All (λ name. IsTrue (is_name name)) inputs.now }
     ensures named { OnOk result (All (HasName inputs.now) words.now) }
@@ -80,7 +80,7 @@ fn check_outputs(
     for word in words {
         if !has_name(inputs, slots, word.bytes()) {
             let copy = Text::from_bytes(alloc, word.bytes())?;
-            return Err(Stop::Fault(CircuitFault::Output(copy)));
+            return Err(Stop::Fault(BlifFault::Output(copy)));
         }
     }
     Ok(())
@@ -115,7 +115,7 @@ fn is_input(inputs: &[Text], slots: &IndexSet<&[u8]>, name: &[u8]) -> bool
 }
 
 // That no word stands a second time.
-fn check_once(alloc: Global, words: &[Text]) -> Result<(), Stop<CircuitFault>>
+fn check_once(alloc: Global, words: &[Text]) -> Result<(), Stop<BlifFault>>
     ensures once { OnOk result (first_again [] words.now ≡ None) }
     ensures fault { IfFault result (IsAgain words.now) }
 {
@@ -123,7 +123,7 @@ fn check_once(alloc: Global, words: &[Text]) -> Result<(), Stop<CircuitFault>>
     for word in words {
         if !seen.insert(word.bytes())? {
             let copy = Text::from_bytes(alloc, word.bytes())?;
-            return Err(Stop::Fault(CircuitFault::Again(copy)));
+            return Err(Stop::Fault(BlifFault::Again(copy)));
         }
     }
     Ok(())

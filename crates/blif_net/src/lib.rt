@@ -9,11 +9,9 @@
 mod assembling;
 mod conversion;
 mod drawing;
-mod fault;
 mod gates;
 mod interface;
 mod sizes;
 mod tables;
 
 pub use conversion::net_of_circuit;
-pub use fault::CircuitFault;

@@ -1,8 +1,7 @@
 -- Inner: the statements that the reader has taken, and the faults of its parts.
-use Rattle.std.specs.Prelude.{◌≡◌, ℕ, Bool, ⊤, List, [], ◌∷◌, find, Option, Some, None}
-use Rattle.blif_read.specs.declared.refusal.BlifError.{BlifError}
-use Rattle.blif_read.specs.declared.refusal.BlifError.TheVariants.{TooLong, NoMemory}
-use Rattle.blif_read.specs.declared.refusal.BlifError.TheVariants as answers
+use Rattle.std.specs.Prelude.{◌≡◌, ℕ, Bool, List, [], ◌∷◌, find, Option, Some, None}
+use Rattle.blif_read.specs.declared.fault.BlifFault.{BlifFault}
+use Rattle.blif_read.specs.declared.fault.BlifFault.TheVariants as faults
 use Rattle.blif_read.specs.declared.statements.Statement.{Statement}
 use Rattle.blif_read.specs.declared.statements.Statement.TheVariants as rust
 use Rattle.blif_text.specs.Statements as spec
@@ -26,26 +25,22 @@ last_of (s ∷ []) = Some s
 last_of (s ∷ t ∷ more) = last_of (t ∷ more)
 
 -- the line is the first that is refused
-abbrev pub LineFault : List ℕ → BlifError → Type 0
-LineFault text (answers.Line number) = refused_line text ≡ Some number
-LineFault text NoMemory = ⊤
+abbrev pub LineFault : List ℕ → BlifFault → Type 0
+LineFault text (faults.Line number) = refused_line text ≡ Some number
 LineFault text others = ⊥
 
 -- the name is the first that stands a second time
-abbrev pub AgainFault : List (List ℕ) → BlifError → Type 0
-AgainFault names (answers.TwoDrivers name) = first_again [] names ≡ Some name
-AgainFault names NoMemory = ⊤
+abbrev pub AgainFault : List (List ℕ) → BlifFault → Type 0
+AgainFault names (faults.TwoDrivers name) = first_again [] names ≡ Some name
 AgainFault names others = ⊥
 
 -- the name is the first that passes a test
-abbrev pub FoundFault : (List ℕ → Bool) → List (List ℕ) → BlifError → Type 0
-FoundFault test names (answers.NoDriver name) = find test names ≡ Some name
-FoundFault test names NoMemory = ⊤
+abbrev pub FoundFault : (List ℕ → Bool) → List (List ℕ) → BlifFault → Type 0
+FoundFault test names (faults.NoDriver name) = find test names ≡ Some name
 FoundFault test names others = ⊥
 
 -- the name is the first that is driven again, or else the first that is used and not driven
-abbrev pub DriverFault : List spec.Statement → BlifError → Type 0
-DriverFault statements (answers.TwoDrivers name) = driven_again statements ≡ Some name
-DriverFault statements (answers.NoDriver name) = (driven_again statements ≡ None) × (not_driven statements ≡ Some name)
-DriverFault statements NoMemory = ⊤
+abbrev pub DriverFault : List spec.Statement → BlifFault → Type 0
+DriverFault statements (faults.TwoDrivers name) = driven_again statements ≡ Some name
+DriverFault statements (faults.NoDriver name) = (driven_again statements ≡ None) × (not_driven statements ≡ Some name)
 DriverFault statements others = ⊥

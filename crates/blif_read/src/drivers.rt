@@ -1,57 +1,60 @@
 // Which names are driven and which are used.
 
-ghost use Rattle.std.specs.Prelude.{◌≡◌, ℕ, List, [], ◌++◌, None, map, flat_map, find, not, IfOk, IfErr, OnOk};
+ghost use Rattle.std.specs.Prelude.{◌≡◌, ℕ, List, [], ◌++◌, None, map, flat_map, find, not, IfOk, OnOk};
 ghost use Rattle.std.specs.HashSet.{contains_by};
 ghost use Rattle.base_types.specs.Names.{is_same_name};
+ghost use Rattle.base_types.specs.Stops.{IfFault};
 ghost use Rattle.net_ir.specs.NameLists.{is_among, first_again};
 ghost use Rattle.blif_text.specs.Circuits.{driven_by, used_by, driven_again, not_driven};
 ghost use Rattle.blif_read.specs.PlainStatements.{plain_statement, DriverFault, AgainFault, FoundFault};
 
-use crate::refusal::BlifError;
+use crate::fault::BlifFault;
 use crate::statements::Statement;
-use base_types::{NoMemory, Text};
+use base_types::{NoMemory, Stop, Text};
 use std::alloc::Global;
 use std::collections::HashSet;
 
 // That each name is driven once at most, and each one that is used is driven.
-pub fn check_drivers(alloc: Global, statements: &[Statement]) -> Result<(), BlifError>
+pub fn check_drivers(alloc: Global, statements: &[Statement]) -> Result<(), Stop<BlifFault>>
     ensures once { OnOk result (driven_again (map plain_statement statements.now) ≡ None) }
     ensures driven { OnOk result (not_driven (map plain_statement statements.now) ≡ None) }
-    ensures fault { IfErr result (DriverFault (map plain_statement statements.now)) }
+    ensures fault { IfFault result (DriverFault (map plain_statement statements.now)) }
 {
     let driven = driver_set(alloc, &driven_names(alloc, statements)?)?;
     check_used(alloc, &driven, &used_names(alloc, statements)?)
 }
 
 // The set of some names that are driven, where none stands twice.
-fn driver_set<'a>(alloc: Global, names: &[&'a [u8]]) -> Result<HashSet<&'a [u8]>, BlifError>
+fn driver_set<'a>(alloc: Global, names: &[&'a [u8]]) -> Result<HashSet<&'a [u8]>, Stop<BlifFault>>
     ensures once { OnOk result (first_again [] (map (λ w. w.now) names.now) ≡ None) }
     ensures members { IfOk result
         (λ set. (name : List ℕ) → contains_by (λ k. is_same_name name k.now) set
         ≡ is_among name (map (λ w. w.now) names.now)) }
-    ensures fault { IfErr result (AgainFault (map (λ w. w.now) names.now)) }
+    ensures fault { IfFault result (AgainFault (map (λ w. w.now) names.now)) }
 {
     let mut set = HashSet::new(alloc);
     for name in names {
         if !set.insert(*name)? {
-            return Err(BlifError::TwoDrivers(Text::from_bytes(alloc, name)?));
+            let copy = Text::from_bytes(alloc, name)?;
+            return Err(Stop::Fault(BlifFault::TwoDrivers(copy)));
         }
     }
     Ok(set)
 }
 
 // That each of some names is driven.
-fn check_used(alloc: Global, driven: &HashSet<&[u8]>, used: &[&[u8]]) -> Result<(), BlifError>
+fn check_used(alloc: Global, driven: &HashSet<&[u8]>, used: &[&[u8]]) -> Result<(), Stop<BlifFault>>
     ensures all { OnOk result
         (find (λ name. not (contains_by (λ k. is_same_name name k.now) driven.now)) (map (λ w. w.now) used.now)
         ≡ None) }
-    ensures fault { IfErr result
+    ensures fault { IfFault result
         (FoundFault (λ name. not (contains_by (λ k. is_same_name name k.now) driven.now))
         (map (λ w. w.now) used.now)) }
 {
     for name in used {
         if !driven.contains(*name) {
-            return Err(BlifError::NoDriver(Text::from_bytes(alloc, name)?));
+            let copy = Text::from_bytes(alloc, name)?;
+            return Err(Stop::Fault(BlifFault::NoDriver(copy)));
         }
     }
     Ok(())

@@ -6,11 +6,11 @@
 
 mod draft;
 mod drivers;
+mod fault;
 mod lines;
 mod reader;
-mod refusal;
 mod statements;
 mod words;
 
+pub use fault::BlifFault;
 pub use reader::read_blif;
-pub use refusal::BlifError;

@@ -1,9 +1,10 @@
 // From a text to the circuit that it describes.
 
-ghost use Rattle.std.specs.Prelude.{◌≡◌, ℕ, ◌≤◌, List, [], ◌++◌, None, Some, length, map, filter_map, not, IfOk, IfErr};
+ghost use Rattle.std.specs.Prelude.{◌≡◌, ℕ, ◌≤◌, List, [], ◌++◌, None, Some, length, map, filter_map, not, IfOk};
 ghost use Rattle.std.specs.Prelude.{if◌then◌else◌};
 ghost use Rattle.std.specs.Bool.{OnTrue};
 ghost use Rattle.std.specs.Option.{option_copied, option_map, option_to_list};
+ghost use Rattle.base_types.specs.Stops.{IfFault};
 ghost use Rattle.blif_text.specs.Statements.{Said, said_in, is_end, is_refused, may_follow, first_refused};
 ghost use Rattle.blif_text.specs.Statements.{refused_line};
 ghost use Rattle.blif_text.specs.Circuits.{statements};
@@ -13,11 +14,11 @@ ghost use Rattle.blif_read.specs.Reads.{ReadsAs, ReadsFault};
 
 use crate::draft::circuit;
 use crate::drivers::check_drivers;
+use crate::fault::BlifFault;
 use crate::lines::{Line, Rest, next_line};
-use crate::refusal::BlifError;
 use crate::statements::{Statement, line_statement};
 use crate::words::{is_clean, words};
-use base_types::{Limits, NoMemory};
+use base_types::{Limits, NoMemory, Stop};
 use blif_text::Blif;
 use std::alloc::Global;
 
@@ -30,12 +31,12 @@ use std::alloc::Global;
 ///
 /// Example: the lines `.model M`, `.inputs A`, `.outputs O`, `.names A O`, `1 1` and `.end` describe a circuit
 /// whose output is its input.
-pub fn read_blif(alloc: Global, text: &[u8]) -> Result<Blif, BlifError>
+pub fn read_blif(alloc: Global, text: &[u8]) -> Result<Blif, Stop<BlifFault>>
     ensures reads { IfOk result (ReadsAs text.now) }
-    ensures refuses { IfErr result (ReadsFault text.now) }
+    ensures refuses { IfFault result (ReadsFault text.now) }
 {
     if Limits::TEXT_BYTES < text.len() as u64 {
-        return Err(BlifError::TooLong);
+        return Err(Stop::Fault(BlifFault::TooLong));
     }
     let statements = read_statements(alloc, text)?;
     check_drivers(alloc, &statements)?;
@@ -43,11 +44,11 @@ pub fn read_blif(alloc: Global, text: &[u8]) -> Result<Blif, BlifError>
 }
 
 // What the lines of a text say, one after another, where no line is refused.
-fn read_statements(alloc: Global, text: &[u8]) -> Result<Vec<Statement>, BlifError>
+fn read_statements(alloc: Global, text: &[u8]) -> Result<Vec<Statement>, Stop<BlifFault>>
     requires { length text.now ≤ Limits.TEXT_BYTES }
     ensures lines { IfOk result (λ all. refused_line text.now ≡ None) }
     ensures statements { IfOk result (λ all. statements text.now ≡ map plain_statement all.items) }
-    ensures fault { IfErr result (LineFault text.now) }
+    ensures fault { IfFault result (LineFault text.now) }
 {
     let mut statements = Vec::new(alloc);
     let mut rest = Rest {
@@ -57,13 +58,13 @@ fn read_statements(alloc: Global, text: &[u8]) -> Result<Vec<Statement>, BlifErr
     'lines: while let Some(line) = next_line(alloc, &mut rest)? {
         let taken = take_line(alloc, &line, &mut statements)?;
         if !taken {
-            return Err(BlifError::Line(line.number));
+            return Err(Stop::Fault(BlifFault::Line(line.number)));
         }
     }
     if is_ended(&statements) {
         Ok(statements)
     } else {
-        Err(BlifError::Line(rest.number))
+        Err(Stop::Fault(BlifFault::Line(rest.number)))
     }
 }
 

@@ -17,18 +17,12 @@ use Rattle.blif_text.specs.Written.{input_word, output_word, latch_word, gate_wo
 use Rattle.blif_text.specs.Written.{net_latch, copy_table, input_table}
 use Rattle.blif_text.specs.Written.{gate_table, output_table, net_tables, net_circuit}
 use Rattle.blif_text.proofs.Exports.{shown_words, input_words, latch_words, gate_words, net_words, net_word-at, driven-net, names-differ, reading-written}
-use Rattle.base_types.specs.declared.bounds.TheConstants.Limits.{TEXT_BYTES}
-use Rattle.blif_read.specs.declared.refusal.BlifError.{BlifError}
-use Rattle.blif_read.specs.declared.refusal.BlifError.TheVariants as answers
 use Rattle.blif_text.specs.Circuits.{reading}
-use Rattle.blif_read.specs.Reads.{ReadsFault}
 use Rattle.blif_text.specs.Written.{written, Means}
 use Rattle.net_ir.proofs.Exports.{length-numbered, get_or-numbered, net_cases}
 use Rattle.net_ir.specs.Numbered.{numbered}
 use Rattle.net_ir.specs.Writing.{IsWritable}
-use Rattle.blif_run.specs.declared.refusal.RunError.{RunError}
-use Rattle.blif_run.specs.declared.refusal.RunError.TheVariants as errors
-use Rattle.blif_run.specs.Loops.{HasNoLoop, LoopFault, equation_of}
+use Rattle.blif_run.specs.Loops.{HasNoLoop, equation_of}
 use Rattle.blif_run.specs.Tracing.{IsCircuitOf}
 use Rattle.run_steps.specs.Equations.{NameEquation}
 use Rattle.run_steps.proofs.Exports.{place-at, IsRising, rising-no_loop}
@@ -323,17 +317,3 @@ pub written-circuit : (net : Netlist) → IsWritable net → (text : List ℕ) (
 written-circuit net is text circuit spelled means reads =
     let same : net_circuit net ≡ circuit = let both = sym (reading-written net is) ∙ ap reading (sym spelled) ∙ reads in cc both in
     record { text = text; means = means; reads = reads; acyclic = subst (λ c. HasNoLoop c) same (net-no_loop net is) }
-
--- where a text describes a circuit, its reader fails for want of memory alone
-pub reader-lacks : (text : List ℕ) (circuit : Circuit) (error : BlifError) → length text ≤ TEXT_BYTES → reading text ≡ Ok circuit → ReadsFault text error
-    → error ≡ answers.NoMemory
-reader-lacks text circuit answers.TooLong short reads fault = absurd (omega (arith, short, fault))
-reader-lacks text circuit (answers.Line number) short reads fault = let both = sym reads ∙ fault.1 in cc both
-reader-lacks text circuit (answers.TwoDrivers name) short reads fault = let both = sym reads ∙ fault.1 in cc both
-reader-lacks text circuit (answers.NoDriver name) short reads fault = let both = sym reads ∙ fault.1 in cc both
-reader-lacks text circuit answers.NoMemory short reads fault = refl
-
--- where a circuit has no combinational cycle, its runner fails for want of memory alone
-pub runner-lacks : (circuit : Circuit) (error : RunError) → HasNoLoop circuit → LoopFault circuit error → error ≡ errors.NoMemory
-runner-lacks circuit (errors.Loop names) acyclic fault = absurd (acyclic names.items fault)
-runner-lacks circuit errors.NoMemory acyclic fault = refl

@@ -6,6 +6,7 @@ use Rattle.blif_text.specs.Circuits.{Circuit, CircuitLatch}
 use Rattle.blif_text.specs.Runs.{IsInstant, driven_names, circuit_latches}
 use Rattle.blif_text.proofs.Exports.{IsSound}
 use Rattle.run_steps.specs.Equations.{NameEquation}
+use Rattle.run_steps.specs.Slots.{slot_in}
 use Rattle.run_steps.specs.Steps.{AreSolved}
 use Rattle.run_steps.specs.Registers.{Frame, Advances, IsBegun}
 use Rattle.run_steps.proofs.Exports.{IsEquational, IsOnlyOne, all-made, all-of-made, decided, solved-only}
@@ -59,3 +60,9 @@ fresh-by c r initial wide begun = record {
   latches_initial = begun.registers ∙ initial;
   outputs_false = begun.outputs ∙ ap (λ n. replicate n false) wide;
 }
+
+-- each output has a value after a reaction
+pub advanced-wide : (c : Circuit) (old new : Frame) (inputs : List Bool) → IsPlan c old.plan old.sources old.shown → Advances old inputs new
+    → length new.outputs ≡ length c.outputs
+advanced-wide c old new inputs plan adv =
+    ap length adv.outputs ∙ length-map old.shown _ ∙ ap length plan.shown_are.are ∙ length-map c.outputs (slot_in (driven_names c))

@@ -1,7 +1,7 @@
 -- To believe: combinational cycles of a circuit, and what is asked of a circuit that is run.
-use Rattle.std.specs.Prelude.{◌≡◌, ℕ, ⊤, List, map, Ok}
-use Rattle.blif_run.specs.declared.refusal.RunError.{RunError}
-use Rattle.blif_run.specs.declared.refusal.RunError.TheVariants.{Loop, NoMemory}
+use Rattle.std.specs.Prelude.{◌≡◌, ℕ, List, map, Ok}
+use Rattle.blif_read.specs.declared.fault.BlifFault.{BlifFault}
+use Rattle.blif_read.specs.declared.fault.BlifFault.TheVariants.{Loop}
 use Rattle.blif_text.specs.Circuits.{Circuit, Table, reading}
 use Rattle.blif_text.specs.Runs.{table_value}
 use Rattle.run_steps.specs.Equations as equations
@@ -26,7 +26,7 @@ IsLoop circuit names = equations.IsEquationLoop (equations_of circuit) names
 abbrev pub HasNoLoop : Circuit → Type 0
 HasNoLoop circuit = equations.HasNoEquationLoop (equations_of circuit)
 
--- the names are a combinational cycle; out of memory has no cause in the circuit
-abbrev pub LoopFault : Circuit → RunError → Type 0
+-- the fault is a combinational cycle of the circuit
+abbrev pub LoopFault : Circuit → BlifFault → Type 0
 LoopFault circuit (Loop names) = IsLoop circuit names.items
-LoopFault circuit NoMemory = ⊤
+LoopFault circuit others = ⊥

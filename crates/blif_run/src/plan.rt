@@ -1,15 +1,16 @@
 // The plan of a circuit's reactions: its tables as steps in order, and which slots the latches and outputs take.
 
-ghost use Rattle.std.specs.Prelude.{IfOk, IfErr, OnOk};
+ghost use Rattle.std.specs.Prelude.{IfOk, OnOk};
+ghost use Rattle.base_types.specs.Stops.{IfFault};
 ghost use Rattle.blif_text.specs.Plain.{plain_circuit};
 ghost use Rattle.blif_run.specs.Loops.{IsDescribed, LoopFault, HasNoLoop, equations_of};
 ghost use Rattle.run_steps.specs.Solvers.{AreOrdered, AreResolved};
 ghost use Rattle.blif_run.specs.Plans.{IsPlan, given_names};
 
-use crate::refusal::RunError;
 use crate::slots::{driven_names, slots_read, source_slots};
 use crate::truths::table_plan;
 use base_types::{NoMemory, Stop};
+use blif_read::BlifFault;
 use blif_text::Blif;
 use run_steps::{Plan, Resolved, evaluation_order, slot_table, slots_of};
 use std::alloc::Global;
@@ -25,18 +26,15 @@ pub struct CircuitPlan {
 }
 
 // The plan of a circuit, or a combinational cycle.
-pub fn circuit_plan(alloc: Global, blif: &Blif) -> Result<CircuitPlan, RunError>
+pub fn circuit_plan(alloc: Global, blif: &Blif) -> Result<CircuitPlan, Stop<BlifFault>>
     requires { IsDescribed (plain_circuit blif.now) }
     ensures plan { IfOk result (λ p. IsPlan (plain_circuit blif.now) p.tables p.sources.items p.shown.items) }
     ensures acyclic { OnOk result (HasNoLoop (plain_circuit blif.now)) }
-    ensures cyclic { IfErr result (LoopFault (plain_circuit blif.now)) }
+    ensures cyclic { IfFault result (LoopFault (plain_circuit blif.now)) }
 {
     let resolved = resolved_names(alloc, blif)?;
     let order = table_order(alloc, blif, &resolved)?;
-    match ordered_plan(alloc, blif, &resolved, &order) {
-        Ok(plan) => Ok(plan),
-        Err(NoMemory) => Err(RunError::NoMemory),
-    }
+    Ok(ordered_plan(alloc, blif, &resolved, &order)?)
 }
 
 // The plan of a circuit whose tables are evaluated in this order.
@@ -92,7 +90,7 @@ pub fn table_order(
     alloc: Global,
     blif: &Blif,
     resolved: &Resolved<'_>,
-) -> Result<Vec<usize>, RunError>
+) -> Result<Vec<usize>, Stop<BlifFault>>
     requires described { IsDescribed (plain_circuit blif.now) }
     requires resolved { AreResolved (given_names (plain_circuit blif.now)) (equations_of (plain_circuit blif.now))
         resolved.now }
@@ -100,11 +98,11 @@ pub fn table_order(
         (λ order. AreOrdered (given_names (plain_circuit blif.now)) (equations_of (plain_circuit blif.now))
         order.items) }
     ensures acyclic { OnOk result (HasNoLoop (plain_circuit blif.now)) }
-    ensures cyclic { IfErr result (LoopFault (plain_circuit blif.now)) }
+    ensures cyclic { IfFault result (LoopFault (plain_circuit blif.now)) }
 {
     match evaluation_order(alloc, &resolved.names, resolved.first, &resolved.reads) {
         Ok(order) => Ok(order),
-        Err(Stop::Fault(names)) => Err(RunError::Loop(names)),
-        Err(Stop::NoMemory) => Err(RunError::NoMemory),
+        Err(Stop::Fault(names)) => Err(Stop::Fault(BlifFault::Loop(names))),
+        Err(Stop::NoMemory) => Err(Stop::NoMemory),
     }
 }

@@ -16,7 +16,8 @@ use Rattle.est_front.proofs.Exports.{one_program}
 use Rattle.est_front.proofs.Unrefused as front
 use Rattle.cec_words.specs.declared.asked.Via.{Via}
 use Rattle.cec_words.specs.declared.asked.Via.TheVariants.{Blif, C, Guard, Verilog}
-use Rattle.csub_read.specs.declared.refusal.CError.TheVariants as c_faults
+use Rattle.csub_read.specs.declared.refusal.CFault.{CFault}
+use Rattle.csub_read.specs.declared.refusal.CFault.TheVariants as c_faults
 use Rattle.csub_read.proofs.Exports.{described-are-read}
 use Rattle.csub_text.specs.Trees as c_trees
 use Rattle.run_trace_io.specs.declared.faults.TraceFault.{TraceFault}
@@ -25,11 +26,9 @@ use Rattle.run_trace_io.specs.Answers.{IsFault, IsTrace, beginning}
 use Rattle.run_trace_io.specs.Traces.{Reading, TraceGroup, next_group}
 use Rattle.run_trace_io.specs.Traces as groups
 use Rattle.run_over_traces.proofs.Exports.{front-of, front-whole}
-use Rattle.blif_run.specs.declared.language.BlifTextFault as circuits
-use Rattle.blif_run.specs.declared.language.BlifTextFault.TheVariants.{Line, TwoDrivers, NoDriver, Loop}
+use Rattle.blif_read.specs.declared.fault.BlifFault.{BlifFault}
+use Rattle.blif_read.specs.declared.fault.BlifFault.TheVariants.{Line, TwoDrivers, NoDriver, Loop}
 use Rattle.blif_run.specs.Texts.{ReadsCircuit, IsTextFault as IsCircuitFault}
-use Rattle.csub_run.specs.declared.language.CTextFault as programs
-use Rattle.csub_run.specs.declared.language.CTextFault.TheVariants.{Syntax, Twice, Undeclared, Unset}
 use Rattle.csub_run.specs.Texts.{IsTextFault as IsProgramFault}
 use Rattle.csub_read.specs.Faults.{ReadsAs}
 use Rattle.csub_guard.specs.Trees as guarded_trees
@@ -41,8 +40,6 @@ use Rattle.csub_guard_read.proofs.Exports as guardeds_read
 use Rattle.csub_guard_run.specs.CountedRuns.{RunsCounted}
 use Rattle.csub_guard_run.specs.ProgramAnswers as guarded_answers
 use Rattle.csub_guard_run.specs.Texts as guarded_texts
-use Rattle.csub_guard_run.specs.declared.language.GuardedTextFault as guardeds
-use Rattle.csub_guard_run.specs.declared.language.GuardedTextFault.TheVariants as guarded_faults
 use Rattle.vlog_read.specs.declared.refusal.VlogFault.TheVariants as v_faults
 use Rattle.vlog_read.proofs.ReadBack as modules_read
 use Rattle.vlog_read.specs.declared.refusal.VlogFault.{VlogFault}
@@ -51,8 +48,6 @@ use Rattle.vlog_read.specs.Laws.{LacksRoom}
 use Rattle.vlog_run.specs.Loops as v_loops
 use Rattle.vlog_run.specs.ModuleAnswers as module_answers
 use Rattle.vlog_run.specs.Texts as module_texts
-use Rattle.vlog_run.specs.declared.language.VerilogTextFault as modules
-use Rattle.vlog_run.specs.declared.language.VerilogTextFault.TheVariants as m_faults
 use Rattle.vlog_text.specs.Trees.{VerilogModule}
 use Rattle.cec_compile.specs.declared.forms.TextForm.{TextForm}
 use Rattle.cec_compile.specs.declared.forms.TextForm.TheVariants as forms
@@ -379,7 +374,7 @@ react_end job held trace (NotConstructive wires) s w on unread written g =
 read_no_fault : (bytes : List ℕ) (fault : VlogFault) → IsTextIn module_texts.ReadsModule bytes → ReadsFault bytes fault → LacksRoom bytes fault
 read_no_fault bytes fault t h = (modules_read.described-are-read bytes t.program t.read.is_read.describes).refusals fault h
 
-circuit_no_fault : (bytes : List ℕ) (fault : circuits.BlifTextFault) → IsTextIn ReadsCircuit bytes → IsCircuitFault bytes fault → ⊥
+circuit_no_fault : (bytes : List ℕ) (fault : BlifFault) → IsTextIn ReadsCircuit bytes → IsCircuitFault bytes fault → ⊥
 circuit_no_fault bytes (Line number) t h = let both = sym t.read.is_read ∙ h in cc
 circuit_no_fault bytes (TwoDrivers name) t h = let both = sym t.read.is_read ∙ h in cc
 circuit_no_fault bytes (NoDriver name) t h = let both = sym t.read.is_read ∙ h in cc
@@ -387,34 +382,38 @@ circuit_no_fault bytes (Loop names) t h =
     let both = sym t.read.is_read ∙ h.1 in
     let same : h.0 ≡ t.program = cc both in
     t.read.acyclic names.items (subst (λ (c : Circuit). IsLoop c names.items) same h.2)
+circuit_no_fault bytes _ t h = h
 
-program_no_fault : (bytes : List ℕ) (fault : programs.CTextFault) → IsTextIn ReadsAs bytes → IsProgramFault bytes fault → ⊥
-program_no_fault bytes (Syntax place) t h = (described-are-read bytes t.program t.read.describes).refusals (c_faults.Syntax place) (t.read.short, h)
-program_no_fault bytes (Twice name) t h = (described-are-read bytes t.program t.read.describes).refusals (c_faults.Twice name) (t.read.short, h)
-program_no_fault bytes (Undeclared name) t h =
+program_no_fault : (bytes : List ℕ) (fault : CFault) → IsTextIn ReadsAs bytes → IsProgramFault bytes fault → ⊥
+program_no_fault bytes (c_faults.Syntax place) t h = (described-are-read bytes t.program t.read.describes).refusals (c_faults.Syntax place) (t.read.short, h)
+program_no_fault bytes (c_faults.Twice name) t h = (described-are-read bytes t.program t.read.describes).refusals (c_faults.Twice name) (t.read.short, h)
+program_no_fault bytes (c_faults.Undeclared name) t h =
     (described-are-read bytes t.program t.read.describes).refusals (c_faults.Undeclared name) (t.read.short, h)
-program_no_fault bytes (Unset name) t h = (described-are-read bytes t.program t.read.describes).refusals (c_faults.Unset name) (t.read.short, h)
+program_no_fault bytes (c_faults.Unset name) t h = (described-are-read bytes t.program t.read.describes).refusals (c_faults.Unset name) (t.read.short, h)
+program_no_fault bytes _ t h = h
 
 guarded_lacks : (bytes : List ℕ) (fault : GuardedFault) → IsTextIn guarded_reads.ReadsAs bytes → guarded_reads.ReadsFault bytes fault
     → guarded_laws.LacksRoom bytes fault
 guarded_lacks bytes fault t h = (guardeds_read.described-are-read bytes t.program t.read.describes).refusals fault h
 
-guarded_no_fault : (bytes : List ℕ) (fault : guardeds.GuardedTextFault) → IsTextIn guarded_reads.ReadsAs bytes → guarded_texts.IsTextFault bytes fault → ⊥
-guarded_no_fault bytes (guarded_faults.Syntax place) t h = guarded_lacks bytes (g_faults.Syntax place) t (t.read.short, h)
-guarded_no_fault bytes (guarded_faults.Twice name) t h = guarded_lacks bytes (g_faults.Twice name) t (t.read.short, h)
-guarded_no_fault bytes (guarded_faults.Undeclared name) t h = guarded_lacks bytes (g_faults.Undeclared name) t (t.read.short, h)
-guarded_no_fault bytes (guarded_faults.Again name) t h = guarded_lacks bytes (g_faults.Again name) t (t.read.short, h)
-guarded_no_fault bytes (guarded_faults.Unset name) t h = guarded_lacks bytes (g_faults.Unset name) t (t.read.short, h)
+guarded_no_fault : (bytes : List ℕ) (fault : GuardedFault) → IsTextIn guarded_reads.ReadsAs bytes → guarded_texts.IsTextFault bytes fault → ⊥
+guarded_no_fault bytes (g_faults.Syntax place) t h = guarded_lacks bytes (g_faults.Syntax place) t (t.read.short, h)
+guarded_no_fault bytes (g_faults.Twice name) t h = guarded_lacks bytes (g_faults.Twice name) t (t.read.short, h)
+guarded_no_fault bytes (g_faults.Undeclared name) t h = guarded_lacks bytes (g_faults.Undeclared name) t (t.read.short, h)
+guarded_no_fault bytes (g_faults.Again name) t h = guarded_lacks bytes (g_faults.Again name) t (t.read.short, h)
+guarded_no_fault bytes (g_faults.Unset name) t h = guarded_lacks bytes (g_faults.Unset name) t (t.read.short, h)
+guarded_no_fault bytes _ t h = h
 
-module_no_fault : (bytes : List ℕ) (fault : modules.VerilogTextFault) → IsTextIn module_texts.ReadsModule bytes → module_texts.IsTextFault bytes fault → ⊥
-module_no_fault bytes (m_faults.Syntax place) t h = read_no_fault bytes (v_faults.Syntax place) t (t.read.is_read.short, h)
-module_no_fault bytes (m_faults.Twice name) t h = read_no_fault bytes (v_faults.Twice name) t (t.read.is_read.short, h)
-module_no_fault bytes (m_faults.Port name) t h = read_no_fault bytes (v_faults.Port name) t (t.read.is_read.short, h)
-module_no_fault bytes (m_faults.Undeclared name) t h = read_no_fault bytes (v_faults.Undeclared name) t (t.read.is_read.short, h)
-module_no_fault bytes (m_faults.TwoDrivers name) t h = read_no_fault bytes (v_faults.TwoDrivers name) t (t.read.is_read.short, h)
-module_no_fault bytes (m_faults.NoDriver name) t h = read_no_fault bytes (v_faults.NoDriver name) t (t.read.is_read.short, h)
-module_no_fault bytes (m_faults.Loop names) t h =
+module_no_fault : (bytes : List ℕ) (fault : VlogFault) → IsTextIn module_texts.ReadsModule bytes → module_texts.IsTextFault bytes fault → ⊥
+module_no_fault bytes (v_faults.Syntax place) t h = read_no_fault bytes (v_faults.Syntax place) t (t.read.is_read.short, h)
+module_no_fault bytes (v_faults.Twice name) t h = read_no_fault bytes (v_faults.Twice name) t (t.read.is_read.short, h)
+module_no_fault bytes (v_faults.Port name) t h = read_no_fault bytes (v_faults.Port name) t (t.read.is_read.short, h)
+module_no_fault bytes (v_faults.Undeclared name) t h = read_no_fault bytes (v_faults.Undeclared name) t (t.read.is_read.short, h)
+module_no_fault bytes (v_faults.TwoDrivers name) t h = read_no_fault bytes (v_faults.TwoDrivers name) t (t.read.is_read.short, h)
+module_no_fault bytes (v_faults.NoDriver name) t h = read_no_fault bytes (v_faults.NoDriver name) t (t.read.is_read.short, h)
+module_no_fault bytes (v_faults.Loop names) t h =
     t.read.acyclic names.items (subst (λ (m : VerilogModule). v_loops.IsLoop m names.items) (t.read.is_read.only h.0 h.1.describes) h.2)
+module_no_fault bytes _ t h = h
 
 text_no_fault : (via : Via) (bytes : List ℕ) (fault : TextFault) → IsRunnable via bytes → TextHasFault via bytes fault → ⊥
 text_no_fault Blif bytes fault t h = circuit_no_fault bytes h.0 t h.1

@@ -6,14 +6,12 @@ use Rattle.grc_graph.specs.PlainWireNames.{wire_name_of}
 use Rattle.grc_graph.specs.WireNames.{WireName}
 use Rattle.run_trace_io.specs.declared.faults.TraceFault.{TraceFault}
 use Rattle.run_trace_io.specs.declared.faults.TraceFault.TheVariants as traces
-use Rattle.blif_run.specs.declared.language.BlifTextFault as circuits
-use Rattle.blif_run.specs.declared.language.BlifTextFault.TheVariants.{Line, TwoDrivers, NoDriver, Loop}
-use Rattle.csub_run.specs.declared.language.CTextFault as programs
-use Rattle.csub_run.specs.declared.language.CTextFault.TheVariants.{Syntax, Twice, Undeclared, Unset}
-use Rattle.csub_guard_run.specs.declared.language.GuardedTextFault as guardeds
-use Rattle.csub_guard_run.specs.declared.language.GuardedTextFault.TheVariants as guarded_faults
-use Rattle.vlog_run.specs.declared.language.VerilogTextFault as modules
-use Rattle.vlog_run.specs.declared.language.VerilogTextFault.TheVariants as module_faults
+use Rattle.csub_read.specs.declared.refusal.CFault.{CFault}
+use Rattle.csub_read.specs.declared.refusal.CFault.TheVariants.{TooLong, Syntax, Twice, Undeclared, Unset}
+use Rattle.csub_guard_read.specs.declared.refusal.GuardedFault.{GuardedFault}
+use Rattle.csub_guard_read.specs.declared.refusal.GuardedFault.TheVariants as guarded_faults
+use Rattle.vlog_read.specs.declared.refusal.VlogFault.{VlogFault}
+use Rattle.vlog_read.specs.declared.refusal.VlogFault.TheVariants as module_faults
 use Rattle.cec_commands.specs.declared.text_faults.TextFault.{TextFault}
 use Rattle.cec_commands.specs.declared.text_faults.TextFault.TheVariants as texts
 use Rattle.est_front.specs.Lines.{fault_text}
@@ -27,6 +25,7 @@ use Rattle.cec_compile.specs.declared.refusal.Limit as bounds
 use Rattle.cec_compile.specs.declared.refusal.Limit.TheVariants as limits
 use Rattle.cec_text_io.specs.Contents.{Content, IsHeld}
 use Rattle.cec_text_io.specs.ErrorLines.{GainsLine, joined_names}
+use Rattle.cec_refusals.specs.BlifFaults.{blif_fault_text}
 use Rattle.cec_compile.specs.Cycles.{cycle_text}
 use Rattle.cec_commands.specs.Jobs.{Job, Request, Make, Run, RunTri, Exec, Load}
 use Rattle.cec_compile.specs.WireTexts.{joined_texts}
@@ -67,26 +66,23 @@ trace_text (traces.BadReset instant) = in_instant instant (codes ": bad reset")
 trace_text (traces.OpenInstant instant) = in_instant instant (codes ": open")
 trace_text (traces.Breaks instant relation) = in_instant instant (codes ": breaks relation " ++ decimal relation)
 
-abbrev pub circuit_fault_text : circuits.BlifTextFault → List ℕ
-circuit_fault_text (Line number) = codes "line " ++ (decimal number ++ codes ": not in the profile")
-circuit_fault_text (TwoDrivers name) = codes "two drivers: " ++ name
-circuit_fault_text (NoDriver name) = codes "no driver: " ++ name
-circuit_fault_text (Loop names) = codes "loop: " ++ joined_names names.items
-
-abbrev pub program_fault_text : programs.CTextFault → List ℕ
+abbrev pub program_fault_text : CFault → List ℕ
+program_fault_text TooLong = codes "limit: text"
 program_fault_text (Syntax place) = codes "byte " ++ (decimal place ++ codes ": syntax")
 program_fault_text (Twice name) = codes "declared twice: " ++ name
 program_fault_text (Undeclared name) = codes "undeclared: " ++ name
 program_fault_text (Unset name) = codes "unset: " ++ name
 
-abbrev pub guarded_fault_text : guardeds.GuardedTextFault → List ℕ
+abbrev pub guarded_fault_text : GuardedFault → List ℕ
+guarded_fault_text guarded_faults.TooLong = codes "limit: text"
 guarded_fault_text (guarded_faults.Syntax place) = codes "byte " ++ (decimal place ++ codes ": syntax")
 guarded_fault_text (guarded_faults.Twice name) = codes "declared twice: " ++ name
 guarded_fault_text (guarded_faults.Undeclared name) = codes "undeclared: " ++ name
 guarded_fault_text (guarded_faults.Again name) = codes "assigned twice: " ++ name
 guarded_fault_text (guarded_faults.Unset name) = codes "unset: " ++ name
 
-abbrev pub module_fault_text : modules.VerilogTextFault → List ℕ
+abbrev pub module_fault_text : VlogFault → List ℕ
+module_fault_text module_faults.TooLong = codes "limit: text"
 module_fault_text (module_faults.Syntax place) = codes "byte " ++ (decimal place ++ codes ": syntax")
 module_fault_text (module_faults.Twice name) = codes "declared twice: " ++ name
 module_fault_text (module_faults.Port name) = codes "bad port: " ++ name
@@ -97,7 +93,7 @@ module_fault_text (module_faults.Loop names) = codes "loop: " ++ joined_names na
 
 -- a fault of a text, by its language
 abbrev pub text_fault_text : TextFault → List ℕ
-text_fault_text (texts.Blif fault) = circuit_fault_text fault
+text_fault_text (texts.Blif fault) = blif_fault_text fault
 text_fault_text (texts.C fault) = program_fault_text fault
 text_fault_text (texts.Guard fault) = guarded_fault_text fault
 text_fault_text (texts.Verilog fault) = module_fault_text fault

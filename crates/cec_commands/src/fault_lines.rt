@@ -2,20 +2,20 @@
 
 ghost use Rattle.std.specs.Prelude.{◌++◌, codes, decimal, map};
 ghost use Rattle.base_types.specs.Writing.{Wrote};
-ghost use Rattle.cec_commands.specs.Lines.{circuit_fault_text, program_fault_text, text_fault_text};
+ghost use Rattle.cec_commands.specs.Lines.{program_fault_text, text_fault_text};
 ghost use Rattle.cec_commands.specs.Lines.{guarded_fault_text, module_fault_text, trace_text, unknown_text};
 ghost use Rattle.grc_graph.specs.PlainWireNames.{wire_name_of};
 
 use crate::text_faults::TextFault;
 use crate::unknown_wires::UnknownWires;
 use base_types::{Sink, SinkFault, write_pieces};
-use blif_run::BlifTextFault as CircuitFault;
+use cec_refusals::put_blif_fault;
 use cec_text_io::put_loop;
-use csub_guard_run::GuardedTextFault as GuardedFault;
-use csub_run::CTextFault as ProgramFault;
+use csub_guard_read::GuardedFault;
+use csub_read::CFault;
 use itoa::Buffer;
 use run_trace_io::TraceFault;
-use vlog_run::VerilogTextFault as ModuleFault;
+use vlog_read::VlogFault;
 
 /// The line of a fault of a trace.
 pub(crate) fn put_trace_fault<E: Sink>(err: &mut E, fault: &TraceFault) -> Result<(), SinkFault>
@@ -97,48 +97,28 @@ pub(crate) fn put_text_fault<E: Sink>(err: &mut E, fault: &TextFault) -> Result<
         (codes "cec: " ++ (text_fault_text fault.now ++ codes "\n")) result }
 {
     match fault {
-        TextFault::Blif(fault) => put_circuit_fault(err, fault),
+        TextFault::Blif(fault) => put_blif_fault(err, b"cec: ", fault),
         TextFault::C(fault) => put_program_fault(err, fault),
         TextFault::Guard(fault) => put_guarded_fault(err, fault),
         TextFault::Verilog(fault) => put_module_fault(err, fault),
     }
 }
 
-// The line of a fault of a BLIF text.
-fn put_circuit_fault<E: Sink>(err: &mut E, fault: &CircuitFault) -> Result<(), SinkFault>
-    ensures { Wrote (E.told err.old) (E.told err.new) (E.faults err.old) (E.faults err.new)
-        (codes "cec: " ++ (circuit_fault_text fault.now ++ codes "\n")) result }
-{
-    match fault {
-        CircuitFault::Line(number) => {
-            put_numbered(err, b"line ", *number, b": not in the profile", b"")
-        }
-        CircuitFault::TwoDrivers(name) => {
-            write_pieces(err, &[b"cec: ", b"two drivers: ", name.bytes(), b"\n"])
-        }
-        CircuitFault::NoDriver(name) => {
-            write_pieces(err, &[b"cec: ", b"no driver: ", name.bytes(), b"\n"])
-        }
-        CircuitFault::Loop(names) => put_loop(err, b"cec: ", names),
-    }
-}
-
 // The line of a fault of a text of the C subset.
-fn put_program_fault<E: Sink>(err: &mut E, fault: &ProgramFault) -> Result<(), SinkFault>
+fn put_program_fault<E: Sink>(err: &mut E, fault: &CFault) -> Result<(), SinkFault>
     ensures { Wrote (E.told err.old) (E.told err.new) (E.faults err.old) (E.faults err.new)
         (codes "cec: " ++ (program_fault_text fault.now ++ codes "\n")) result }
 {
     match fault {
-        ProgramFault::Syntax(place) => put_numbered(err, b"byte ", *place, b": syntax", b""),
-        ProgramFault::Twice(name) => {
+        CFault::TooLong => write_pieces(err, &[b"cec: ", b"limit: text", b"\n"]),
+        CFault::Syntax(place) => put_numbered(err, b"byte ", *place, b": syntax", b""),
+        CFault::Twice(name) => {
             write_pieces(err, &[b"cec: ", b"declared twice: ", name.bytes(), b"\n"])
         }
-        ProgramFault::Undeclared(name) => {
+        CFault::Undeclared(name) => {
             write_pieces(err, &[b"cec: ", b"undeclared: ", name.bytes(), b"\n"])
         }
-        ProgramFault::Unset(name) => {
-            write_pieces(err, &[b"cec: ", b"unset: ", name.bytes(), b"\n"])
-        }
+        CFault::Unset(name) => { write_pieces(err, &[b"cec: ", b"unset: ", name.bytes(), b"\n"]) }
     }
 }
 
@@ -148,6 +128,7 @@ fn put_guarded_fault<E: Sink>(err: &mut E, fault: &GuardedFault) -> Result<(), S
         (codes "cec: " ++ (guarded_fault_text fault.now ++ codes "\n")) result }
 {
     match fault {
+        GuardedFault::TooLong => write_pieces(err, &[b"cec: ", b"limit: text", b"\n"]),
         GuardedFault::Syntax(place) => put_numbered(err, b"byte ", *place, b": syntax", b""),
         GuardedFault::Twice(name) => {
             write_pieces(err, &[b"cec: ", b"declared twice: ", name.bytes(), b"\n"])
@@ -165,27 +146,28 @@ fn put_guarded_fault<E: Sink>(err: &mut E, fault: &GuardedFault) -> Result<(), S
 }
 
 // The line of a fault of a Verilog text.
-fn put_module_fault<E: Sink>(err: &mut E, fault: &ModuleFault) -> Result<(), SinkFault>
+fn put_module_fault<E: Sink>(err: &mut E, fault: &VlogFault) -> Result<(), SinkFault>
     ensures { Wrote (E.told err.old) (E.told err.new) (E.faults err.old) (E.faults err.new)
         (codes "cec: " ++ (module_fault_text fault.now ++ codes "\n")) result }
 {
     match fault {
-        ModuleFault::Syntax(place) => put_numbered(err, b"byte ", *place, b": syntax", b""),
-        ModuleFault::Twice(name) => {
+        VlogFault::TooLong => write_pieces(err, &[b"cec: ", b"limit: text", b"\n"]),
+        VlogFault::Syntax(place) => put_numbered(err, b"byte ", *place, b": syntax", b""),
+        VlogFault::Twice(name) => {
             write_pieces(err, &[b"cec: ", b"declared twice: ", name.bytes(), b"\n"])
         }
-        ModuleFault::Port(name) => {
+        VlogFault::Port(name) => {
             write_pieces(err, &[b"cec: ", b"bad port: ", name.bytes(), b"\n"])
         }
-        ModuleFault::Undeclared(name) => {
+        VlogFault::Undeclared(name) => {
             write_pieces(err, &[b"cec: ", b"undeclared: ", name.bytes(), b"\n"])
         }
-        ModuleFault::TwoDrivers(name) => {
+        VlogFault::TwoDrivers(name) => {
             write_pieces(err, &[b"cec: ", b"two drivers: ", name.bytes(), b"\n"])
         }
-        ModuleFault::NoDriver(name) => {
+        VlogFault::NoDriver(name) => {
             write_pieces(err, &[b"cec: ", b"no driver: ", name.bytes(), b"\n"])
         }
-        ModuleFault::Loop(names) => put_loop(err, b"cec: ", names),
+        VlogFault::Loop(names) => put_loop(err, b"cec: ", names),
     }
 }

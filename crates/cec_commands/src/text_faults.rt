@@ -5,41 +5,41 @@ ghost use Rattle.cec_commands.specs.declared.text_faults.TextFault.TheVariants.{
 ghost use Rattle.cec_commands.specs.declared.text_faults.TextFault.TheVariants.{Guard as of_guarded};
 ghost use Rattle.cec_commands.specs.declared.text_faults.TextFault.TheVariants.{Verilog as of_verilog};
 
-use blif_run::BlifTextFault as CircuitFault;
-use csub_guard_run::GuardedTextFault as GuardedFault;
-use csub_run::CTextFault as ProgramFault;
+use blif_read::BlifFault;
+use csub_guard_read::GuardedFault;
+use csub_read::CFault;
 use thiserror::Error;
-use vlog_run::VerilogTextFault as ModuleFault;
+use vlog_read::VlogFault;
 
 /// The first fault of a text that must be run, by its language.
 #[derive(Debug, Drop, Error)]
 pub enum TextFault {
     /// Of a BLIF text.
     #[error(transparent)]
-    Blif(CircuitFault),
+    Blif(BlifFault),
     /// Of a text of the C subset.
     #[error(transparent)]
-    C(ProgramFault),
+    C(CFault),
     /// Of a guarded text.
     #[error(transparent)]
     Guard(GuardedFault),
     /// Of a text of structural Verilog.
     #[error(transparent)]
-    Verilog(ModuleFault),
+    Verilog(VlogFault),
 }
 
-impl From<CircuitFault> for TextFault {
+impl From<BlifFault> for TextFault {
     ghost from_gives = { λ fault told. told ≡ of_blif fault };
 
-    fn from(fault: CircuitFault) -> TextFault {
+    fn from(fault: BlifFault) -> TextFault {
         TextFault::Blif(fault)
     }
 }
 
-impl From<ProgramFault> for TextFault {
+impl From<CFault> for TextFault {
     ghost from_gives = { λ fault told. told ≡ of_c fault };
 
-    fn from(fault: ProgramFault) -> TextFault {
+    fn from(fault: CFault) -> TextFault {
         TextFault::C(fault)
     }
 }
@@ -52,10 +52,10 @@ impl From<GuardedFault> for TextFault {
     }
 }
 
-impl From<ModuleFault> for TextFault {
+impl From<VlogFault> for TextFault {
     ghost from_gives = { λ fault told. told ≡ of_verilog fault };
 
-    fn from(fault: ModuleFault) -> TextFault {
+    fn from(fault: VlogFault) -> TextFault {
         TextFault::Verilog(fault)
     }
 }

@@ -17,7 +17,7 @@ use Rattle.cec_opt_sources.specs.LightNets.{IsLightNetOf}
 use Rattle.cec_opt_texts.proofs.Exports.{blif-keeps, c-keeps, verilog-keeps}
 use Rattle.cec_opt_texts.specs.Optimized.{IsSmallNetOf, IsTextNet}
 use Rattle.cec_opt_texts.specs.Related.{GivenRelation}
-use Rattle.cec_opt_texts.specs.declared.fault.OptFault.{OptFault}
+use Rattle.blif_read.specs.declared.fault.BlifFault.{BlifFault}
 use Rattle.cec_opt_commands.specs.Answers.{IsAnswer, IsSourceAnswer, TellsAny, TellsNets, TellsText}
 use Rattle.cec_opt_commands.specs.Outcomes.{IsConstructible}
 use Rattle.cec_opt_commands.specs.Words.{Write}
@@ -39,7 +39,7 @@ pub text_net : (text : List ℕ) (given : List GivenRelation) (net : Netlist) �
 text_net text given net s = record { circuit = s.circuit; reads = s.reads; is = s.small.is }
 
 -- the lines of the netlist of a text
-pub text_lines : {Z : Type 0} (items : Z → List ℕ) (text : List ℕ) (given : List GivenRelation) (net : Netlist) (result : Result Z (Stop OptFault))
+pub text_lines : {Z : Type 0} (items : Z → List ℕ) (text : List ℕ) (given : List GivenRelation) (net : Netlist) (result : Result Z (Stop BlifFault))
     → IsTextNet text net → IfOk result (λ z. TellsNets given net (items z)) → IfOk result (λ z. TellsText text given (items z))
 text_lines items text given net (Ok z) of_text tells = record { net = net; of_text = of_text; tells = tells }
 text_lines items text given net (Err stop) of_text tells = tt

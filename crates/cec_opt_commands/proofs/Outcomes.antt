@@ -21,7 +21,7 @@ use Rattle.cec_opt_faults.specs.declared.unmade.Unmade.{Unmade}
 use Rattle.cec_opt_faults.specs.declared.unmade.Unmade.TheVariants.{NoNet, NoText}
 use Rattle.cec_opt_texts.specs.Faults.{IsGivenFault}
 use Rattle.cec_opt_texts.specs.Related.{GivenRelation}
-use Rattle.cec_opt_texts.specs.declared.fault.OptFault.{OptFault}
+use Rattle.blif_read.specs.declared.fault.BlifFault.{BlifFault}
 use Rattle.cec_text_io.proofs.Pieces as texts
 use Rattle.cec_text_io.proofs.Exports.{long_unread, some_bytes}
 use Rattle.cec_text_io.specs.Contents.{Content, IsHeld}
@@ -99,12 +99,12 @@ source_whole P task source main s ended f l =
 
 -- ---- a text without a netlist
 
-pub stop_says : (task : Task) (given : List GivenRelation) (stop : Stop OptFault) (text : List ℕ) → length text ≤ TEXT_BYTES
+pub stop_says : (task : Task) (given : List GivenRelation) (stop : Stop BlifFault) (text : List ℕ) → length text ≤ TEXT_BYTES
     → FaultIs (IsGivenFault text given) stop → SaysOf task given (stop_outcome stop) text
 stop_says task given (stops.Fault fault) text short is = (short, is)
 stop_says task given stops.NoMemory text short is = tt
 
-pub stop_leaves : (task : Task) (P : List ℕ → Type 0) (stop : Stop OptFault) (s : SinkChange) → Appends s.before s.after s.faults_before s.faults_now []
+pub stop_leaves : (task : Task) (P : List ℕ → Type 0) (stop : Stop BlifFault) (s : SinkChange) → Appends s.before s.after s.faults_before s.faults_now []
     → LeavesAnswer task P s (stop_outcome stop)
 stop_leaves (Write form) P (stops.Fault fault) s a = a
 stop_leaves (Write form) P stops.NoMemory s a = inl a
@@ -124,13 +124,13 @@ silent_leaves Check P outcome s none a = subst (LeavesText P s) (sym none) a
 
 -- or of which no embedded C, or no Verilog with a reset, is made
 pub unmade_says : {F : Type 0} (task : Task) (given : List GivenRelation) (outcome_of : F → OptOutcome) (IsFault : F → Type 0)
-    (stop : Stop (Unmade OptFault F)) (text : List ℕ) → length text ≤ TEXT_BYTES → ((fault : F) → IsFault fault → SaysOf task given (outcome_of fault) text)
+    (stop : Stop (Unmade BlifFault F)) (text : List ℕ) → length text ≤ TEXT_BYTES → ((fault : F) → IsFault fault → SaysOf task given (outcome_of fault) text)
     → FaultIs (IsUnmade (IsGivenFault text given) IsFault) stop → SaysOf task given (unmade_outcome outcome_of stop) text
 unmade_says task given outcome_of IsFault (stops.Fault (NoNet fault)) text short says is = (short, is)
 unmade_says task given outcome_of IsFault (stops.Fault (NoText fault)) text short says is = says fault is
 unmade_says task given outcome_of IsFault stops.NoMemory text short says is = tt
 
-pub unmade_leaves : {F : Type 0} (task : Task) (P : List ℕ → Type 0) (outcome_of : F → OptOutcome) (stop : Stop (Unmade OptFault F)) (s : SinkChange)
+pub unmade_leaves : {F : Type 0} (task : Task) (P : List ℕ → Type 0) (outcome_of : F → OptOutcome) (stop : Stop (Unmade BlifFault F)) (s : SinkChange)
     → ((fault : F) → written_of (outcome_of fault) ≡ None) → Appends s.before s.after s.faults_before s.faults_now []
     → LeavesAnswer task P s (unmade_outcome outcome_of stop)
 unmade_leaves task P outcome_of (stops.Fault (NoNet fault)) s none a = stop_leaves task P (stops.Fault fault) s a

@@ -6,7 +6,7 @@ use Rattle.base_types.specs.SinkChanges.{SinkChange}
 use Rattle.cec_compile.specs.declared.refusal.Refusal.{Refusal}
 use Rattle.cec_opt_texts.specs.Faults.{IsGivenFault}
 use Rattle.cec_opt_texts.specs.Related.{GivenRelation}
-use Rattle.cec_opt_texts.specs.declared.fault.OptFault.{OptFault}
+use Rattle.blif_read.specs.declared.fault.BlifFault.{BlifFault}
 use Rattle.csub_embed.specs.declared.fault.EmbedFault.{EmbedFault}
 use Rattle.vlog_reset.specs.declared.fault.ResetFault.{ResetFault}
 use Rattle.cec_opt_commands.specs.Outcomes.{IsOptOutcomeOf, CountsFiles, GainsOut, IsRefusedFor}
@@ -19,7 +19,7 @@ use Rattle.cec_opt_commands.specs.declared.outcome.OptOutcome.TheVariants.{Done,
 -- The text keeps its limit, and has none of the faults for which it would be refused. The relations are of its inputs.
 pub record IsFaultless (given : List GivenRelation) (text : List ℕ) : Type 0 where
   pub short : length text ≤ TEXT_BYTES
-  pub faultless : (fault : OptFault) → IsGivenFault text given fault → ⊥
+  pub faultless : (fault : BlifFault) → IsGivenFault text given fault → ⊥
 
 -- the source has no cause for a refusal
 abbrev pub IsNotRefused : (main : Option (List ℕ)) → (source : List ℕ) → Type 0

@@ -2,21 +2,16 @@
 use Rattle.std.specs.Prelude.{⊤, ℕ, Bool, true, false, IsTrue, List, [], ◌++◌, Option, codes, decimal}
 use Rattle.std.specs.Prelude.{unwrap_or, Result, Ok, Err}
 use Rattle.base_types.specs.SinkChanges.{SinkChange}
-use Rattle.blif_net.specs.declared.fault.CircuitFault.{CircuitFault}
-use Rattle.blif_net.specs.declared.fault.CircuitFault.TheVariants.{NoPause, Model, Input, Output, Again, Loop}
-use Rattle.blif_net.specs.declared.fault.CircuitFault.TheVariants.{TooManyNets}
 use Rattle.cec_compile.specs.declared.refusal.Refusal.TheVariants as refusing
 use Rattle.cec_cycles.specs.declared.findings.Stuck.{Stuck}
-use Rattle.cec_opt_texts.specs.declared.fault.OptFault.{OptFault}
-use Rattle.cec_opt_texts.specs.declared.fault.OptFault.TheVariants.{Line, TwoDrivers, NoDriver, Circuit}
-use Rattle.cec_opt_texts.specs.declared.fault.OptFault.TheVariants.{NoInput}
 use Rattle.cec_refusals.specs.RefusalLines.{RefusalSubject, refusal_line}
 use Rattle.csub_embed.specs.declared.fault.EmbedFault.{EmbedFault}
 use Rattle.csub_embed.specs.declared.fault.EmbedFault.TheVariants.{NoName, TypeTaken, Reserved}
 use Rattle.vlog_reset.specs.declared.fault.ResetFault.{ResetFault}
 use Rattle.vlog_reset.specs.declared.fault.ResetFault.TheVariants as naming
 use Rattle.cec_text_io.specs.Contents.{Content, IsHeld}
-use Rattle.cec_text_io.specs.ErrorLines.{GainsLine, joined_names}
+use Rattle.cec_text_io.specs.ErrorLines.{GainsLine}
+use Rattle.cec_refusals.specs.BlifFaults.{blif_fault_text}
 use Rattle.cec_opt_commands.specs.Words.{Request, Tell, Do, Make}
 use Rattle.cec_opt_commands.specs.declared.outcome.OptOutcome.{OptOutcome}
 use Rattle.cec_opt_commands.specs.declared.outcome.OptOutcome.TheVariants.{Done, Usage, FileFault, BadText, TooLong}
@@ -24,22 +19,6 @@ use Rattle.cec_opt_commands.specs.declared.outcome.OptOutcome.TheVariants.{BadCo
 use Rattle.cec_opt_commands.specs.declared.outcome.OptOutcome.TheVariants.{Refused, NotConstructive, Undecided}
 use Rattle.cec_opt_commands.specs.declared.outcome.OptOutcome.TheVariants.{TooManyNets, WriteFault}
 use Rattle.cec_opt_commands.specs.declared.outcome.OptOutcome.TheVariants.{NoMemory}
-
-abbrev pub circuit_line_text : CircuitFault → List ℕ
-circuit_line_text NoPause = codes "last output is not _paused"
-circuit_line_text (Model name) = codes "bad model: " ++ name
-circuit_line_text (Input name) = codes "bad input: " ++ name
-circuit_line_text (Output name) = codes "bad output: " ++ name
-circuit_line_text (Again name) = codes "output twice: " ++ name
-circuit_line_text (Loop names) = codes "loop: " ++ joined_names names.items
-circuit_line_text TooManyNets = codes "limit: nets"
-
-abbrev pub fault_text : OptFault → List ℕ
-fault_text (Line number) = codes "line " ++ (decimal number ++ codes ": not in the profile")
-fault_text (TwoDrivers name) = codes "two drivers: " ++ name
-fault_text (NoDriver name) = codes "no driver: " ++ name
-fault_text (Circuit fault) = circuit_line_text fault
-fault_text (NoInput name) = codes "no input: " ++ name
 
 -- of a component
 abbrev pub component_fault_text : EmbedFault → List ℕ
@@ -85,7 +64,7 @@ abbrev pub line_of : Subject → OptOutcome → List ℕ
 line_of s Done = []
 line_of s Usage = own_line (s.name ++ codes ", see cec-opt --help")
 line_of s FileFault = own_line (codes "cannot read " ++ s.name)
-line_of s (BadText fault) = own_line (fault_text fault)
+line_of s (BadText fault) = own_line (blif_fault_text fault)
 line_of s (BadComponent fault) = own_line (component_fault_text fault)
 line_of s (BadModule fault) = own_line (reset_fault_text fault)
 line_of s TooLong = own_line (codes "limit: text")

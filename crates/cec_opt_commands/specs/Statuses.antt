@@ -10,7 +10,7 @@ use Rattle.cec_compile.specs.declared.refusal.Refusal.TheVariants as refusing
 use Rattle.cec_cycles.specs.declared.findings.Stuck.{Stuck}
 use Rattle.cec_opt_faults.specs.declared.unmade.Unmade.{Unmade}
 use Rattle.cec_opt_faults.specs.declared.unmade.Unmade.TheVariants.{NoNet, NoText}
-use Rattle.cec_opt_texts.specs.declared.fault.OptFault.{OptFault}
+use Rattle.blif_read.specs.declared.fault.BlifFault.{BlifFault}
 use Rattle.cec_text_io.specs.declared.writing.Written.{Written}
 use Rattle.cec_text_io.specs.declared.writing.Written.TheVariants as ends
 use Rattle.cec_opt_commands.specs.declared.outcome.OptOutcome.{OptOutcome}
@@ -61,12 +61,12 @@ stuck_outcome stuck ends.Done = NotConstructive stuck
 stuck_outcome stuck ends.WriteFault = WriteFault
 stuck_outcome stuck ends.NoMemory = NoMemory
 
-abbrev pub stop_outcome : Stop OptFault → OptOutcome
+abbrev pub stop_outcome : Stop BlifFault → OptOutcome
 stop_outcome (stops.Fault fault) = BadText fault
 stop_outcome stops.NoMemory = NoMemory
 
 -- of a text that was to be written as embedded C, or as Verilog with a reset
-abbrev pub unmade_outcome : {F : Type 0} → (F → OptOutcome) → Stop (Unmade OptFault F) → OptOutcome
+abbrev pub unmade_outcome : {F : Type 0} → (F → OptOutcome) → Stop (Unmade BlifFault F) → OptOutcome
 unmade_outcome outcome_of (stops.Fault (NoNet fault)) = BadText fault
 unmade_outcome outcome_of (stops.Fault (NoText fault)) = outcome_of fault
 unmade_outcome outcome_of stops.NoMemory = NoMemory

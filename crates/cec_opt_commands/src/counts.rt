@@ -18,10 +18,11 @@ ghost use Rattle.cec_opt_commands.specs.Answers.{IsCyclicLines, constructive_lin
 
 use crate::depths::depth_of;
 use base_types::{Limits, NoMemory, Stop};
+use blif_read::BlifFault;
 use cec_compile::{Compiled, Cycle, Refusal, compile};
 use cec_cycles::{CycleRefusal, cyclic_net, source_cycles};
 use cec_opt_sources::light_of;
-use cec_opt_texts::{GivenRelation, OptFault, optimized_under, text_net};
+use cec_opt_texts::{GivenRelation, optimized_under, text_net};
 use cec_text_io::joined;
 use grc_cycles::CycleCounts;
 use grc_order::First;
@@ -34,7 +35,7 @@ pub(crate) fn text_counts(
     alloc: Global,
     text: &[u8],
     given: &[GivenRelation<'_>],
-) -> Result<Vec<u8>, Stop<OptFault>>
+) -> Result<Vec<u8>, Stop<BlifFault>>
     requires { length text.now ≤ Limits.TEXT_BYTES }
     ensures lines { IfOk result (λ lines. TellsText text.now (map named_relation given.now) lines.items) }
     ensures fault { IfFault result (IsGivenFault text.now (map named_relation given.now)) }
@@ -50,7 +51,7 @@ fn both_lines(
     alloc: Global,
     net: &Net,
     given: &[GivenRelation<'_>],
-) -> Result<Vec<u8>, Stop<OptFault>>
+) -> Result<Vec<u8>, Stop<BlifFault>>
     ensures lines { IfOk result
         (λ lines. TellsNets (map named_relation given.now) (netlist_of net.now) lines.items) }
     ensures fault { IfFault result

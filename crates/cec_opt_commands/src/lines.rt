@@ -4,18 +4,15 @@ ghost use Rattle.std.specs.Prelude.{◌≡◌, ◌≤◌, ◌++◌, ℕ, List, O
 ghost use Rattle.base_types.specs.Writing.{Wrote};
 ghost use Rattle.cec_text_io.specs.ErrorLines.{GainsLine};
 ghost use Rattle.cec_refusals.specs.Views.{refused_is};
-ghost use Rattle.cec_opt_commands.specs.Lines.{circuit_line_text, component_fault_text, fault_text, line_of, named};
+ghost use Rattle.cec_opt_commands.specs.Lines.{component_fault_text, line_of, named};
 ghost use Rattle.cec_opt_commands.specs.Lines.{reset_fault_text, own_line, refused_of, stuck_text, told_first};
 ghost use Rattle.cec_opt_commands.specs.Views.{misuse_is, subject_is};
 
 use crate::outcome::OptOutcome;
 use crate::words::Misuse;
 use base_types::{Limits, Sink, SinkFault, write_pieces};
-use blif_net::CircuitFault;
 use cec_cycles::Stuck;
-use cec_opt_texts::OptFault;
-use cec_refusals::{RefusedSource, put_refusal};
-use cec_text_io::put_loop;
+use cec_refusals::{RefusedSource, put_blif_fault, put_refusal};
 use csub_embed::EmbedFault;
 use itoa::Buffer;
 use vlog_reset::ResetFault;
@@ -128,7 +125,7 @@ fn put_line<E: Sink>(
         OptOutcome::Done => Ok(()),
         OptOutcome::Usage => put_said(err, subject.name.as_bytes(), b", see cec-opt --help"),
         OptOutcome::FileFault => put_said(err, b"cannot read ", subject.name.as_bytes()),
-        OptOutcome::BadText(fault) => put_fault(err, fault),
+        OptOutcome::BadText(fault) => put_blif_fault(err, b"cec-opt: ", fault),
         OptOutcome::BadComponent(fault) => put_component_fault(err, fault),
         OptOutcome::BadModule(fault) => put_module_fault(err, fault),
         OptOutcome::TooLong => put_said(err, b"limit: text", b""),
@@ -216,64 +213,5 @@ fn refused_of(subject: Subject<'_>) -> RefusedSource<'_>
         name: subject.name,
         main: subject.main,
         source: subject.source,
-    }
-}
-
-// The line of a fault of a text.
-fn put_fault<E: Sink>(err: &mut E, fault: &OptFault) -> Result<(), SinkFault>
-    ensures { Wrote (E.told err.old) (E.told err.new) (E.faults err.old) (E.faults err.new)
-        (codes "cec-opt: " ++ (fault_text fault.now ++ codes "\n")) result }
-{
-    match fault {
-        OptFault::Line(number) => {
-            let mut shown = Buffer::new();
-            let shown = shown.format(*number).as_bytes();
-            write_pieces(
-                err,
-                &[
-                    b"cec-opt: ",
-                    b"line ",
-                    shown,
-                    b": not in the profile",
-                    b"\n",
-                ],
-            )
-        }
-        OptFault::TwoDrivers(name) => {
-            write_pieces(err, &[b"cec-opt: ", b"two drivers: ", name.bytes(), b"\n"])
-        }
-        OptFault::NoDriver(name) => {
-            write_pieces(err, &[b"cec-opt: ", b"no driver: ", name.bytes(), b"\n"])
-        }
-        OptFault::Circuit(fault) => put_circuit_fault(err, fault),
-        OptFault::NoInput(name) => {
-            write_pieces(err, &[b"cec-opt: ", b"no input: ", name.bytes(), b"\n"])
-        }
-    }
-}
-
-// The line of a fault of a circuit.
-fn put_circuit_fault<E: Sink>(err: &mut E, fault: &CircuitFault) -> Result<(), SinkFault>
-    ensures { Wrote (E.told err.old) (E.told err.new) (E.faults err.old) (E.faults err.new)
-        (codes "cec-opt: " ++ (circuit_line_text fault.now ++ codes "\n")) result }
-{
-    match fault {
-        CircuitFault::NoPause => {
-            write_pieces(err, &[b"cec-opt: ", b"last output is not _paused", b"\n"])
-        }
-        CircuitFault::Model(name) => {
-            write_pieces(err, &[b"cec-opt: ", b"bad model: ", name.bytes(), b"\n"])
-        }
-        CircuitFault::Input(name) => {
-            write_pieces(err, &[b"cec-opt: ", b"bad input: ", name.bytes(), b"\n"])
-        }
-        CircuitFault::Output(name) => {
-            write_pieces(err, &[b"cec-opt: ", b"bad output: ", name.bytes(), b"\n"])
-        }
-        CircuitFault::Again(name) => {
-            write_pieces(err, &[b"cec-opt: ", b"output twice: ", name.bytes(), b"\n"])
-        }
-        CircuitFault::Loop(names) => put_loop(err, b"cec-opt: ", names),
-        CircuitFault::TooManyNets => { write_pieces(err, &[b"cec-opt: ", b"limit: nets", b"\n"]) }
     }
 }

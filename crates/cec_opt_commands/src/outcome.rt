@@ -6,10 +6,10 @@ ghost use Rattle.cec_opt_commands.specs.Statuses.{stop_outcome, unmade_outcome, 
 ghost use Rattle.cec_opt_commands.specs.declared.outcome.OptOutcome.TheVariants.{BadComponent, BadModule};
 
 use base_types::{FileFault, Stop};
+use blif_read::{BlifFault, BlifFault};
 use cec_compile::{Cycle, Limit, Refusal};
 use cec_cycles::Stuck;
 use cec_opt_faults::Unmade;
-use cec_opt_texts::OptFault;
 use cec_text_io::Written;
 use csub_embed::EmbedFault;
 use vlog_reset::ResetFault;
@@ -24,7 +24,7 @@ pub enum OptOutcome {
     /// The file was not read: the count of faults of the files rose, and the name that failed last is that of the file.
     FileFault,
     /// The first fault of the text.
-    BadText(OptFault),
+    BadText(BlifFault),
     /// The text or the source has a netlist, which has no embedded C text under the name after `--embed`. This is the
     /// first fault of the name and of the signals.
     BadComponent(EmbedFault),
@@ -60,10 +60,10 @@ impl From<Written> for OptOutcome {
     }
 }
 
-impl From<Stop<OptFault>> for OptOutcome {
+impl From<Stop<BlifFault>> for OptOutcome {
     ghost from_gives = { λ stop outcome. outcome ≡ stop_outcome stop };
 
-    fn from(stop: Stop<OptFault>) -> OptOutcome {
+    fn from(stop: Stop<BlifFault>) -> OptOutcome {
         match stop {
             Stop::Fault(fault) => OptOutcome::BadText(fault),
             Stop::NoMemory => OptOutcome::NoMemory,
@@ -71,10 +71,10 @@ impl From<Stop<OptFault>> for OptOutcome {
     }
 }
 
-impl From<Stop<Unmade<OptFault, EmbedFault>>> for OptOutcome {
+impl From<Stop<Unmade<BlifFault, EmbedFault>>> for OptOutcome {
     ghost from_gives = { λ stop outcome. outcome ≡ unmade_outcome BadComponent stop };
 
-    fn from(stop: Stop<Unmade<OptFault, EmbedFault>>) -> OptOutcome {
+    fn from(stop: Stop<Unmade<BlifFault, EmbedFault>>) -> OptOutcome {
         match stop {
             Stop::Fault(Unmade::NoNet(fault)) => OptOutcome::BadText(fault),
             Stop::Fault(Unmade::NoText(fault)) => OptOutcome::BadComponent(fault),
@@ -83,10 +83,10 @@ impl From<Stop<Unmade<OptFault, EmbedFault>>> for OptOutcome {
     }
 }
 
-impl From<Stop<Unmade<OptFault, ResetFault>>> for OptOutcome {
+impl From<Stop<Unmade<BlifFault, ResetFault>>> for OptOutcome {
     ghost from_gives = { λ stop outcome. outcome ≡ unmade_outcome BadModule stop };
 
-    fn from(stop: Stop<Unmade<OptFault, ResetFault>>) -> OptOutcome {
+    fn from(stop: Stop<Unmade<BlifFault, ResetFault>>) -> OptOutcome {
         match stop {
             Stop::Fault(Unmade::NoNet(fault)) => OptOutcome::BadText(fault),
             Stop::Fault(Unmade::NoText(fault)) => OptOutcome::BadModule(fault),

@@ -29,7 +29,7 @@ use Rattle.cec_opt_faults.proofs.Exports.{unmade-as}
 use Rattle.cec_opt_faults.specs.Causes.{IsUnmade}
 use Rattle.cec_opt_faults.specs.declared.unmade.Unmade.{Unmade}
 use Rattle.cec_opt_texts.specs.Faults.{IsGivenFault}
-use Rattle.cec_opt_texts.specs.declared.fault.OptFault.{OptFault}
+use Rattle.blif_read.specs.declared.fault.BlifFault.{BlifFault}
 use Rattle.csub_embed.specs.declared.fault.EmbedFault.{EmbedFault}
 use Rattle.cec_opt_embed.specs.Faults.{IsTextEmbedFault, IsTextNameFault}
 use Rattle.cec_opt_embed.specs.Texts.{EmbedKeeps, IsSmallComponent, IsSmallEmbedded, row_of}
@@ -106,14 +106,14 @@ text-keeps text given name layout embedded net is spelled means =
 
 -- ---- a netlist under a name
 
-pub text-net : (text : List ℕ) (given : List GivenRelation) (name : List ℕ) (optimized : Netlist) (result : Result Net (Stop (Unmade OptFault EmbedFault)))
+pub text-net : (text : List ℕ) (given : List GivenRelation) (name : List ℕ) (optimized : Netlist) (result : Result Net (Stop (Unmade BlifFault EmbedFault)))
     → IsSmallNetOf text given optimized → IfOk result (λ n. netlist_of n ≡ under_name name optimized)
     → IfOk result (λ n. IsSmallComponent text given name (netlist_of n))
 text-net text given name optimized (Ok n) small named = record { optimized = optimized; small = small; named = named }
 text-net text given name optimized (Err stop) small named = tt
 
 -- a fault of the name or of a signal, where the text has a netlist
-pub text-fault : (text : List ℕ) (given : List GivenRelation) (name : List ℕ) (optimized : Netlist) (result : Result Net (Stop (Unmade OptFault EmbedFault)))
+pub text-fault : (text : List ℕ) (given : List GivenRelation) (name : List ℕ) (optimized : Netlist) (result : Result Net (Stop (Unmade BlifFault EmbedFault)))
     → IsSmallNetOf text given optimized → IfFault result (IsUnmade (λ cause. ⊥) (IsEmbedFault name (signals optimized)))
     → IfFault result (IsTextEmbedFault text given name)
 text-fault text given name optimized result s is =

@@ -13,7 +13,7 @@ use Rattle.cec_opt_texts.specs.Alike.{HasOutputs}
 use Rattle.cec_opt_texts.specs.Faults.{IsGivenFault}
 use Rattle.cec_opt_texts.specs.Optimized.{IsSmallNetOf}
 use Rattle.cec_opt_texts.specs.Related.{GivenRelation}
-use Rattle.cec_opt_texts.specs.declared.fault.OptFault.{OptFault}
+use Rattle.blif_read.specs.declared.fault.BlifFault.{BlifFault}
 
 -- ---- sources
 
@@ -40,6 +40,6 @@ pub record IsTextNameFault (text : List ℕ) (given : List GivenRelation) (name 
   pub has_outputs : HasOutputs small.circuit names
   pub is : IsEmbedFault name (small.circuit.inputs ++ names) fault
 
-abbrev pub IsTextEmbedFault : (text : List ℕ) → List GivenRelation → (name : List ℕ) → Unmade OptFault EmbedFault
+abbrev pub IsTextEmbedFault : (text : List ℕ) → List GivenRelation → (name : List ℕ) → Unmade BlifFault EmbedFault
     → Type 0
 IsTextEmbedFault text given name = IsUnmade (IsGivenFault text given) (IsTextNameFault text given name)

@@ -10,8 +10,9 @@ ghost use Rattle.cec_opt_embed.specs.Texts.{EmbedKeeps, IsSmallComponent};
 
 use crate::naming::named_net;
 use base_types::{Limits, Stop};
+use blif_read::BlifFault;
 use cec_opt_faults::Unmade;
-use cec_opt_texts::{GivenRelation, OptFault, optimized_net};
+use cec_opt_texts::{GivenRelation, optimized_net};
 use csub_embed::{EmbedFault, EmbedLayout, write_embedded};
 use net_ir::Net;
 use std::alloc::Global;
@@ -33,7 +34,7 @@ pub fn optimized_embedded(
     given: &[GivenRelation<'_>],
     name: &[u8],
     layout: EmbedLayout,
-) -> Result<Vec<u8>, Stop<Unmade<OptFault, EmbedFault>>>
+) -> Result<Vec<u8>, Stop<Unmade<BlifFault, EmbedFault>>>
     requires { length text.now ≤ Limits.TEXT_BYTES }
     ensures keeps { IfOk result
         (λ written. EmbedKeeps text.now (map named_relation given.now) name.now layout written.items) }
@@ -51,7 +52,7 @@ pub fn embedded_text_net(
     text: &[u8],
     given: &[GivenRelation<'_>],
     name: &[u8],
-) -> Result<Net, Stop<Unmade<OptFault, EmbedFault>>>
+) -> Result<Net, Stop<Unmade<BlifFault, EmbedFault>>>
     requires { length text.now ≤ Limits.TEXT_BYTES }
     ensures small { IfOk result
         (λ net. IsSmallComponent text.now (map named_relation given.now) name.now (netlist_of net)) }

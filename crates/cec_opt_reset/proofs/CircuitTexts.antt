@@ -30,7 +30,7 @@ use Rattle.cec_opt_faults.proofs.Exports.{unmade-as}
 use Rattle.cec_opt_faults.specs.Causes.{IsUnmade}
 use Rattle.cec_opt_faults.specs.declared.unmade.Unmade.{Unmade}
 use Rattle.cec_opt_texts.specs.Faults.{IsGivenFault}
-use Rattle.cec_opt_texts.specs.declared.fault.OptFault.{OptFault}
+use Rattle.blif_read.specs.declared.fault.BlifFault.{BlifFault}
 use Rattle.vlog_reset.specs.declared.fault.ResetFault.{ResetFault}
 use Rattle.cec_opt_reset.specs.Faults.{IsTextModuleNameFault, IsTextResetFault}
 use Rattle.cec_opt_reset.specs.Texts.{ResetKeeps}
@@ -106,14 +106,14 @@ text-keeps text given o net reset s spelled means =
     }
 
 pub small-text : {Z : Type 0} (items : Z → List ℕ) (text : List ℕ) (given : List GivenRelation) (o : ModuleOptions) (net : Netlist)
-    (result : Result Z (Stop (Unmade OptFault ResetFault))) → IsSmallNetOf text given net → IfOk result (λ t. items t ≡ written o net)
+    (result : Result Z (Stop (Unmade BlifFault ResetFault))) → IsSmallNetOf text given net → IfOk result (λ t. items t ≡ written o net)
     → IfOk result (λ t. Means (items t) net o) → IfOk result (λ t. ResetKeeps text given o (items t))
 small-text items text given o net (Ok t) small spelled means = text-keeps text given o net (items t) small spelled means
 small-text items text given o net (Err stop) small spelled means = tt
 
 -- a fault of the names, where the text has a netlist
 pub text-fault : {Z : Type 0} (text : List ℕ) (given : List GivenRelation) (o : ModuleOptions) (net : Netlist)
-    (result : Result Z (Stop (Unmade OptFault ResetFault))) → IsSmallNetOf text given net → IfFault result (IsUnmade (λ cause. ⊥) (IsResetFault o net))
+    (result : Result Z (Stop (Unmade BlifFault ResetFault))) → IsSmallNetOf text given net → IfFault result (IsUnmade (λ cause. ⊥) (IsResetFault o net))
     → IfFault result (IsTextResetFault text given o)
 text-fault text given o net result small is =
     unmade-as (IsGivenFault text given) (IsResetFault o net) (IsTextModuleNameFault text given o) result

@@ -13,7 +13,7 @@ use Rattle.cec_opt_sources.specs.declared.light.Coding.{Coding}
 use Rattle.cec_opt_texts.specs.Faults.{IsGivenFault}
 use Rattle.cec_opt_texts.specs.Optimized.{IsSmallNetOf}
 use Rattle.cec_opt_texts.specs.Related.{GivenRelation}
-use Rattle.cec_opt_texts.specs.declared.fault.OptFault.{OptFault}
+use Rattle.blif_read.specs.declared.fault.BlifFault.{BlifFault}
 
 -- ---- sources
 
@@ -38,5 +38,5 @@ pub record IsTextModuleNameFault (text : List ℕ) (given : List GivenRelation) 
   pub small : IsSmallNetOf text given net
   pub is : IsResetFault o net fault
 
-abbrev pub IsTextResetFault : List ℕ → List GivenRelation → ModuleOptions → Unmade OptFault ResetFault → Type 0
+abbrev pub IsTextResetFault : List ℕ → List GivenRelation → ModuleOptions → Unmade BlifFault ResetFault → Type 0
 IsTextResetFault text given o = IsUnmade (IsGivenFault text given) (IsTextModuleNameFault text given o)

@@ -9,8 +9,9 @@ ghost use Rattle.cec_opt_reset.specs.Texts.{ResetKeeps};
 
 use crate::net_texts::net_text;
 use base_types::{Limits, Stop};
+use blif_read::BlifFault;
 use cec_opt_faults::Unmade;
-use cec_opt_texts::{GivenRelation, OptFault, optimized_net};
+use cec_opt_texts::{GivenRelation, optimized_net};
 use std::alloc::Global;
 use vlog_reset::{ResetFault, ResetOptions};
 
@@ -29,7 +30,7 @@ pub fn optimized_reset(
     text: &[u8],
     given: &[GivenRelation<'_>],
     options: ResetOptions<'_>,
-) -> Result<Vec<u8>, Stop<Unmade<OptFault, ResetFault>>>
+) -> Result<Vec<u8>, Stop<Unmade<BlifFault, ResetFault>>>
     requires { length text.now ≤ Limits.TEXT_BYTES }
     ensures keeps { IfOk result
         (λ written. ResetKeeps text.now (map named_relation given.now) (options_of options.entry) written.items) }

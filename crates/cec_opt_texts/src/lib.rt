@@ -6,11 +6,9 @@
 //! `cec`. Where relations of the inputs are given, the same is shown over the lists whose events meet them.
 #![tactic(auto)]
 
-mod fault;
 mod relations;
 mod texts;
 
-pub use fault::OptFault;
 pub use relations::GivenRelation;
 pub use texts::{
     optimized_blif, optimized_c, optimized_net, optimized_under, optimized_verilog, text_net,

@@ -16,8 +16,8 @@ ghost use Rattle.cec_opt_texts.specs.Related.{
   Never,
 };
 
-use crate::fault::OptFault;
 use base_types::{InputRelation, NoMemory, SigId, Stop, Text};
+use blif_read::BlifFault;
 use std::alloc::Global;
 
 /// What the environment keeps of the inputs of a text in every instant, by their names.
@@ -35,7 +35,7 @@ pub(crate) fn numbered_relations(
     alloc: Global,
     inputs: &[Text],
     given: &[GivenRelation<'_>],
-) -> Result<Vec<InputRelation>, Stop<OptFault>>
+) -> Result<Vec<InputRelation>, Stop<BlifFault>>
     requires { length inputs.now ≤ 2 ^ 32 }
     ensures found { IfOk result
         (λ list. numbered_relations inputs.now (map named_relation given.now) ≡ Ok (map relation_of list.items)) }
@@ -55,7 +55,7 @@ fn numbered_relation(
     alloc: Global,
     inputs: &[Text],
     relation: GivenRelation<'_>,
-) -> Result<InputRelation, Stop<OptFault>>
+) -> Result<InputRelation, Stop<BlifFault>>
     requires { length inputs.now ≤ 2 ^ 32 }
     ensures found { IfOk result
         (λ r. numbered_relation inputs.now (named_relation relation.entry) ≡ Ok (relation_of r)) }
@@ -67,7 +67,7 @@ fn numbered_relation(
     }
 }
 
-fn exclusion(alloc: Global, inputs: &[Text], names: &[u8]) -> Result<InputRelation, Stop<OptFault>>
+fn exclusion(alloc: Global, inputs: &[Text], names: &[u8]) -> Result<InputRelation, Stop<BlifFault>>
     requires { length inputs.now ≤ 2 ^ 32 }
     ensures found { IfOk result
         (λ r. numbered_relation inputs.now (Never (names_between_commas names.now)) ≡ Ok (relation_of r)) }
@@ -85,7 +85,7 @@ fn implication(
     inputs: &[Text],
     a: &[u8],
     b: &[u8],
-) -> Result<InputRelation, Stop<OptFault>>
+) -> Result<InputRelation, Stop<BlifFault>>
     requires { length inputs.now ≤ 2 ^ 32 }
     ensures found { IfOk result (λ r. numbered_relation inputs.now (Implication a.now b.now) ≡ Ok (relation_of r)) }
     ensures fault { IfFault result (IsNoInput (numbered_relation inputs.now (Implication a.now b.now))) }
@@ -106,7 +106,7 @@ fn input_numbers(
     alloc: Global,
     inputs: &[Text],
     names: &[&[u8]],
-) -> Result<Vec<SigId>, Stop<OptFault>>
+) -> Result<Vec<SigId>, Stop<BlifFault>>
     requires { length inputs.now ≤ 2 ^ 32 }
     ensures found { IfOk result
         (λ list. input_numbers inputs.now (map (λ name. name.now) names.now) ≡ Ok (map (λ s. s.0) list.items)) }
@@ -123,7 +123,7 @@ fn input_numbers(
 }
 
 // The number of the input of this name.
-fn input_number(alloc: Global, inputs: &[Text], name: &[u8]) -> Result<SigId, Stop<OptFault>>
+fn input_number(alloc: Global, inputs: &[Text], name: &[u8]) -> Result<SigId, Stop<BlifFault>>
     requires { length inputs.now ≤ 2 ^ 32 }
     ensures found { IfOk result (λ n. input_number inputs.now name.now ≡ Ok n.0) }
     ensures fault { IfFault result (IsNoInput (input_number inputs.now name.now)) }
@@ -140,11 +140,11 @@ fn input_place(inputs: &[Text], name: &[u8]) -> Option<usize>
     inputs.iter().position(|input| name == input.bytes())
 }
 
-fn no_input(alloc: Global, name: &[u8]) -> Stop<OptFault>
-    ensures { FaultIs (λ fault. fault ≡ OptFault.NoInput name.now) result }
+fn no_input(alloc: Global, name: &[u8]) -> Stop<BlifFault>
+    ensures { FaultIs (λ fault. fault ≡ BlifFault.NoInput name.now) result }
 {
     match Text::from_bytes(alloc, name) {
-        Ok(name) => Stop::Fault(OptFault::NoInput(name)),
+        Ok(name) => Stop::Fault(BlifFault::NoInput(name)),
         Err(_) => Stop::NoMemory,
     }
 }

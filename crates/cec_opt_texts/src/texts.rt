@@ -1,28 +1,21 @@
 // The optimized netlist of a text, and its texts.
 
-ghost use Rattle.std.specs.Prelude.{◌≡◌, ◌≢◌, ◌≤◌, length, map, Ok, IfOk};
-ghost use Rattle.base_types.specs.Stops.{FaultIs, IfFault};
+ghost use Rattle.std.specs.Prelude.{◌≤◌, length, map, IfOk};
+ghost use Rattle.base_types.specs.Stops.{IfFault};
 ghost use Rattle.net_ir.specs.Runs.{netlist_of};
-ghost use Rattle.blif_text.specs.Circuits.{Circuit, reading};
-ghost use Rattle.blif_text.specs.Plain.{plain_circuit};
 ghost use Rattle.blif_text.specs.Written as blif_texts;
 ghost use Rattle.csub_text.specs.Written as c_texts;
 ghost use Rattle.vlog_text.specs.Written as verilog_texts;
-ghost use Rattle.blif_read.specs.declared.refusal.BlifError.TheVariants.{TooLong as is_too_long};
-ghost use Rattle.blif_run.specs.Loops.{IsDescribed};
-ghost use Rattle.blif_net.specs.Conversions.{IsNetOf};
-ghost use Rattle.blif_net.specs.Interfaces.{IsCircuitFault};
-ghost use Rattle.cec_opt_texts.specs.Faults.{IsGivenFault, IsNetFault, IsNoInput, IsOptFault, IsReadFault};
+ghost use Rattle.cec_opt_texts.specs.Faults.{IsGivenFault, IsNoInput, IsOptFault};
 ghost use Rattle.cec_opt_texts.specs.Alike.{BlifKeeps, CKeeps, VerilogKeeps};
 ghost use Rattle.cec_opt_texts.specs.Optimized.{IsSmallFor, IsSmallNetOf, IsSmallText, IsTextNet};
 ghost use Rattle.cec_opt_texts.specs.Related.{named_relation, numbered_relations};
 
-use crate::fault::OptFault;
 use crate::relations::{GivenRelation, numbered_relations};
 use base_types::{Limits, Stop};
-use blif_net::{CircuitFault, net_of_circuit};
-use blif_read::{BlifError, read_blif};
-use blif_text::{Blif, write_blif};
+use blif_net::net_of_circuit;
+use blif_read::{BlifFault, read_blif};
+use blif_text::write_blif;
 use csub_text::write_c;
 use net_ir::Net;
 use net_relations::optimize_under;
@@ -38,7 +31,7 @@ pub fn optimized_blif(
     alloc: Global,
     text: &[u8],
     given: &[GivenRelation<'_>],
-) -> Result<Vec<u8>, Stop<OptFault>>
+) -> Result<Vec<u8>, Stop<BlifFault>>
     requires { length text.now ≤ Limits.TEXT_BYTES }
     ensures keeps { IfOk result (λ written. BlifKeeps text.now (map named_relation given.now) written.items) }
     ensures small { IfOk result
@@ -55,7 +48,7 @@ pub fn optimized_c(
     alloc: Global,
     text: &[u8],
     given: &[GivenRelation<'_>],
-) -> Result<Vec<u8>, Stop<OptFault>>
+) -> Result<Vec<u8>, Stop<BlifFault>>
     requires { length text.now ≤ Limits.TEXT_BYTES }
     ensures keeps { IfOk result (λ written. CKeeps text.now (map named_relation given.now) written.items) }
     ensures small { IfOk result
@@ -72,7 +65,7 @@ pub fn optimized_verilog(
     alloc: Global,
     text: &[u8],
     given: &[GivenRelation<'_>],
-) -> Result<Vec<u8>, Stop<OptFault>>
+) -> Result<Vec<u8>, Stop<BlifFault>>
     requires { length text.now ≤ Limits.TEXT_BYTES }
     ensures keeps { IfOk result (λ written. VerilogKeeps text.now (map named_relation given.now) written.items) }
     ensures small { IfOk result
@@ -90,7 +83,7 @@ pub fn optimized_net(
     alloc: Global,
     text: &[u8],
     given: &[GivenRelation<'_>],
-) -> Result<Net, Stop<OptFault>>
+) -> Result<Net, Stop<BlifFault>>
     requires { length text.now ≤ Limits.TEXT_BYTES }
     ensures small { IfOk result (λ net. IsSmallNetOf text.now (map named_relation given.now) (netlist_of net)) }
     ensures fault { IfFault result (IsGivenFault text.now (map named_relation given.now)) }
@@ -109,7 +102,7 @@ pub fn optimized_under(
     alloc: Global,
     net: &Net,
     given: &[GivenRelation<'_>],
-) -> Result<Net, Stop<OptFault>>
+) -> Result<Net, Stop<BlifFault>>
     ensures small { IfOk result
         (λ small. IsSmallFor (map named_relation given.now) (netlist_of net.now) (netlist_of small)) }
     ensures fault { IfFault result
@@ -125,55 +118,11 @@ pub fn optimized_under(
 }
 
 /// The netlist of a BLIF text, as the text describes it: its circuit's netlist.
-pub fn text_net(alloc: Global, text: &[u8]) -> Result<Net, Stop<OptFault>>
+pub fn text_net(alloc: Global, text: &[u8]) -> Result<Net, Stop<BlifFault>>
     requires { length text.now ≤ Limits.TEXT_BYTES }
     ensures net { IfOk result (λ net. IsTextNet text.now (netlist_of net)) }
     ensures fault { IfFault result (IsOptFault text.now) }
 {
-    let blif = read_circuit(alloc, text)?;
-    circuit_net(alloc, &blif)
-}
-
-fn read_circuit(alloc: Global, text: &[u8]) -> Result<Blif, Stop<OptFault>>
-    requires { length text.now ≤ Limits.TEXT_BYTES }
-    ensures reads { IfOk result (λ blif. reading text.now ≡ Ok (plain_circuit blif)) }
-    ensures fault { IfFault result (IsOptFault text.now) }
-{
-    match read_blif(alloc, text) {
-        Ok(blif) => Ok(blif),
-        Err(error) => Err(text_stop(error)),
-    }
-}
-
-fn text_stop(error: BlifError) -> Stop<OptFault>
-    requires { error ≢ is_too_long }
-    ensures { IsReadFault error result }
-{
-    match error {
-        BlifError::Line(number) => Stop::Fault(OptFault::Line(number)),
-        BlifError::TwoDrivers(name) => Stop::Fault(OptFault::TwoDrivers(name)),
-        BlifError::NoDriver(name) => Stop::Fault(OptFault::NoDriver(name)),
-        BlifError::NoMemory => Stop::NoMemory,
-        BlifError::TooLong => unreachable!(),
-    }
-}
-
-fn circuit_net(alloc: Global, blif: &Blif) -> Result<Net, Stop<OptFault>>
-    requires { IsDescribed (plain_circuit blif.now) }
-    ensures net { IfOk result (λ net. IsNetOf (plain_circuit blif.now) (netlist_of net)) }
-    ensures fault { IfFault result (IsNetFault (plain_circuit blif.now)) }
-{
-    match net_of_circuit(alloc, blif) {
-        Ok(net) => Ok(net),
-        Err(stop) => Err(circuit_stop(stop)),
-    }
-}
-
-fn circuit_stop(stop: Stop<CircuitFault>) -> Stop<OptFault>
-    ensures { (c : Circuit) → FaultIs (IsCircuitFault c) stop → FaultIs (IsNetFault c) result }
-{
-    match stop {
-        Stop::Fault(fault) => Stop::Fault(OptFault::Circuit(fault)),
-        Stop::NoMemory => Stop::NoMemory,
-    }
+    let blif = read_blif(alloc, text)?;
+    net_of_circuit(alloc, &blif)
 }

@@ -19,7 +19,7 @@ use Rattle.cec_prove_texts.specs.Devices.{Device, circuit_device}
 use Rattle.cec_prove_texts.specs.Sameness.{HasTextComparison, IsDeviceComparison}
 use Rattle.cec_prove_texts.specs.Surveys.{HasTextSurvey, IsDeviceSurvey}
 use Rattle.cec_prove_texts.specs.Verdicts.{HasTextVerdict, IsDeviceVerdict}
-use Rattle.cec_opt_texts.specs.declared.fault.OptFault.{OptFault}
+use Rattle.blif_read.specs.declared.fault.BlifFault.{BlifFault}
 use Rattle.cec_prove_commands.specs.Answers.{IsAnswer, IsWrittenBy, SaysOfTexts}
 use Rattle.cec_prove_commands.specs.Outcomes.{Answered, ClaimSays, Compared, ComparisonSays, CoveringSays, IsClaimTraceBy, IsCoveringBy, IsCoveringOf}
 use Rattle.cec_prove_commands.specs.Outcomes.{IsDistinction, IsDistinctionBy, IsRefutation, IsSurveyBy, IsSurveyOf, SurveySays, question_of}
@@ -276,7 +276,7 @@ compared_out v o s (Compare other) job first second f t h = f first second job h
 compared_out v o s (CompareTexts other) job first second f t h = t first second h
 compared_out v o s others job first second f t h = absurd h
 
-pub bad_text_says : (which : Which) (fault : OptFault) (task : Task) (job : Job) (first second : List ℕ)
+pub bad_text_says : (which : Which) (fault : BlifFault) (task : Task) (job : Job) (first second : List ℕ)
     → IsAnswer (answers.BadText which fault) task job first second → SaysOfTexts task (BadInput which (BadText fault)) job first second
 bad_text_says First fault (AskText claim signal) job first second h = h
 bad_text_says First fault SurveyText job first second h = h

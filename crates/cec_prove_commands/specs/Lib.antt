@@ -1,7 +1,6 @@
 pub mod Words
 pub mod Statuses
 pub mod HelpTexts
-pub mod TextFaults
 pub mod TextOutcomes
 pub mod Outcomes
 pub mod Lines

@@ -6,7 +6,7 @@ use Rattle.cec_cycles.specs.declared.findings.Stuck.{Stuck}
 use Rattle.cec_refusals.specs.RefusalLines.{RefusalSubject, refusal_line}
 use Rattle.cec_text_io.specs.Contents.{Content, IsHeld}
 use Rattle.cec_text_io.specs.ErrorLines.{GainsLine}
-use Rattle.cec_prove_commands.specs.TextFaults.{fault_text}
+use Rattle.cec_refusals.specs.BlifFaults.{blif_fault_text}
 use Rattle.cec_prove_commands.specs.Words.{Job, Request, Tell, Do, Task, Ask, Survey, Cover, Compare, AskText}
 use Rattle.cec_prove_commands.specs.Words.{SurveyText, CompareTexts}
 use Rattle.cec_prove_commands.specs.declared.outcome.InputFault.{InputFault}
@@ -78,7 +78,7 @@ fault_line s which (Refused refusal) = refusal_line (refused_of s which) refusal
 fault_line s which (NotConstructive stuck) = input_line s which (stuck_text stuck)
 fault_line s which (UndecidedCycle cycle) = input_line s which (codes "undecided: " ++ cycle.text.items)
 fault_line s which (TooManyNets cycle) = input_line s which (codes "limit: nets: " ++ cycle.text.items)
-fault_line s which (BadText fault) = input_line s which (fault_text fault)
+fault_line s which (BadText fault) = input_line s which (blif_fault_text fault)
 fault_line s which TooLong = input_line s which (codes "limit: text")
 
 -- the line of an outcome; none for Told

@@ -5,7 +5,6 @@ ghost use Rattle.cec_prove_commands.specs.Answers.{is_open};
 
 use crate::outcome::Which;
 use cec_cycles::CycleRefusal;
-use cec_opt_texts::OptFault;
 use cec_prove_covers::Covering;
 use cec_prove_sources::{Comparison, Survey, Verdict};
 
@@ -23,7 +22,7 @@ pub(crate) enum Answer {
     /// This source is refused. The second one of a comparison is so only where the first one is not.
     Refused(Which, CycleRefusal),
     /// This text has this fault. The second one of a comparison is reported only where the first one has none.
-    BadText(Which, OptFault),
+    BadText(Which, BlifFault),
     /// Running out of memory.
     NoMemory,
 }

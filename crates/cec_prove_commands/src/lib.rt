@@ -8,7 +8,6 @@
 
 mod answers;
 mod command;
-mod faults;
 mod lines;
 mod outcome;
 mod search;

@@ -3,19 +3,17 @@
 ghost use Rattle.std.specs.Prelude.{◌≡◌, ◌≤◌, ◌++◌, ℕ, List, Option, codes, decimal, length};
 ghost use Rattle.base_types.specs.Writing.{Wrote};
 ghost use Rattle.cec_text_io.specs.ErrorLines.{GainsLine};
+ghost use Rattle.cec_refusals.specs.BlifFaults.{blif_fault_text};
 ghost use Rattle.cec_refusals.specs.Views.{refused_is};
 ghost use Rattle.cec_prove_commands.specs.Lines.{fault_line, input_line, line_begin, line_of, misuse_line, own_line};
 ghost use Rattle.cec_prove_commands.specs.Lines.{progress_line, refused_of, stuck_text, which_of};
-ghost use Rattle.cec_prove_commands.specs.TextFaults.{fault_text};
 ghost use Rattle.cec_prove_commands.specs.Views.{misuse_is, subject_is};
 
-use crate::faults::put_fault;
 use crate::outcome::{InputFault, ProveOutcome, Which};
 use crate::words::Misuse;
 use base_types::{Limits, Sink, SinkFault, write_pieces};
 use cec_cycles::Stuck;
-use cec_opt_texts::OptFault;
-use cec_refusals::{RefusedSource, put_refusal};
+use cec_refusals::{RefusedSource, put_blif_fault, put_refusal};
 use itoa::Buffer;
 
 /// What a line speaks of: the names of the files, the signals, the main module, and the source.
@@ -189,15 +187,15 @@ fn put_bad_text<E: Sink>(
     err: &mut E,
     subject: Subject<'_>,
     which: Which,
-    fault: &OptFault,
+    fault: &BlifFault,
 ) -> Result<(), SinkFault>
     ensures { Wrote (E.told err.old) (E.told err.new) (E.faults err.old) (E.faults err.new)
-        (input_line (subject_is subject.entry) which (fault_text fault.now)) result }
+        (input_line (subject_is subject.entry) which (blif_fault_text fault.now)) result }
 {
     if let Err(stop) = put_begin(err, subject, which) {
         return Err(stop);
     }
-    put_fault(err, b"", fault)
+    put_blif_fault(err, b"", fault)
 }
 
 // The line of a program that is not constructive.

@@ -5,9 +5,9 @@ ghost use Rattle.cec_prove_commands.specs.Statuses.{fault_status, long_fault, re
 ghost use Rattle.cec_prove_commands.specs.Statuses.{status_of, unread_outcome, written_outcome};
 
 use base_types::FileFault;
+use blif_read::BlifFault;
 use cec_compile::{Cycle, Limit, Refusal};
 use cec_cycles::Stuck;
-use cec_opt_texts::OptFault;
 use cec_text_io::Written;
 
 /// How a command ended, with the cause of each refusal.
@@ -76,7 +76,7 @@ pub enum InputFault {
     TooManyNets(Cycle),
     /// The first fault of the text, or that of its circuit. If the text is the second one of a comparison, the first
     /// one has no fault.
-    BadText(OptFault),
+    BadText(BlifFault),
     /// The text has more bytes than `Limits::TEXT_BYTES`.
     TooLong,
 }

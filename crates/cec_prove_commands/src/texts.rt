@@ -16,7 +16,7 @@ use crate::answers::Answer;
 use crate::outcome::Which;
 use crate::words::Job;
 use base_types::{Limits, Stop};
-use cec_opt_texts::OptFault;
+use blif_read::BlifFault;
 use cec_prove_sources::{Claim, Comparison, Question, Survey, Verdict};
 use cec_prove_texts::{PairFault, text_comparison_of, text_survey_of, text_verdict_of};
 use std::alloc::Global;
@@ -47,7 +47,7 @@ fn verdict(
     signal: &[u8],
     text: &[u8],
     effort: u64,
-) -> Result<Verdict, Stop<OptFault>>
+) -> Result<Verdict, Stop<BlifFault>>
     requires { length text.now ≤ Limits.TEXT_BYTES }
     ensures answers { IfOk result (HasTextVerdict text.now (question_of claim signal.now (job_is job.entry))) }
     ensures fault { IfFault result (IsOptFault text.now) }
@@ -72,7 +72,7 @@ pub(crate) fn text_survey_answer(alloc: Global, job: Job<'_>, text: &[u8], effor
     }
 }
 
-fn survey(alloc: Global, job: Job<'_>, text: &[u8], effort: u64) -> Result<Survey, Stop<OptFault>>
+fn survey(alloc: Global, job: Job<'_>, text: &[u8], effort: u64) -> Result<Survey, Stop<BlifFault>>
     requires { length text.now ≤ Limits.TEXT_BYTES }
     ensures surveys { IfOk result (HasTextSurvey text.now (job_is job.entry).assumed) }
     ensures fault { IfFault result (IsOptFault text.now) }

@@ -16,7 +16,8 @@ ghost use Rattle.cec_prove_texts.specs.Sameness.{HasTextComparison, IsDeviceComp
 use crate::fault::PairFault;
 use crate::traces::trace_of;
 use base_types::{Limits, NoMemory, Stop};
-use cec_opt_texts::{OptFault, text_net};
+use blif_read::BlifFault;
+use cec_opt_texts::text_net;
 use cec_prove_sources::{
     Claim, Comparison, Layout, are_same_names, are_same_outputs, assumed_clauses, bad_literal,
     small_pair,
@@ -95,7 +96,7 @@ fn compared(alloc: Global, left: &Net, right: &Net, effort: u64) -> Result<Compa
 }
 
 // The first text has this fault.
-fn first_stop(stop: Stop<OptFault>) -> Stop<PairFault>
+fn first_stop(stop: Stop<BlifFault>) -> Stop<PairFault>
     ensures { (first second : List ℕ) → FaultIs (IsOptFault first) stop → FaultIs (IsPairFault first second) result }
 {
     match stop {
@@ -105,7 +106,7 @@ fn first_stop(stop: Stop<OptFault>) -> Stop<PairFault>
 }
 
 // The first text has a netlist, and the second text has this fault.
-fn second_stop(stop: Stop<OptFault>) -> Stop<PairFault>
+fn second_stop(stop: Stop<BlifFault>) -> Stop<PairFault>
     ensures { (first second : List ℕ) (net : Netlist) → IsTextNet first net → FaultIs (IsOptFault second) stop
         → FaultIs (IsPairFault first second) result }
 {

@@ -1,6 +1,6 @@
 // Why there is no comparison of two texts.
 
-use cec_opt_texts::OptFault;
+use blif_read::BlifFault;
 use thiserror::Error;
 
 /// One of two texts has no netlist.
@@ -8,8 +8,8 @@ use thiserror::Error;
 pub enum PairFault {
     /// The first text has this fault.
     #[error(transparent)]
-    First(OptFault),
+    First(BlifFault),
     /// The first text has a netlist, and the second text has this fault.
     #[error(transparent)]
-    Second(OptFault),
+    Second(BlifFault),
 }

@@ -12,7 +12,8 @@ ghost use Rattle.cec_prove_texts.specs.Surveys.{HasTextSurvey, IsDeviceSurvey, I
 use crate::places::place_of;
 use crate::presences::push_signal;
 use base_types::{Limits, NoMemory, Stop};
-use cec_opt_texts::{OptFault, text_net};
+use blif_read::BlifFault;
+use cec_opt_texts::text_net;
 use cec_prove_sources::{Signal, Survey};
 use net_ir::Net;
 use net_opt::optimize;
@@ -120,7 +121,7 @@ pub fn text_survey_of(
     text: &[u8],
     assumed: Option<&[u8]>,
     effort: u64,
-) -> Result<Survey, Stop<OptFault>>
+) -> Result<Survey, Stop<BlifFault>>
     requires { length text.now ≤ Limits.TEXT_BYTES }
     ensures surveys { IfOk result (HasTextSurvey text.now (option_map (λ n. n.now) assumed.entry)) }
     ensures fault { IfFault result (IsOptFault text.now) }

@@ -13,7 +13,8 @@ ghost use Rattle.cec_prove_texts.specs.Verdicts.{AsksDevice, HasTextVerdict, IsD
 use crate::findings::found;
 use crate::places::place_of;
 use base_types::{Limits, NoMemory, Stop};
-use cec_opt_texts::{OptFault, text_net};
+use blif_read::BlifFault;
+use cec_opt_texts::text_net;
 use cec_prove_sources::{Finding, Layout, PlacedQuestion, Question, Verdict};
 use net_ir::Net;
 use net_opt::optimize;
@@ -118,7 +119,7 @@ pub fn text_verdict_of(
     text: &[u8],
     question: Question<'_>,
     effort: u64,
-) -> Result<Verdict, Stop<OptFault>>
+) -> Result<Verdict, Stop<BlifFault>>
     requires { length text.now ≤ Limits.TEXT_BYTES }
     ensures answers { IfOk result (HasTextVerdict text.now (plain_question question.entry)) }
     ensures fault { IfFault result (IsOptFault text.now) }

@@ -1,2 +1,3 @@
 pub mod RefusalLines
+pub mod BlifFaults
 pub mod Views

@@ -13,12 +13,13 @@ use Rattle.csub_text.specs.Machine.{value_of, with_inputs}
 use Rattle.csub_text.specs.Trees as plain
 use Rattle.run_steps.specs.Plans.{made, term_value}
 use Rattle.run_steps.specs.Slots.{slot_in, value_at, memory_in}
-use Rattle.csub_guard_run.specs.declared.runner.GuardedRun.TheInside.{Inside}
+use Rattle.csub_guard_run.specs.declared.runner.GuardedRunner.TheInside.{Inside}
 use Rattle.csub_guard_run.specs.declared.plan.Block.{Block}
 use Rattle.csub_guard_run.specs.declared.plan.Body.{Body}
 use Rattle.csub_guard_run.specs.Insides.{KeepsPlan}
 use Rattle.csub_guard_run.specs.Plans.{IsPlan, IsEnd, first_values}
 use Rattle.csub_guard_run.specs.Runners.{KeepsNames, Reacts, IsFresh}
+use Rattle.csub_guard_run.specs.Totals.{HasRoom}
 use Rattle.csub_guard_run.specs.Runs.{BodyFits, blocks_made, body_made, body_count}
 use Rattle.csub_guard_run.proofs.Bodies.{names-low}
 use Rattle.csub_guard_run.proofs.Runs.{tests-low, steps, segments_run, segments_count, stretch-made, blocks-run, Agrees, body-agrees}
@@ -38,12 +39,13 @@ fresh-by code values count is none = record {
 pub keeps-by : (inside : Inside) → KeepsNames (program_of inside.program) → IsPlan (program_of inside.program) inside.plan
     → inside.plan.track.gates.slots ≤ length inside.values.items
     → inside.outputs.items ≡ map (value_at inside.values.items) inside.plan.outputs.items
-    → KeepsPlan inside
-keeps-by inside fits plan wide shown = record {
+    → HasRoom inside.total → KeepsPlan inside
+keeps-by inside fits plan wide shown room = record {
   names_fit = fits;
   plan = plan;
   each_slot = wide;
   shown = shown ∙ shown-front (shell (program_of inside.program)) inside.plan.outputs.items inside.values.items plan.outputs_are;
+  room = room;
 }
 
 -- ---- one call

@@ -1,8 +1,7 @@
--- Inner: the program of a net's text shows what the net does, and its reader has no fault to tell.
-use Rattle.std.proofs.Common.{◌≡◌, ℕ, ◌≤◌, List, length, map, sym, ap, ◌∙◌, arith}
+-- Inner: the program of a net's text shows what the net does.
+use Rattle.std.proofs.Common.{◌≡◌, ℕ, List, length, map, sym, ap, ◌∙◌}
 use Rattle.std.proofs.lemmas.List.{length-map}
 use Rattle.std.proofs.lemmas.Simd.{map-map}
-use Rattle.base_types.specs.declared.bounds.TheConstants.Limits.{TEXT_BYTES}
 use Rattle.base_types.specs.Items.{Item}
 use Rattle.base_machines.proofs.Exports.{computed-shows}
 use Rattle.net_ir.specs.Netlists.{Netlist}
@@ -13,10 +12,7 @@ use Rattle.csub_run.proofs.Exports.{answers-shown}
 use Rattle.csub_run.specs.ProgramAnswers.{answer_seen}
 use Rattle.csub_text.specs.Machine.{first_memory}
 use Rattle.csub_text.specs.Written.{input_variable, output_variable}
-use Rattle.csub_guard_read.specs.declared.refusal.GuardedFault.{GuardedFault}
-use Rattle.csub_guard_read.specs.declared.refusal.GuardedFault.TheVariants as faults
-use Rattle.csub_guard_read.specs.Faults.{ReadsAs, ReadsFault}
-use Rattle.csub_guard_read.specs.Laws.{LacksRoom}
+use Rattle.csub_guard_read.specs.Faults.{ReadsAs}
 use Rattle.csub_guard_read.proofs.Exports.{described-are-read}
 use Rattle.csub_guard_run.specs.ProgramAnswers.{call_answer, program_shows}
 use Rattle.csub_guard_run.specs.Showing.{Counter, IsNew, counted_program, counter_shows}
@@ -26,19 +22,7 @@ use Rattle.csub_guard_run.proofs.Showing.{fresh_shows}
 use Rattle.run_over_traces.specs.Languages.{IsOfNet}
 use Rattle.run_over_traces.specs.Machines.{ShownAnswer}
 
--- the reader of such a text has no fault to tell
-pub reader-has-none : (text : List ℕ) (net : Netlist) (fault : GuardedFault) → Means text net → length text ≤ TEXT_BYTES → ReadsFault text fault → ⊥
-reader-has-none text net fault means fits is = by_fault fault ((described-are-read text means.program means.describes).refusals fault is)
-  where
-    by_fault : (f : GuardedFault) → LacksRoom text f → ⊥
-    by_fault faults.TooLong long = omega (arith, fits, long)
-    by_fault (faults.Syntax at) lacks = lacks
-    by_fault (faults.Twice name) lacks = lacks
-    by_fault (faults.Undeclared name) lacks = lacks
-    by_fault (faults.Again name) lacks = lacks
-    by_fault (faults.Unset name) lacks = lacks
-
--- and reads it as the program by which it means the net
+-- such a text is read as the program by which it means the net
 pub reader-reads : (text : List ℕ) (net : Netlist) (p : Program) → Means text net → ReadsAs text p → IsProgramOf text net p
 reader-reads text net p means reads =
     record { means = means; is = (described-are-read text means.program means.describes).only p reads.describes }

@@ -118,10 +118,6 @@ new_counts m last items n new adds is =
     let all = summed-counts 0 (calls_from p (first_memory p.states) items) n (subst (λ k. Summed (Some 0) (calls_from p k items) (Some n)) memory ended) in
     omega (arith, all)
 
--- the sum of a number and a count, by other names of both
-pub sums-by : (total own sum : Option ℕ) (count said : ℕ) → own ≡ total → said ≡ count → IsSum own said sum → IsSum total count sum
-sums-by total own sum count said same counted is = subst (λ t. IsSum t count sum) same (subst (λ k. IsSum own k sum) counted is)
-
 -- a new machine shows what its program does
 pub new-shows : {E : Type 0} (r : Result Counter E) → IfOk r IsNew → IfOk r (λ m. IsOfProgram counter_shows program_shows m (counted_program m))
 new-shows (Ok m) new = record { told = λ items answers shows. fresh_shows m new.calls items answers shows }

@@ -1,22 +1,32 @@
 -- Inner: why a text has no machine.
-use Rattle.std.proofs.Common.{◌≢◌, ℕ, ◌≤◌, List, length, sym, subst, arith}
+use Rattle.std.proofs.Common.{ℕ, ◌≤◌, List, length, arith}
 use Rattle.base_types.specs.declared.bounds.TheConstants.Limits.{TEXT_BYTES}
+use Rattle.base_types.specs.declared.stop.Stop.{Stop}
+use Rattle.base_types.specs.declared.stop.Stop.TheVariants.{Fault, NoMemory}
+use Rattle.base_types.specs.Stops.{FaultIs}
+use Rattle.net_ir.specs.Netlists.{Netlist}
 use Rattle.csub_guard_read.specs.declared.refusal.GuardedFault.{GuardedFault}
-use Rattle.csub_guard_read.specs.declared.refusal.GuardedFault.TheVariants as faults
+use Rattle.csub_guard_read.specs.declared.refusal.GuardedFault.TheVariants.{TooLong, Syntax, Twice, Undeclared, Again, Unset}
 use Rattle.csub_guard_read.specs.Faults.{ReadsFault}
-use Rattle.csub_guard_run.specs.declared.language.GuardedTextFault.{GuardedTextFault}
-use Rattle.csub_guard_run.specs.Texts.{IsTextFault}
-use Rattle.csub_guard_run.specs.Tracing.{IsFaultOf}
+use Rattle.csub_guard_read.proofs.Exports.{described-are-read}
+use Rattle.csub_guard_run.specs.Texts.{IsTextFault, Means}
 
--- a text within the limit is not refused as too long
-pub not-long : (text : List ℕ) (fault : GuardedFault) → length text ≤ TEXT_BYTES → ReadsFault text fault → fault ≢ faults.TooLong
-not-long text fault short refused is = let long = subst (λ e. ReadsFault text e) is refused in omega (arith, short, long)
+-- what the reader refuses of a text within the limit is its first fault
+pub reader-faults : (text : List ℕ) (stop : Stop GuardedFault) → length text ≤ TEXT_BYTES → FaultIs (ReadsFault text) stop
+    → FaultIs (IsTextFault text) stop
+reader-faults text (Fault TooLong) short is = absurd (omega (arith, short, is))
+reader-faults text (Fault (Syntax at)) short is = is.1
+reader-faults text (Fault (Twice name)) short is = is.1
+reader-faults text (Fault (Undeclared name)) short is = is.1
+reader-faults text (Fault (Again name)) short is = is.1
+reader-faults text (Fault (Unset name)) short is = is.1
+reader-faults text NoMemory short is = tt
 
--- what the reader refuses is the first fault
-pub reader-faults : (text : List ℕ) (fault : GuardedFault) (own : GuardedTextFault) → ReadsFault text fault → IsFaultOf fault own → IsTextFault text own
-reader-faults text faults.TooLong own fault is = absurd is
-reader-faults text (faults.Syntax at) own fault is = subst (IsTextFault text) (sym is) fault.1
-reader-faults text (faults.Twice name) own fault is = subst (IsTextFault text) (sym is) fault.1
-reader-faults text (faults.Undeclared name) own fault is = subst (IsTextFault text) (sym is) fault.1
-reader-faults text (faults.Again name) own fault is = subst (IsTextFault text) (sym is) fault.1
-reader-faults text (faults.Unset name) own fault is = subst (IsTextFault text) (sym is) fault.1
+-- the text that is written of a net has no fault
+pub written-faultless : (text : List ℕ) (net : Netlist) → Means text net → length text ≤ TEXT_BYTES → (fault : GuardedFault) → IsTextFault text fault → ⊥
+written-faultless text net means short TooLong is = is
+written-faultless text net means short (Syntax at) is = (described-are-read text means.program means.describes).refusals (Syntax at) (short, is)
+written-faultless text net means short (Twice name) is = (described-are-read text means.program means.describes).refusals (Twice name) (short, is)
+written-faultless text net means short (Undeclared name) is = (described-are-read text means.program means.describes).refusals (Undeclared name) (short, is)
+written-faultless text net means short (Again name) is = (described-are-read text means.program means.describes).refusals (Again name) (short, is)
+written-faultless text net means short (Unset name) is = (described-are-read text means.program means.describes).refusals (Unset name) (short, is)

@@ -9,16 +9,17 @@ use Rattle.csub_guard.specs.Texts.{Describes}
 use Rattle.csub_guard.specs.Trees.{Program}
 use Rattle.csub_text.specs.Written.{input_variable, output_variable, shown_by_call}
 use Rattle.csub_guard_read.specs.Faults.{IsSyntaxFault, IsNameFault}
-use Rattle.csub_guard_run.specs.declared.language.GuardedTextFault.{GuardedTextFault}
-use Rattle.csub_guard_run.specs.declared.language.GuardedTextFault.TheVariants.{Syntax, Twice, Undeclared, Again, Unset}
+use Rattle.csub_guard_read.specs.declared.refusal.GuardedFault.{GuardedFault}
+use Rattle.csub_guard_read.specs.declared.refusal.GuardedFault.TheVariants.{Syntax, Twice, Undeclared, Again, Unset}
 
 -- the first fault of a text, in the order of its reader
-abbrev pub IsTextFault : List ℕ → GuardedTextFault → Type 0
+abbrev pub IsTextFault : List ℕ → GuardedFault → Type 0
 IsTextFault text (Syntax at) = IsSyntaxFault text at
 IsTextFault text (Twice name) = IsNameFault text (names.Twice name)
 IsTextFault text (Undeclared name) = IsNameFault text (names.Undeclared name)
 IsTextFault text (Again name) = IsNameFault text (names.Again name)
 IsTextFault text (Unset name) = IsNameFault text (names.Unset name)
+IsTextFault text others = ⊥
 
 -- A text means a net: it describes a program with the net's inputs and outputs, which shows at each call what the net
 -- shows at the event.

@@ -1,10 +1,9 @@
 //! The machine of guarded programs, and guarded texts as a language of texts that are run over traces.
 //!
-//! `GuardedRun` runs a program over calls and resets as csub_guard defines its machine, and counts the assignments
+//! `GuardedRunner` runs a program over calls and resets as csub_guard defines its machine, and counts the assignments
 //! of each call: the assignments between blocks, and those of each half of a block, are a plan of `run_steps`, and a
-//! call runs one half of each block. It neither hashes nor allocates. `GuardedRunner` is the same machine as one that
-//! a trace drives, `GuardedTexts` the language, and `run_counted` writes the number of assignments of all calls after
-//! the lines of a trace.
+//! call runs one half of each block. It neither hashes nor allocates, and a trace drives it. `GuardedTexts` is the
+//! language, and `run_counted` writes the number of assignments of all calls after the lines of a trace.
 #![tactic(auto)]
 
 mod language;
@@ -13,9 +12,8 @@ mod run;
 mod runner;
 mod running;
 mod total;
-mod trace_runner;
 mod track;
 
-pub use language::{GuardedTextFault, GuardedTexts, read_machine, written_machine};
+pub use language::{GuardedTexts, read_machine, written_machine};
+pub use runner::GuardedRunner;
 pub use running::{run_counted, run_written_counted};
-pub use trace_runner::GuardedRunner;

@@ -1,115 +1,163 @@
-// The machine of a guarded program.
+// The machine of a guarded program, as one that items drive.
 
-ghost use Rattle.std.specs.Prelude.{◌≡◌, map, length, take, IfOk};
+ghost use Rattle.std.specs.Prelude.{◌≡◌, ◌<◌, ◌^◌, [], map, length, take, IfOk, IsTrue};
+ghost use Rattle.base_types.specs.Distinct.{all_differ};
+ghost use Rattle.base_types.specs.Names.{is_same_name};
 ghost use Rattle.csub_guard.specs.Machine.{inputs_of};
 ghost use Rattle.csub_guard.specs.Names.{declared};
 ghost use Rattle.csub_guard.specs.Views.{program_of};
 ghost use Rattle.csub_guard_run.specs.Plans.{IsPlan, first_values};
-ghost use Rattle.csub_guard_run.specs.Runners.{KeepsNames, program_in, Reacts, Resets, IsFresh, outputs_shown};
+ghost use Rattle.csub_guard_run.specs.ProgramAnswers.{bare_inputs, bare_outputs};
+ghost use Rattle.csub_guard_run.specs.Runners.{KeepsNames, Reacts};
+ghost use Rattle.csub_guard_run.specs.Showing.{IsHeld, IsNew, IsSum, counted_program};
+ghost use Rattle.csub_guard_run.specs.Totals.{worth_of, HasRoom};
 ghost use Rattle.run_steps.specs.Slots.{value_at};
 
 use crate::plan::{CallPlan, plan_of};
 use crate::run::run_track;
+use crate::total::{Total, held, sum_of};
 use base_types::NoMemory;
 use csub_guard::GuardedProgram;
-use csub_run::{put_front, put_values};
+use csub_run::{globals_interface, put_front, put_values};
+use run_over_traces::{Interface, Runner, word_of};
 use run_steps::take_values;
+use run_trace_io::Word;
 use std::alloc::Global;
 use std::marker::Model;
 
-/// The machine of a guarded program. A contract sees it as the program, the values of its variables, and the number of
-/// assignments that the last call ran.
+/// The machine of a guarded program, as one that items drive: an event is one call, whose returned value gives the
+/// word. A contract sees it as the machine of the program and the number of assignments that all calls so far ran.
 #[derive(Drop)]
-pub struct GuardedRun {
+pub struct GuardedRunner {
     program: GuardedProgram,
     plan: CallPlan,
     // The value of each slot.
     values: Vec<bool>,
     outputs: Vec<bool>,
+    // The number of assignments that the last call ran.
     count: u128,
+    // None where no counter holds it.
+    total: Option<Total>,
 }
 
-impl Model for GuardedRun {
-    ghost use Rattle.csub_guard_run.specs.Runners.{Runner};
+impl Model for GuardedRunner {
+    ghost use Rattle.csub_guard_run.specs.Showing.{Counter};
 
-    ghost Value = { Runner };
+    ghost Value = { Counter };
 
     ghost use Rattle.net_expressions.specs.contracts.trees.Expr as e;
     ghost use Rattle.std.specs.Coded.{codes};
 
     ghost coded = { Prim.hlevel (codes, e.the_row.coded) };
 
-    ghost use Rattle.csub_guard_run.specs.Insides.{runner_of, KeepsPlan};
+    ghost use Rattle.csub_guard_run.specs.Insides.{counter_of, KeepsPlan};
 
-    ghost view = { runner_of };
+    ghost view = { counter_of };
 
     ghost invariant = { KeepsPlan };
 }
 
-impl GuardedRun {
-    /// The machine of a program before its first call. The program keeps the rules on names, as each one does that some
-    /// text describes. Running out of memory is the only error.
-    pub fn new(alloc: Global, program: GuardedProgram) -> Result<GuardedRun, NoMemory>
+impl GuardedRunner {
+    /// The machine of a program before its first call. The program keeps the rules on names, as each one does that
+    /// some text describes. Running out of memory is the only error.
+    pub fn new(alloc: Global, program: GuardedProgram) -> Result<GuardedRunner, NoMemory>
         requires { KeepsNames (program_of program) }
-        ensures program { IfOk result (λ r. r.code ≡ program) }
-        ensures fresh { IfOk result IsFresh }
+        ensures program { IfOk result (λ m. m.calls.code ≡ program) }
+        ensures fresh { IfOk result IsNew }
     {
         let Parts {
             plan,
             values,
             outputs,
         } = runner_parts(alloc, &program)?;
-        Ok(GuardedRun {
+        Ok(GuardedRunner {
             program,
             plan,
             values,
             outputs,
             count: 0,
+            total: Some(Total { high: 0, low: 0 }),
         })
     }
 
-    /// One call with these values of the inputs: the returned value. It takes no memory.
-    pub fn react(&mut self, inputs: &[bool]) -> bool
-        requires { length inputs.now ≡ length (inputs_of (program_in self.old)) }
-        ensures { Reacts self.old inputs.now result self.new }
+    /// The interface of the program itself: its inputs and outputs without their signs; no relations.
+    /// Running out of memory is the only error.
+    pub fn interface(&self, alloc: Global) -> Result<Interface, NoMemory>
+        ensures given { IfOk result (λ i. i.given.items ≡ bare_inputs (counted_program self.now)) }
+        ensures outgoing { IfOk result (λ i. i.outgoing.items ≡ bare_outputs (counted_program self.now)) }
+        ensures relations { IfOk result (λ i. i.relations.items ≡ []) }
+        ensures differ { IfOk result (λ i. IsTrue (all_differ is_same_name i.given.items)) }
+    {
+        match globals_interface(alloc, &self.program.globals) {
+            Ok(interface) => Ok(interface),
+            Err(NoMemory) => Err(NoMemory),
+        }
+    }
+
+    /// The number of assignments that all calls so far ran; none where it is 2^64 or more.
+    pub fn total(&self) -> Option<u64>
+        ensures { IsHeld self.now.total result }
+    {
+        held(self.total)
+    }
+
+    // The number of assignments that all calls so far ran, where a counter holds it.
+    pub(crate) fn sum(&self) -> Option<Total>
+        ensures worth { worth_of result ≡ self.now.total }
+        ensures room { HasRoom result }
+    {
+        self.total
+    }
+
+    // One call with these values of the inputs: the returned value.
+    fn call(&mut self, inputs: &[bool]) -> bool
+        requires { length inputs.now ≡ length (inputs_of (counted_program self.old)) }
+        ensures reacts { Reacts self.old.calls inputs.now result self.new.calls }
+        ensures sum { IsSum self.old.total self.new.calls.count self.new.total }
+        ensures small { self.new.calls.count < 2 ^ 128 }
     {
         put_values(&self.plan.inputs, inputs, &mut self.values);
         self.count = run_track(&self.plan.track, &mut self.values);
+        self.total = sum_of(self.total, self.count);
         take_values(&self.plan.outputs, &self.values, &mut self.outputs);
         self.plan.answer.value(&self.values)
     }
+}
 
-    /// The values of the outputs, in declared order; all 0 before the first call and after a reset. It takes
-    /// no memory.
-    pub fn outputs(&self) -> &[bool]
-        ensures { result.now ≡ outputs_shown self.now }
-    {
+impl Runner for GuardedRunner {
+    ghost use Rattle.std.specs.Prelude.{length};
+    ghost use Rattle.csub_guard.specs.Machine.{inputs_of, outputs_of};
+    ghost use Rattle.csub_guard_run.specs.Ends.{shows_nothing, adds_nothing};
+    ghost use Rattle.csub_guard_run.specs.Runners.{outputs_shown};
+    ghost use Rattle.csub_guard_run.specs.Showing.{counted_program, counter_shows, adds_up};
+
+    ghost input_count = { λ m. length (inputs_of (counted_program m)) };
+
+    ghost output_count = { λ m. length (outputs_of (counted_program m)) };
+
+    ghost present = { λ m. outputs_shown m.calls };
+
+    ghost shows = { counter_shows };
+
+    ghost becomes = { adds_up };
+
+    fn react(&mut self, inputs: &[bool]) -> Word {
+        word_of(self.call(inputs))
+    }
+
+    fn outputs(&self) -> &[bool] {
         self.outputs.as_slice()
     }
 
-    /// The number of assignments that the last call ran; 0 before the first call and after a reset. It takes no
-    /// memory.
-    pub fn count(&self) -> u128
-        ensures { result ≡ self.now.count }
-    {
-        self.count
-    }
-
-    /// Puts the machine back to its beginning. It takes no memory.
-    pub fn reset(&mut self)
-        ensures { Resets self.old self.new }
-    {
+    fn reset(&mut self) {
         put_front(&mut self.values, &self.plan.initial);
         take_values(&self.plan.outputs, &self.values, &mut self.outputs);
         self.count = 0;
     }
 
-    /// The program that it runs.
-    pub fn program(&self) -> &GuardedProgram
-        ensures { result.now ≡ self.now.code }
-    {
-        &self.program
-    }
+    ghost ends = { λ m. shows_nothing m };
+
+    ghost stays = { λ m. adds_nothing m };
 }
 
 // What a machine has in addition to its program.

@@ -17,8 +17,8 @@ ghost use Rattle.run_trace_io.specs.Answers.{beginning};
 ghost use Rattle.run_over_traces.specs.Machines.{Brings};
 
 use crate::language::written_machine;
+use crate::runner::GuardedRunner;
 use crate::total::{Total, put_total};
-use crate::trace_runner::GuardedRunner;
 use base_types::{Limits, NoMemory, Sink, SinkFault, put, put_number};
 use net_ir::Net;
 use run_over_traces::{Interface, RunFault, run_trace};

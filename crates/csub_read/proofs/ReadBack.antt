@@ -9,8 +9,8 @@ use Rattle.csub_text.specs.Texts.{Describes, nesting_limit}
 use Rattle.base_reader.specs.declared.faults.Fault.{Fault}
 use Rattle.base_reader.specs.Readings.{whole}
 use Rattle.base_reader.specs.Exact.{Exactly, IsLeastPlace}
-use Rattle.csub_read.specs.declared.refusal.CError.{CError}
-use Rattle.csub_read.specs.declared.refusal.CError.TheVariants as faults
+use Rattle.csub_read.specs.declared.refusal.CFault.{CFault}
+use Rattle.csub_read.specs.declared.refusal.CFault.TheVariants as faults
 use Rattle.csub_read.specs.Faults.{ReadsFault, IsNameFault}
 use Rattle.csub_read.specs.Laws.{LacksRoom, DescribedTextsAreRead, WrittenTextsAreRead}
 use Rattle.csub_read.proofs.TextLaws.{written_rule, text-exact}
@@ -34,9 +34,8 @@ names-kept text p d fault is =
     let found : name_fault p ≡ Some fault = sym (ap name_fault d.means) ∙ ap (λ w. name_fault (program_meant w)) same ∙ is.first in
     false≢true (ap is_some (sym d.names_fit ∙ found))
 
-refusals : (text : List ℕ) (p : Program) → Describes text p → (fault : CError) → ReadsFault text fault → LacksRoom text fault
+refusals : (text : List ℕ) (p : Program) → Describes text p → (fault : CFault) → ReadsFault text fault → LacksRoom text fault
 refusals text p d faults.TooLong is = is
-refusals text p d faults.NoMemory is = is
 refusals text p d (faults.Syntax at) is = absurd (stuck-member (kinds text) is.1.fault is.1.least d.written d.spelled)
 refusals text p d (faults.Twice name) is = absurd (names-kept text p d (Twice name) is.1)
 refusals text p d (faults.Undeclared name) is = absurd (names-kept text p d (Undeclared name) is.1)

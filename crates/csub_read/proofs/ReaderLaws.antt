@@ -13,8 +13,11 @@ use Rattle.csub_text.specs.declared.trees.Assign.{Assign as CodeAssign}
 use Rattle.base_reader.specs.declared.faults.Fault.{Fault}
 use Rattle.base_reader.specs.Readings.{whole}
 use Rattle.base_reader.specs.Exact.{Exactly, IsLeastPlace}
-use Rattle.csub_read.specs.declared.refusal.CError.{CError}
-use Rattle.csub_read.specs.declared.refusal.CError.TheVariants as faults
+use Rattle.base_types.specs.declared.stop.Stop.{Stop}
+use Rattle.base_types.specs.declared.stop.Stop.TheVariants.{Fault as Refused, NoMemory}
+use Rattle.base_types.specs.Stops.{FaultIs}
+use Rattle.csub_read.specs.declared.refusal.CFault.{CFault}
+use Rattle.csub_read.specs.declared.refusal.CFault.TheVariants as faults
 use Rattle.csub_read.specs.Faults.{ReadsAs, ReadsFault}
 use Rattle.csub_read.specs.Steps.{SyntaxFault, Spells}
 use Rattle.csub_read.specs.NameTests.{NamesFault}
@@ -72,18 +75,17 @@ reads-as text p short s fits = record {
   only = λ other d. sym d.means ∙ ap program_meant (s.only d.written d.spelled) ∙ s.means;
 }
 
-pub syntax-fault : (text : List ℕ) → length text ≤ TEXT_BYTES → (e : CError) → SyntaxFault text e → ReadsFault text e
+pub syntax-fault : (text : List ℕ) → length text ≤ TEXT_BYTES → (e : CFault) → SyntaxFault text e → ReadsFault text e
 syntax-fault text short (faults.Syntax at) fault = (short, fault)
-syntax-fault text short faults.NoMemory fault = fault
-syntax-fault text short faults.TooLong fault = absurd fault
-syntax-fault text short (faults.Twice name) fault = absurd fault
-syntax-fault text short (faults.Undeclared name) fault = absurd fault
-syntax-fault text short (faults.Unset name) fault = absurd fault
+syntax-fault text short _ fault = absurd fault
 
-pub names-fault : (text : List ℕ) (p : Program) → length text ≤ TEXT_BYTES → Spells text p → (e : CError) → NamesFault p e → ReadsFault text e
-names-fault text p short s (faults.Twice name) fault = (short, record { written = s.written; spelled = s.spelled; first = ap name_fault s.means ∙ fault })
-names-fault text p short s (faults.Undeclared name) fault = (short, record { written = s.written; spelled = s.spelled; first = ap name_fault s.means ∙ fault })
-names-fault text p short s (faults.Unset name) fault = (short, record { written = s.written; spelled = s.spelled; first = ap name_fault s.means ∙ fault })
-names-fault text p short s faults.NoMemory fault = fault
-names-fault text p short s faults.TooLong fault = absurd fault
-names-fault text p short s (faults.Syntax at) fault = absurd fault
+pub names-fault : (text : List ℕ) (p : Program) → length text ≤ TEXT_BYTES → Spells text p → (stop : Stop CFault)
+    → FaultIs (NamesFault p) stop → FaultIs (ReadsFault text) stop
+names-fault text p short s (Refused (faults.Twice name)) fault =
+    (short, record { written = s.written; spelled = s.spelled; first = ap name_fault s.means ∙ fault })
+names-fault text p short s (Refused (faults.Undeclared name)) fault =
+    (short, record { written = s.written; spelled = s.spelled; first = ap name_fault s.means ∙ fault })
+names-fault text p short s (Refused (faults.Unset name)) fault =
+    (short, record { written = s.written; spelled = s.spelled; first = ap name_fault s.means ∙ fault })
+names-fault text p short s (Refused _) fault = absurd fault
+names-fault text p short s NoMemory fault = tt

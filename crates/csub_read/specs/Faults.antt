@@ -1,5 +1,5 @@
--- To believe: what it means that a text is read, and what a fault says of a text. Running out of memory says nothing.
-use Rattle.std.specs.Prelude.{◌≡◌, ℕ, ◌<◌, ◌≤◌, ⊤, List, length, Some}
+-- To believe: what it means that a text is read, and what a fault says of a text.
+use Rattle.std.specs.Prelude.{◌≡◌, ℕ, ◌<◌, ◌≤◌, List, length, Some}
 use Rattle.base_types.specs.declared.bounds.TheConstants.Limits.{TEXT_BYTES}
 use Rattle.csub_text.specs.Trees.{Program}
 use Rattle.net_expressions.specs.Lexemes.{IsFaultPlace}
@@ -7,8 +7,8 @@ use Rattle.csub_text.specs.Tokens.{tokens, kinds}
 use Rattle.csub_text.specs.Grammar.{WrittenProgram, IsText, program_meant}
 use Rattle.csub_text.specs.Names.{NameFault, Twice, Undeclared, Unset, name_fault}
 use Rattle.csub_text.specs.Texts.{Describes, nesting_limit}
-use Rattle.csub_read.specs.declared.refusal.CError.{CError}
-use Rattle.csub_read.specs.declared.refusal.CError.TheVariants as faults
+use Rattle.csub_read.specs.declared.refusal.CFault.{CFault}
+use Rattle.csub_read.specs.declared.refusal.CFault.TheVariants as faults
 
 -- the text is short enough, and this is the one program that it describes
 pub record ReadsAs (text : List ℕ) (program : Program) : Type 0 where
@@ -26,10 +26,9 @@ pub record IsNameFault (text : List ℕ) (fault : NameFault) : Type 0 where
   pub spelled : IsText nesting_limit written (kinds text)
   pub first : name_fault (program_meant written) ≡ Some fault
 
-abbrev pub ReadsFault : List ℕ → CError → Type 0
+abbrev pub ReadsFault : List ℕ → CFault → Type 0
 ReadsFault text faults.TooLong = TEXT_BYTES < length text
 ReadsFault text (faults.Syntax at) = (length text ≤ TEXT_BYTES) × IsSyntaxFault text at
 ReadsFault text (faults.Twice name) = (length text ≤ TEXT_BYTES) × IsNameFault text (Twice name)
 ReadsFault text (faults.Undeclared name) = (length text ≤ TEXT_BYTES) × IsNameFault text (Undeclared name)
 ReadsFault text (faults.Unset name) = (length text ≤ TEXT_BYTES) × IsNameFault text (Unset name)
-ReadsFault text faults.NoMemory = ⊤

@@ -16,6 +16,6 @@ mod tokens;
 
 pub use laws::{described_texts_are_read, tokens_are_longest, written_texts_are_read};
 pub use reader::read_c;
-pub use refusal::CError;
+pub use refusal::CFault;
 pub use text::{read_answer, read_assign, read_assigns, read_globals, read_locals, read_states};
 pub use tokens::{Kind, Token};

@@ -1,16 +1,17 @@
 // The rules on names.
 
-ghost use Rattle.std.specs.Prelude.{◌≡◌, ◌++◌, ◌&&◌, ℕ, List, [], map, find, not, None, IfOk, IfErr, OnOk};
+ghost use Rattle.std.specs.Prelude.{◌≡◌, ◌++◌, ◌&&◌, ℕ, List, [], map, find, not, None, IfOk, OnOk};
 ghost use Rattle.std.specs.HashSet.{contains_by};
 ghost use Rattle.base_types.specs.Names.{is_same_name};
+ghost use Rattle.base_types.specs.Stops.{IfFault};
 ghost use Rattle.net_ir.specs.NameLists.{is_among, first_again};
 ghost use Rattle.csub_text.specs.Names.{Taken, names_in, uses, unset, used_name};
 ghost use Rattle.csub_text.specs.Names.{name_fault};
 ghost use Rattle.csub_text.specs.Views.{expr_of, program_of};
 ghost use Rattle.csub_read.specs.NameTests.{use_of, wrong_use, NamesFault, AgainFault, UseFault, UnsetFault};
 
-use crate::refusal::CError;
-use base_types::{NoMemory, Text};
+use crate::refusal::CFault;
+use base_types::{NoMemory, Stop, Text};
 use csub_text::{CProgram, begins_input, declared_names};
 use net_expressions::{Expr, names_in};
 use std::alloc::Global;
@@ -24,9 +25,9 @@ pub enum Use<'a> {
 }
 
 // That a program keeps the rules on names.
-pub fn check_names(alloc: Global, program: &CProgram) -> Result<(), CError>
+pub fn check_names(alloc: Global, program: &CProgram) -> Result<(), Stop<CFault>>
     ensures fit { OnOk result (name_fault (program_of program.now) ≡ None) }
-    ensures fault { IfErr result (NamesFault (program_of program.now)) }
+    ensures fault { IfFault result (NamesFault (program_of program.now)) }
 {
     let declared = declared_names(alloc, program)?;
     let known = name_set(alloc, &declared)?;
@@ -35,32 +36,34 @@ pub fn check_names(alloc: Global, program: &CProgram) -> Result<(), CError>
 }
 
 // The set of some names, where none stands twice.
-fn name_set<'a>(alloc: Global, names: &[&'a [u8]]) -> Result<HashSet<&'a [u8]>, CError>
+fn name_set<'a>(alloc: Global, names: &[&'a [u8]]) -> Result<HashSet<&'a [u8]>, Stop<CFault>>
     ensures once { OnOk result (first_again [] (map (λ w. w.now) names.now) ≡ None) }
     ensures members { IfOk result
         (λ set. (name : List ℕ) → contains_by (λ k. is_same_name name k.now) set
         ≡ is_among name (map (λ w. w.now) names.now)) }
-    ensures fault { IfErr result (AgainFault (map (λ w. w.now) names.now)) }
+    ensures fault { IfFault result (AgainFault (map (λ w. w.now) names.now)) }
 {
     let mut set = HashSet::new(alloc);
     for name in names {
         if !set.insert(*name)? {
-            return Err(CError::Twice(Text::from_bytes(alloc, name)?));
+            let copy = Text::from_bytes(alloc, name)?;
+            return Err(Stop::Fault(CFault::Twice(copy)));
         }
     }
     Ok(set)
 }
 
 // That each name that is used is one of these, and no input is assigned.
-fn check_uses(alloc: Global, known: &HashSet<&[u8]>, uses: &[Use<'_>]) -> Result<(), CError>
+fn check_uses(alloc: Global, known: &HashSet<&[u8]>, uses: &[Use<'_>]) -> Result<(), Stop<CFault>>
     ensures all { OnOk result
         (find (wrong_use (λ name. contains_by (λ k. is_same_name name k.now) known.now)) (map use_of uses.now) ≡ None) }
-    ensures fault { IfErr result
+    ensures fault { IfFault result
         (UseFault (wrong_use (λ name. contains_by (λ k. is_same_name name k.now) known.now)) (map use_of uses.now)) }
 {
     for place in uses {
         if is_wrong(known, *place) {
-            return Err(CError::Undeclared(Text::from_bytes(alloc, used_name(*place))?));
+            let copy = Text::from_bytes(alloc, used_name(*place))?;
+            return Err(Stop::Fault(CFault::Undeclared(copy)));
         }
     }
     Ok(())
@@ -111,9 +114,9 @@ fn push_taken<'a>(alloc: Global, uses: &mut Vec<Use<'a>>, value: &'a Expr) -> Re
 }
 
 // That no local is read before it is assigned.
-fn check_reads(alloc: Global, program: &CProgram) -> Result<(), CError>
+fn check_reads(alloc: Global, program: &CProgram) -> Result<(), Stop<CFault>>
     ensures all { OnOk result (unset (program_of program.now) ≡ None) }
-    ensures fault { IfErr result (UnsetFault (unset (program_of program.now))) }
+    ensures fault { IfFault result (UnsetFault (unset (program_of program.now))) }
 {
     let locals = local_set(alloc, &program.locals)?;
     let mut assigned = HashSet::new(alloc);
@@ -141,18 +144,19 @@ fn check_set(
     locals: &HashSet<&[u8]>,
     assigned: &HashSet<&[u8]>,
     value: &Expr,
-) -> Result<(), CError>
+) -> Result<(), Stop<CFault>>
     ensures all { OnOk result
         (find (λ name. contains_by (λ k. is_same_name name k.now) locals.now
         && not (contains_by (λ k. is_same_name name k.now) assigned.now)) (names_in (expr_of value.now)) ≡ None) }
-    ensures fault { IfErr result
+    ensures fault { IfFault result
         (UnsetFault (find (λ name. contains_by (λ k. is_same_name name k.now) locals.now
         && not (contains_by (λ k. is_same_name name k.now) assigned.now)) (names_in (expr_of value.now)))) }
 {
     let names = names_in(alloc, value)?;
     for name in &names {
         if locals.contains(*name) && !assigned.contains(*name) {
-            return Err(CError::Unset(Text::from_bytes(alloc, name)?));
+            let copy = Text::from_bytes(alloc, name)?;
+            return Err(Stop::Fault(CFault::Unset(copy)));
         }
     }
     Ok(())

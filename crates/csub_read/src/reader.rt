@@ -1,6 +1,7 @@
 // From a text to the program that it describes.
 
-ghost use Rattle.std.specs.Prelude.{◌≡◌, ◌≤◌, length, map, None, IfOk, IfErr};
+ghost use Rattle.std.specs.Prelude.{◌≡◌, ◌≤◌, length, map, None, IfOk};
+ghost use Rattle.base_types.specs.Stops.{IfFault};
 ghost use Rattle.csub_text.specs.Names.{name_fault};
 ghost use Rattle.csub_text.specs.Views.{program_of};
 ghost use Rattle.csub_read.specs.Faults.{ReadsAs, ReadsFault};
@@ -10,11 +11,11 @@ ghost use Rattle.csub_read.specs.Tokens.{kind_in};
 ghost use Rattle.base_reader.specs.Readings.{whole};
 
 use crate::names::check_names;
-use crate::refusal::CError;
+use crate::refusal::CFault;
 use crate::text::read_text;
 use crate::tokens::Token;
 use base_reader::{ReadError, ended};
-use base_types::Limits;
+use base_types::{Limits, Stop};
 use csub_text::CProgram;
 use net_expressions::{lex, place_at};
 use std::alloc::Global;
@@ -35,13 +36,13 @@ const NESTING: u32 = 200;
 /// Time and memory are linear in the length of the text. The recursion is only as deep as brackets and `!` are nested.
 ///
 /// Example: `int I_A; int O_O; int react(void) { O_O = I_A; return 0; }` is a program whose output is its input.
-pub fn read_c(alloc: Global, text: &[u8]) -> Result<CProgram, CError>
+pub fn read_c(alloc: Global, text: &[u8]) -> Result<CProgram, Stop<CFault>>
     ensures reads { IfOk result (λ p. ReadsAs text.now (program_of p)) }
     ensures keeps_names { IfOk result (λ p. name_fault (program_of p) ≡ None) }
-    ensures refuses { IfErr result (ReadsFault text.now) }
+    ensures refuses { IfFault result (ReadsFault text.now) }
 {
     if Limits::TEXT_BYTES < text.len() as u64 {
-        return Err(CError::TooLong);
+        return Err(Stop::Fault(CFault::TooLong));
     }
     let program = read_tokens(alloc, text)?;
     check_names(alloc, &program)?;
@@ -49,20 +50,19 @@ pub fn read_c(alloc: Global, text: &[u8]) -> Result<CProgram, CError>
 }
 
 // The program that the tokens of a text spell.
-fn read_tokens(alloc: Global, text: &[u8]) -> Result<CProgram, CError>
+fn read_tokens(alloc: Global, text: &[u8]) -> Result<CProgram, Stop<CFault>>
     requires { length text.now ≤ Limits.TEXT_BYTES }
     ensures spells { IfOk result (λ p. Spells text.now (program_of p)) }
-    ensures fault { IfErr result (SyntaxFault text.now) }
+    ensures fault { IfFault result (SyntaxFault text.now) }
 {
     let tokens = lex(alloc, text)?;
     match read_whole(alloc, tokens.as_slice(), NESTING) {
         Ok(program) => Ok(program),
-        Err(ReadError::Fault(fault)) => Err(CError::Syntax(place_at(
-            text,
-            tokens.as_slice(),
-            fault,
-        ))),
-        Err(ReadError::NoMemory) => Err(CError::NoMemory),
+        Err(ReadError::Fault(fault)) => {
+            let at = place_at(text, tokens.as_slice(), fault);
+            Err(Stop::Fault(CFault::Syntax(at)))
+        }
+        Err(ReadError::NoMemory) => Err(Stop::NoMemory),
     }
 }
 

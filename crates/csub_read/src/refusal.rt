@@ -1,15 +1,11 @@
-// Why a text is not read.
-
-ghost use Rattle.std.specs.Prelude.{◌≡◌};
-ghost use Rattle.csub_read.specs.declared.refusal.CError.TheVariants.{NoMemory as lacks_memory};
+// The faults of a text of the C subset.
 
 use base_types::Text;
-use std::alloc::{AllocError, AllocFailed};
 use thiserror::Error;
 
-/// Why `read_c` gives no program. Of several faults the first of this list is reported.
+/// Why a text of the C subset is not taken: the first of its faults, in the order in which they are looked for.
 #[derive(Debug, Drop, Error)]
-pub enum CError {
+pub enum CFault {
     /// The text is longer than 256 MiB.
     #[error("text is too long")]
     TooLong,
@@ -25,31 +21,4 @@ pub enum CError {
     /// The first local that is read before it is assigned.
     #[error("a local is read before it is assigned")]
     Unset(Text),
-    /// Running out of memory.
-    #[error("no memory")]
-    NoMemory,
-}
-
-impl From<AllocError> for CError {
-    ghost from_gives = { λ _ error. error ≡ lacks_memory };
-
-    fn from(_error: AllocError) -> CError {
-        CError::NoMemory
-    }
-}
-
-impl<T: Drop> From<AllocFailed<T>> for CError {
-    ghost from_gives = { λ _ error. error ≡ lacks_memory };
-
-    fn from(_error: AllocFailed<T>) -> CError {
-        CError::NoMemory
-    }
-}
-
-impl From<base_types::NoMemory> for CError {
-    ghost from_gives = { λ _ error. error ≡ lacks_memory };
-
-    fn from(_error: base_types::NoMemory) -> CError {
-        CError::NoMemory
-    }
 }

@@ -25,7 +25,7 @@ use Rattle.run_steps.specs.declared.term.Term.{Term}
 use Rattle.run_steps.specs.Plans.{Planned, made, term_value}
 use Rattle.run_steps.specs.Steps.{settled}
 use Rattle.run_steps.proofs.Exports.{value-local, length-settled, taken-front, through}
-use Rattle.csub_run.specs.declared.runner.ProgramRun.TheInside.{Inside}
+use Rattle.csub_run.specs.declared.runner.CRunner.TheInside.{Inside}
 use Rattle.csub_run.specs.Insides.{KeepsPlan}
 use Rattle.csub_run.specs.Plans.{IsBody, IsPlan, assign_step, first_values, put_all}
 use Rattle.csub_run.specs.Runners.{KeepsNames, Reacts, IsFresh}

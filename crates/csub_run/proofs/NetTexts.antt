@@ -1,16 +1,12 @@
 -- The program of a net's text shows what the net does.
-use Rattle.std.proofs.Common.{◌≡◌, ℕ, ◌≤◌, List, [], ◌∷◌, length, map, refl, sym, ap, ◌∙◌, arith}
+use Rattle.std.proofs.Common.{◌≡◌, ℕ, List, [], ◌∷◌, length, map, refl, sym, ap, ◌∙◌}
 use Rattle.std.proofs.lemmas.List.{length-map}
 use Rattle.std.proofs.lemmas.Simd.{map-map}
-use Rattle.base_types.specs.declared.bounds.TheConstants.Limits.{TEXT_BYTES}
 use Rattle.base_types.specs.Items.{Item}
 use Rattle.base_machines.proofs.Exports.{computed-shows}
 use Rattle.net_ir.specs.Netlists.{Netlist}
 use Rattle.net_ir.specs.Runs.{Shown, net_run}
-use Rattle.csub_read.specs.declared.refusal.CError.{CError}
-use Rattle.csub_read.specs.declared.refusal.CError.TheVariants as faults
-use Rattle.csub_read.specs.Faults.{ReadsAs, ReadsFault}
-use Rattle.csub_read.specs.Laws.{LacksRoom}
+use Rattle.csub_read.specs.Faults.{ReadsAs}
 use Rattle.csub_read.proofs.Exports.{written-are-read}
 use Rattle.csub_text.specs.Machine.{seen, first_memory, call, memories, run}
 use Rattle.csub_text.specs.Names.{inputs_of, outputs_of}
@@ -23,19 +19,6 @@ use Rattle.csub_run.specs.Tracing.{IsProgramOf}
 use Rattle.csub_run.proofs.Showing.{fresh_shows}
 use Rattle.run_over_traces.specs.Languages.{shown_answer, IsOfNet}
 use Rattle.run_over_traces.specs.Machines.{ShownAnswer}
-
--- the reader of such a text has no fault to tell
-pub reader-lacks : (text : List ℕ) (net : Netlist) (error : CError) → Means text net → length text ≤ TEXT_BYTES → ReadsFault text error
-    → error ≡ faults.NoMemory
-reader-lacks text net error means fits r = by_error error ((written-are-read text net means).refusals error r)
-  where
-    by_error : (e : CError) → LacksRoom text e → e ≡ faults.NoMemory
-    by_error faults.TooLong long = absurd (omega (arith, fits, long))
-    by_error (faults.Syntax at) lacks = absurd lacks
-    by_error (faults.Twice name) lacks = absurd lacks
-    by_error (faults.Undeclared name) lacks = absurd lacks
-    by_error (faults.Unset name) lacks = absurd lacks
-    by_error faults.NoMemory lacks = refl
 
 -- and reads it as the program by which it means the net
 pub reader-reads : (text : List ℕ) (net : Netlist) (p : Program) → Means text net → ReadsAs text p → IsProgramOf net p

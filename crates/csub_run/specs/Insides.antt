@@ -2,7 +2,7 @@
 use Rattle.std.specs.Prelude.{◌≡◌, length, take}
 use Rattle.csub_text.specs.Views.{program_of}
 use Rattle.csub_text.specs.Names.{declared}
-use Rattle.csub_run.specs.declared.runner.ProgramRun.TheInside.{Inside}
+use Rattle.csub_run.specs.declared.runner.CRunner.TheInside.{Inside}
 use Rattle.csub_run.specs.Runners.{Runner, KeepsNames, outputs_shown}
 use Rattle.csub_run.specs.Plans.{IsPlan}
 

@@ -2,17 +2,18 @@
 use Rattle.std.specs.Prelude.{◌≡◌, ℕ, List}
 use Rattle.net_ir.specs.Netlists.{Netlist}
 use Rattle.csub_read.specs.Faults.{IsSyntaxFault, IsNameFault}
+use Rattle.csub_read.specs.declared.refusal.CFault.{CFault}
+use Rattle.csub_read.specs.declared.refusal.CFault.TheVariants.{Syntax, Twice, Undeclared, Unset}
 use Rattle.csub_text.specs.Names as names
 use Rattle.csub_text.specs.Written.{written, Means}
-use Rattle.csub_run.specs.declared.language.CTextFault.{CTextFault}
-use Rattle.csub_run.specs.declared.language.CTextFault.TheVariants.{Syntax, Twice, Undeclared, Unset}
 
 -- the first fault of a text, in the order of its reader
-abbrev pub IsTextFault : List ℕ → CTextFault → Type 0
+abbrev pub IsTextFault : List ℕ → CFault → Type 0
 IsTextFault text (Syntax at) = IsSyntaxFault text at
 IsTextFault text (Twice name) = IsNameFault text (names.Twice name)
 IsTextFault text (Undeclared name) = IsNameFault text (names.Undeclared name)
 IsTextFault text (Unset name) = IsNameFault text (names.Unset name)
+IsTextFault text others = ⊥
 
 -- the text is the one that is written of a net, and means it
 pub record IsWritten (text : List ℕ) (net : Netlist) : Type 0 where

@@ -1,22 +1,29 @@
-// The machine of a program.
+// The machine of a program of the C subset, as one that items drive.
 
-ghost use Rattle.std.specs.Prelude.{◌≡◌, ◌<◌, ◌≤◌, map, length, take, drop, All, IfOk};
+ghost use Rattle.std.specs.Prelude.{◌≡◌, ◌<◌, ◌≤◌, [], map, length, take, drop, All, IfOk, IsTrue};
+ghost use Rattle.base_types.specs.Distinct.{all_differ};
+ghost use Rattle.base_types.specs.Names.{is_same_name};
 ghost use Rattle.csub_text.specs.Names.{declared, inputs_of};
 ghost use Rattle.csub_text.specs.Views.{program_of};
-ghost use Rattle.csub_run.specs.Runners.{KeepsNames, program_in, Reacts, Resets, IsFresh, outputs_shown};
+ghost use Rattle.csub_run.specs.ProgramAnswers.{bare_inputs, bare_outputs};
+ghost use Rattle.csub_run.specs.Runners.{KeepsNames, program_in, Reacts, IsFresh};
 ghost use Rattle.csub_run.specs.Plans.{IsPlan, first_values, put_all};
 ghost use Rattle.run_steps.specs.Slots.{value_at};
 
+use crate::interface::globals_interface;
 use crate::plan::{CallPlan, plan_of};
 use base_types::NoMemory;
 use csub_text::CProgram;
+use run_over_traces::{Interface, Runner, word_of};
 use run_steps::take_values;
+use run_trace_io::Word;
 use std::alloc::Global;
 use std::marker::Model;
 
-/// The machine of a program. A contract sees it as the program and the values of its variables.
+/// The machine of a program, as one that items drive: an event is one call, whose returned value gives the word. A
+/// contract sees it as the program and the values of its variables.
 #[derive(Drop)]
-pub struct ProgramRun {
+pub struct CRunner {
     program: CProgram,
     plan: CallPlan,
     // The value of each slot.
@@ -24,7 +31,7 @@ pub struct ProgramRun {
     outputs: Vec<bool>,
 }
 
-impl Model for ProgramRun {
+impl Model for CRunner {
     ghost use Rattle.csub_run.specs.Runners.{Runner};
 
     ghost Value = { Runner };
@@ -41,12 +48,12 @@ impl Model for ProgramRun {
     ghost invariant = { KeepsPlan };
 }
 
-impl ProgramRun {
-    /// The machine of a program before its first call. The program keeps the rules on names, as each one does
-    /// that some text describes. Running out of memory is the only error.
-    pub fn new(alloc: Global, program: CProgram) -> Result<ProgramRun, NoMemory>
+impl CRunner {
+    /// The machine of a program before its first call. The program keeps the rules on names, as each one does that
+    /// some text describes. Running out of memory is the only error.
+    pub fn new(alloc: Global, program: CProgram) -> Result<CRunner, NoMemory>
         requires { KeepsNames (program_of program) }
-        ensures program { IfOk result (λ r. r.code ≡ program) }
+        ensures program { IfOk result (λ m. m.code ≡ program) }
         ensures fresh { IfOk result IsFresh }
     {
         let Parts {
@@ -54,7 +61,7 @@ impl ProgramRun {
             values,
             outputs,
         } = runner_parts(alloc, &program)?;
-        Ok(ProgramRun {
+        Ok(CRunner {
             program,
             plan,
             values,
@@ -62,8 +69,22 @@ impl ProgramRun {
         })
     }
 
-    /// One call with these values of the inputs: the returned value. It takes no memory.
-    pub fn react(&mut self, inputs: &[bool]) -> bool
+    /// The interface of the program itself: its inputs and outputs without their signs; no relations.
+    /// Running out of memory is the only error.
+    pub fn interface(&self, alloc: Global) -> Result<Interface, NoMemory>
+        ensures given { IfOk result (λ i. i.given.items ≡ bare_inputs (program_in self.now)) }
+        ensures outgoing { IfOk result (λ i. i.outgoing.items ≡ bare_outputs (program_in self.now)) }
+        ensures relations { IfOk result (λ i. i.relations.items ≡ []) }
+        ensures differ { IfOk result (λ i. IsTrue (all_differ is_same_name i.given.items)) }
+    {
+        match globals_interface(alloc, &self.program.globals) {
+            Ok(interface) => Ok(interface),
+            Err(NoMemory) => Err(NoMemory),
+        }
+    }
+
+    // One call with these values of the inputs: the returned value.
+    fn call(&mut self, inputs: &[bool]) -> bool
         requires { length inputs.now ≡ length (inputs_of (program_in self.old)) }
         ensures { Reacts self.old inputs.now result self.new }
     {
@@ -72,29 +93,41 @@ impl ProgramRun {
         take_values(&self.plan.outputs, &self.values, &mut self.outputs);
         self.plan.answer.value(&self.values)
     }
+}
 
-    /// The values of the outputs, in declared order; all 0 before the first call and after a reset. It takes
-    /// no memory.
-    pub fn outputs(&self) -> &[bool]
-        ensures { result.now ≡ outputs_shown self.now }
-    {
+impl Runner for CRunner {
+    ghost use Rattle.std.specs.Prelude.{⊤, length};
+    ghost use Rattle.csub_text.specs.Names.{inputs_of, outputs_of};
+    ghost use Rattle.csub_run.specs.Runners.{outputs_shown, program_in};
+    ghost use Rattle.csub_run.specs.Showing.{runner_shows};
+    ghost use Rattle.csub_run.specs.Ends.{shows_nothing};
+
+    ghost input_count = { λ r. length (inputs_of (program_in r)) };
+
+    ghost output_count = { λ r. length (outputs_of (program_in r)) };
+
+    ghost present = { outputs_shown };
+
+    ghost shows = { runner_shows };
+
+    ghost becomes = { λ r items last. ⊤ };
+
+    fn react(&mut self, inputs: &[bool]) -> Word {
+        word_of(self.call(inputs))
+    }
+
+    fn outputs(&self) -> &[bool] {
         self.outputs.as_slice()
     }
 
-    /// Puts the machine back to its beginning. It takes no memory.
-    pub fn reset(&mut self)
-        ensures { Resets self.old self.new }
-    {
+    fn reset(&mut self) {
         put_front(&mut self.values, &self.plan.initial);
         take_values(&self.plan.outputs, &self.values, &mut self.outputs);
     }
 
-    /// The program that it runs.
-    pub fn program(&self) -> &CProgram
-        ensures { result.now ≡ self.now.code }
-    {
-        &self.program
-    }
+    ghost ends = { λ r. shows_nothing r };
+
+    ghost stays = { λ r. tt };
 }
 
 // What a machine has in addition to its program.

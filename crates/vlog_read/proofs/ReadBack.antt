@@ -46,6 +46,7 @@ refusals text p d (faults.Port name) is = absurd (names-kept text p d (Port name
 refusals text p d (faults.Undeclared name) is = absurd (names-kept text p d (Undeclared name) is.1)
 refusals text p d (faults.TwoDrivers name) is = absurd (names-kept text p d (TwoDrivers name) is.1)
 refusals text p d (faults.NoDriver name) is = absurd (names-kept text p d (NoDriver name) is.1)
+refusals text p d (faults.Loop names) is = is
 
 pub described-are-read : DescribedTextsAreRead
 described-are-read text p d = record { only = λ other e. one-module text p other d e; refusals = refusals text p d }

@@ -62,8 +62,7 @@ names-fault text s short p (faults.Port name) fault = (short, record { written =
 names-fault text s short p (faults.Undeclared name) fault = (short, record { written = p.written; spelled = p.spelled; first = ap name_fault p.means ∙ fault })
 names-fault text s short p (faults.TwoDrivers name) fault = (short, record { written = p.written; spelled = p.spelled; first = ap name_fault p.means ∙ fault })
 names-fault text s short p (faults.NoDriver name) fault = (short, record { written = p.written; spelled = p.spelled; first = ap name_fault p.means ∙ fault })
-names-fault text s short p faults.TooLong fault = absurd fault
-names-fault text s short p (faults.Syntax at) fault = absurd fault
+names-fault text s short p _ fault = absurd fault
 
 pub names-stop : (text : List ℕ) (s : Source Expr) → length text ≤ TEXT_BYTES → Spells text s → (stop : Stop VlogFault)
     → FaultIs (SaysFault (name_fault s)) stop → FaultIs (ReadsFault text) stop

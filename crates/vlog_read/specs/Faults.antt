@@ -27,6 +27,7 @@ pub record IsNameFault (text : List ℕ) (fault : NameFault) : Type 0 where
   pub spelled : IsText nesting_limit written (kinds text)
   pub first : name_fault (source_meant written) ≡ Some fault
 
+-- the first fault of a text, in the order of its reader, which finds no cycle
 abbrev pub ReadsFault : List ℕ → VlogFault → Type 0
 ReadsFault text faults.TooLong = TEXT_BYTES < length text
 ReadsFault text (faults.Syntax at) = (length text ≤ TEXT_BYTES) × IsSyntaxFault text at
@@ -35,3 +36,4 @@ ReadsFault text (faults.Port name) = (length text ≤ TEXT_BYTES) × IsNameFault
 ReadsFault text (faults.Undeclared name) = (length text ≤ TEXT_BYTES) × IsNameFault text (Undeclared name)
 ReadsFault text (faults.TwoDrivers name) = (length text ≤ TEXT_BYTES) × IsNameFault text (TwoDrivers name)
 ReadsFault text (faults.NoDriver name) = (length text ≤ TEXT_BYTES) × IsNameFault text (NoDriver name)
+ReadsFault text others = ⊥

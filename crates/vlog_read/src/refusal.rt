@@ -1,9 +1,10 @@
-// Why a text is not read.
+// The faults of a text of structural Verilog.
 
 use base_types::Text;
 use thiserror::Error;
 
-/// Why `read_verilog` gives no module. Of several faults the first of this list is reported.
+/// Why a text of structural Verilog is not taken: the first of its faults, in the order in which they are looked for.
+/// The contract of a call states which of them it can have.
 #[derive(Debug, Drop, Error)]
 pub enum VlogFault {
     /// The text is longer than 256 MiB.
@@ -30,4 +31,8 @@ pub enum VlogFault {
     /// The first declared reg, wire or output without its drivers.
     #[error("a name is not driven")]
     NoDriver(Text),
+    /// A combinational cycle: each next name is in the expression that is assigned to the one before, and the first in
+    /// that of the last.
+    #[error("the assignments have a cycle")]
+    Loop(Vec<Text>),
 }

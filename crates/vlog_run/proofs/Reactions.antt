@@ -4,8 +4,9 @@ use Rattle.std.proofs.lemmas.List.{length-map}
 use Rattle.base_facts.proofs.Lists.{map-composed}
 use Rattle.run_steps.specs.Equations.{NameEquation}
 use Rattle.run_steps.specs.Registers.{Frame, Advances, IsBegun}
+use Rattle.run_steps.specs.Slots.{slot_in}
 use Rattle.run_steps.proofs.Exports.{IsEquational, all-made, all-of-made, decided}
-use Rattle.vlog_text.specs.Machine.{given_inputs, IsInstant, initial_registers}
+use Rattle.vlog_text.specs.Machine.{given_inputs, driven_names, IsInstant, initial_registers}
 use Rattle.vlog_text.specs.Trees.{Register, VerilogModule}
 use Rattle.vlog_text.specs.Views.{module_of}
 use Rattle.vlog_text.specs.declared.trees.Module.{Module as CodeModule}
@@ -55,3 +56,9 @@ fresh-by code r initial wide begun = record {
   registers_initial = begun.registers ∙ initial;
   outputs_false = begun.outputs ∙ ap (λ n. replicate n false) wide;
 }
+
+-- each output has a value after a reaction
+pub advanced-wide : (design : VerilogModule) (old new : Frame) (inputs : List Bool) → IsPlan design old.plan old.sources old.shown → Advances old inputs new
+    → length new.outputs ≡ length design.outputs
+advanced-wide design old new inputs plan adv =
+    ap length adv.outputs ∙ length-map old.shown _ ∙ ap length plan.shown_are.are ∙ length-map design.outputs (slot_in (driven_names design))

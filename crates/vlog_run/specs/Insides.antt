@@ -5,7 +5,7 @@ use Rattle.vlog_text.specs.Views.{module_of}
 use Rattle.vlog_run.specs.Loops.{IsDescribed}
 use Rattle.vlog_run.specs.Plans.{IsPlan}
 use Rattle.vlog_run.specs.Runners.{Runner}
-use Rattle.vlog_run.specs.declared.runner.ModuleRun.TheInside.{Inside}
+use Rattle.vlog_run.specs.declared.runner.VlogRunner.TheInside.{Inside}
 
 abbrev pub runner_of : Inside → Runner
 runner_of r = record {
@@ -14,9 +14,11 @@ runner_of r = record {
   outputs = r.registers.outputs;
 }
 
--- some text describes the module, and the registers are its own, with a plan of its reactions
+-- some text describes the module, and the registers are its own, with a plan of its reactions and a value for each
+-- output
 pub record KeepsPlan (r : Inside) : Type 0 where
   pub described : IsDescribed (module_of r.design)
   pub plan : IsPlan (module_of r.design) r.registers.plan r.registers.sources r.registers.shown
   pub inputs_are : r.registers.inputs ≡ length (given_inputs (module_of r.design))
   pub initial_is : r.registers.initial ≡ initial_registers (module_of r.design)
+  pub each_output : length r.registers.outputs ≡ length r.design.outputs.items

@@ -3,6 +3,8 @@ use Rattle.std.specs.Prelude.{ℕ, List, map}
 use Rattle.net_expressions.specs.Names.{names_in}
 use Rattle.net_expressions.specs.Trees.{Expr}
 use Rattle.net_expressions.specs.Values.{value_of}
+use Rattle.vlog_read.specs.declared.refusal.VlogFault.{VlogFault}
+use Rattle.vlog_read.specs.declared.refusal.VlogFault.TheVariants.{Loop}
 use Rattle.vlog_text.specs.Texts.{Describes}
 use Rattle.vlog_text.specs.Trees.{Assign, VerilogModule}
 use Rattle.run_steps.specs.Equations as equations
@@ -26,3 +28,8 @@ IsLoop design names = equations.IsEquationLoop (equations_of design) names
 
 abbrev pub HasNoLoop : VerilogModule → Type 0
 HasNoLoop design = equations.HasNoEquationLoop (equations_of design)
+
+-- the fault is a combinational cycle of the module
+abbrev pub LoopFault : VerilogModule → VlogFault → Type 0
+LoopFault design (Loop names) = IsLoop design names.items
+LoopFault design others = ⊥

@@ -5,15 +5,16 @@ ghost use Rattle.base_types.specs.Stops.{IfFault};
 ghost use Rattle.run_steps.specs.Plans.{Adds, Makes};
 ghost use Rattle.run_steps.specs.Slots.{slot_in};
 ghost use Rattle.run_steps.specs.Solvers.{AreOrdered, AreResolved};
-ghost use Rattle.vlog_run.specs.Loops.{IsDescribed, IsLoop, HasNoLoop, equations_of};
+ghost use Rattle.vlog_run.specs.Loops.{IsDescribed, HasNoLoop, LoopFault, equations_of};
 ghost use Rattle.vlog_run.specs.Plans.{IsPlan, assign_step, given_names, step_at};
 ghost use Rattle.vlog_text.specs.Views.{assign_of, module_of};
 
 use crate::slots::{driven_names, slots_read, source_slots};
-use base_types::{NoMemory, Stop, Text};
+use base_types::{NoMemory, Stop};
 use indexmap::IndexSet;
 use run_steps::{Plan, Resolved, evaluation_order, push_expr, slot_table, slots_of};
 use std::alloc::Global;
+use vlog_read::VlogFault;
 use vlog_text::{Assign, Module};
 
 #[derive(Drop)]
@@ -27,18 +28,15 @@ pub struct ModulePlan {
 }
 
 // The plan of a module. The fault is a combinational cycle.
-pub fn module_plan(alloc: Global, design: &Module) -> Result<ModulePlan, Stop<Vec<Text>>>
+pub fn module_plan(alloc: Global, design: &Module) -> Result<ModulePlan, Stop<VlogFault>>
     requires { IsDescribed (module_of design.now) }
     ensures plan { IfOk result (λ p. IsPlan (module_of design.now) p.assigns p.sources.items p.shown.items) }
     ensures acyclic { OnOk result (HasNoLoop (module_of design.now)) }
-    ensures cyclic { IfFault result (λ names. IsLoop (module_of design.now) names.items) }
+    ensures cyclic { IfFault result (LoopFault (module_of design.now)) }
 {
     let resolved = resolved_names(alloc, design)?;
     let order = assign_order(alloc, design, &resolved)?;
-    match ordered_plan(alloc, design, &resolved, &order) {
-        Ok(plan) => Ok(plan),
-        Err(NoMemory) => Err(Stop::NoMemory),
-    }
+    Ok(ordered_plan(alloc, design, &resolved, &order)?)
 }
 
 // The plan of a module whose assignments are made in this order.
@@ -115,18 +113,18 @@ fn assign_order(
     alloc: Global,
     design: &Module,
     resolved: &Resolved<'_>,
-) -> Result<Vec<usize>, Stop<Vec<Text>>>
+) -> Result<Vec<usize>, Stop<VlogFault>>
     requires described { IsDescribed (module_of design.now) }
     requires resolved { AreResolved (given_names (module_of design.now)) (equations_of (module_of design.now))
         resolved.now }
     ensures order { IfOk result
         (λ order. AreOrdered (given_names (module_of design.now)) (equations_of (module_of design.now)) order.items) }
     ensures acyclic { OnOk result (HasNoLoop (module_of design.now)) }
-    ensures cyclic { IfFault result (λ names. IsLoop (module_of design.now) names.items) }
+    ensures cyclic { IfFault result (LoopFault (module_of design.now)) }
 {
     match evaluation_order(alloc, &resolved.names, resolved.first, &resolved.reads) {
         Ok(order) => Ok(order),
-        Err(Stop::Fault(names)) => Err(Stop::Fault(names)),
+        Err(Stop::Fault(names)) => Err(Stop::Fault(VlogFault::Loop(names))),
         Err(Stop::NoMemory) => Err(Stop::NoMemory),
     }
 }

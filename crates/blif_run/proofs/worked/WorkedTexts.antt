@@ -6,8 +6,7 @@ use Rattle.blif_text.specs.Circuits.{Circuit}
 use Rattle.blif_text.specs.Circuits as circuits
 use Rattle.blif_text.specs.declared.circuit.Cell.TheVariants.{One}
 use Rattle.run_steps.specs.Equations.{NeedsName, name_at}
-use Rattle.blif_run.specs.declared.language.BlifTextFault.TheVariants.{Line, TwoDrivers, NoDriver, Loop}
-use Rattle.blif_run.specs.declared.refusal.RunError.TheVariants as errors
+use Rattle.blif_read.specs.declared.fault.BlifFault.TheVariants.{Line, TwoDrivers, NoDriver, NoPause, Loop}
 use Rattle.blif_run.specs.Loops.{IsLoop, HasNoLoop, LoopFault, equation_of, equations_of}
 use Rattle.blif_run.specs.Texts.{IsTextFault, ReadsCircuit, IsWritten}
 
@@ -100,11 +99,11 @@ a_cycle names is = (turning_circuit, refl, subst (IsLoop turning_circuit) (sym i
 no_cycle_of_another_text : (names : Vec (List ℕ) Global) → IsTextFault (text (codes "1" ∷ [])) (Loop names) → ⊥
 no_cycle_of_another_text names h = let read = h.1 in cc
 
-of_a_runner : (names : Vec (List ℕ) Global) → names.items ≡ around → LoopFault turning_circuit (errors.Loop names)
+of_a_runner : (names : Vec (List ℕ) Global) → names.items ≡ around → LoopFault turning_circuit (Loop names)
 of_a_runner names is = subst (IsLoop turning_circuit) (sym is) it_turns
 
-want_of_memory_has_no_cause : LoopFault turning_circuit errors.NoMemory
-want_of_memory_has_no_cause = tt
+of_no_other_cause : (LoopFault turning_circuit (Line 2) → ⊥) × (IsTextFault turning NoPause → ⊥)
+of_no_other_cause = (λ h. h, λ h. h)
 
 -- ---- texts that can be run
 

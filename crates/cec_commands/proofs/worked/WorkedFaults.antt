@@ -1,7 +1,7 @@
 -- Worked lines of texts that are not run, by hand, of each language, of cycles, and of instants that are not constructive; and their statuses.
 use Rattle.std.proofs.Common.{◌≡◌, ◌++◌, ℕ, List, [], ◌∷◌, None, map, codes, refl, ap, Vec, Global}
 use Rattle.std.specs.Fmt.{digits}
-use Rattle.blif_run.specs.declared.language.BlifTextFault.TheVariants as circuits
+use Rattle.blif_read.specs.declared.fault.BlifFault.TheVariants as circuits
 use Rattle.cec_compile.specs.Cycles.{cycle_text}
 use Rattle.cec_compile.specs.declared.cycles.Cycle.{Cycle}
 use Rattle.cec_compile.specs.declared.refusal.Refusal.TheVariants as refusals
@@ -13,10 +13,10 @@ use Rattle.cec_text_io.specs.ErrorLines.{joined_names}
 use Rattle.cec_compile.specs.Sources.{IsRefusedSource}
 use Rattle.cec_commands.specs.Outcomes.{ExecutesIn, MakesOn}
 use Rattle.cec_commands.specs.Statuses.{status_of, outcome_of}
-use Rattle.csub_run.specs.declared.language.CTextFault.TheVariants as programs
+use Rattle.csub_read.specs.declared.refusal.CFault.TheVariants as programs
 use Rattle.grc_graph.specs.PlainWireNames.{wire_name_of}
-use Rattle.csub_guard_run.specs.declared.language.GuardedTextFault.TheVariants as guardeds
-use Rattle.vlog_run.specs.declared.language.VerilogTextFault.TheVariants as modules
+use Rattle.csub_guard_read.specs.declared.refusal.GuardedFault.TheVariants as guardeds
+use Rattle.vlog_read.specs.declared.refusal.VlogFault.TheVariants as modules
 
 abbrev subject : Subject
 subject = record { name = codes "p.blif"; trace = codes "t.txt"; main = []; source = [] }

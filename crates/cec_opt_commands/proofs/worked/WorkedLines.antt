@@ -3,14 +3,13 @@ use Rattle.std.proofs.Common.{◌≡◌, ℕ, true, false, List, [], ◌∷◌, 
 use Rattle.std.specs.Fmt.{digits}
 use Rattle.net_ir.specs.declared.netlist.Op.TheVariants.{Const, Copy, Not, And, Or}
 use Rattle.net_ir.specs.Netlists.{Netlist}
-use Rattle.blif_net.specs.declared.fault.CircuitFault.TheVariants.{NoPause, Model, Input, Output, Again}
+use Rattle.blif_read.specs.declared.fault.BlifFault.TheVariants.{Line, TwoDrivers, NoDriver, NoPause, Model, Input, Output, Again, NoInput}
 use Rattle.base_types.specs.declared.files.reading.FileFault.TheVariants as reading
 use Rattle.cec_compile.specs.declared.refusal.Limit.TheVariants as limits
 use Rattle.cec_compile.specs.declared.refusal.Refusal.TheVariants as refusing
 use Rattle.csub_embed.specs.declared.fault.EmbedFault.TheVariants.{NoName, TypeTaken, Reserved}
 use Rattle.csub_embed.specs.declared.layout.EmbedFile.TheVariants.{Header, Declarations, Definitions}
 use Rattle.csub_embed.specs.declared.layout.EmbedLayout.{EmbedLayout}
-use Rattle.cec_opt_texts.specs.declared.fault.OptFault.TheVariants.{Line, TwoDrivers, NoDriver, Circuit, NoInput}
 use Rattle.cec_opt_commands.specs.Answers.{counts_line}
 use Rattle.blif_net.specs.Depths.{op_depth, net_depths, greatest, depth_of}
 use Rattle.cec_opt_commands.specs.Lines.{line_of, named, source_subject}
@@ -69,9 +68,8 @@ lines : map (line_of (named (codes "p.blif"))) (Done ∷ Usage ∷ FileFault ∷
     ∷ codes "cec-opt: cannot write\n" ∷ codes "cec-opt: out of memory\n" ∷ []
 lines = refl
 
-lines_of_faults : map (λ fault. line_of (named []) (BadText fault)) (Line 12 ∷ TwoDrivers (codes "a") ∷ NoDriver (codes "a") ∷ Circuit NoPause
-    ∷ Circuit (Model (codes "a"))
-    ∷ Circuit (Input (codes "a")) ∷ Circuit (Output (codes "a")) ∷ Circuit (Again (codes "a")) ∷ NoInput (codes "a") ∷ [])
+lines_of_faults : map (λ fault. line_of (named []) (BadText fault)) (Line 12 ∷ TwoDrivers (codes "a") ∷ NoDriver (codes "a") ∷ NoPause
+    ∷ Model (codes "a") ∷ Input (codes "a") ∷ Output (codes "a") ∷ Again (codes "a") ∷ NoInput (codes "a") ∷ [])
     ≡ codes "cec-opt: line 12: not in the profile\n" ∷ codes "cec-opt: two drivers: a\n" ∷ codes "cec-opt: no driver: a\n"
     ∷ codes "cec-opt: last output is not _paused\n" ∷ codes "cec-opt: bad model: a\n" ∷ codes "cec-opt: bad input: a\n" ∷ codes "cec-opt: bad output: a\n"
     ∷ codes "cec-opt: output twice: a\n" ∷ codes "cec-opt: no input: a\n" ∷ []

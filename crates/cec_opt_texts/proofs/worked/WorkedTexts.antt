@@ -4,8 +4,6 @@ use Rattle.std.specs.Prelude.{flat_map}
 use Rattle.std.proofs.lemmas.List.Elements.{All-nil}
 use Rattle.base_types.specs.Items.{Item, EachEvent}
 use Rattle.base_types.specs.Relations.{Relation, Implies, Excludes, Meets, MeetsAll}
-use Rattle.base_types.specs.declared.stop.Stop.TheVariants.{Fault}
-use Rattle.base_types.specs.declared.stop.Stop.TheVariants as stops
 use Rattle.net_expressions.specs.Values.{value_of}
 use Rattle.base_machines.specs.Machines.{Machine, Shows}
 use Rattle.net_ir.specs.Netlists.{Netlist}
@@ -15,10 +13,9 @@ use Rattle.net_simp.specs.SimpleNets.{IsSimple}
 use Rattle.blif_text.specs.Circuits.{Circuit, reading}
 use Rattle.blif_text.specs.Circuits as circuits
 use Rattle.blif_text.specs.Runs.{circuit_machine}
-use Rattle.blif_read.specs.declared.refusal.BlifError.TheVariants as answers
+use Rattle.blif_read.specs.declared.fault.BlifFault.TheVariants as faults
 use Rattle.blif_net.specs.Conversions.{IsNetOf}
 use Rattle.blif_net.specs.Interfaces.{IsCircuitFault}
-use Rattle.blif_net.specs.declared.fault.CircuitFault.{CircuitFault}
 use Rattle.csub_text.specs.Machine.{program_machine}
 use Rattle.csub_text.specs.Names.{inputs_of, outputs_of}
 use Rattle.csub_text.specs.Texts as c_texts
@@ -26,10 +23,9 @@ use Rattle.vlog_text.specs.Machine.{vlog_machine}
 use Rattle.vlog_text.specs.Texts as vlog_texts
 use Rattle.blif_net.specs.Conversions.{FitsCircuit}
 use Rattle.cec_opt_texts.specs.Alike.{IsExpected, ShowAlike, HasOutputs, BlifKeeps, CKeeps, VerilogKeeps}
-use Rattle.cec_opt_texts.specs.Faults.{IsGivenFault, IsNetFault, IsNoInput, IsOptFault, IsReadFault}
+use Rattle.cec_opt_texts.specs.Faults.{IsGivenFault, IsNoInput, IsOptFault}
 use Rattle.cec_opt_texts.specs.Optimized.{IsSmallFor, IsSmallOf, IsSmallNetOf, IsTextNet}
 use Rattle.cec_opt_texts.specs.Related.{GivenRelation, Never, Implication, names_between_commas, numbered_relations}
-use Rattle.cec_opt_texts.specs.declared.fault.OptFault.TheVariants as faults
 
 -- ---- faults: the lines of a text behind `.model m` and before `.end`
 
@@ -60,20 +56,12 @@ no_other_name h = differ h
     differ : refused (circuits.NoDriver (codes "b")) ≡ refused (circuits.NoDriver []) → ⊥
     differ e = cc
 
-of_a_circuit : (text : List ℕ) (fault : CircuitFault) → IsOptFault text (faults.Circuit fault)
-    → (circuit : Circuit) × (reading text ≡ Ok circuit) × IsCircuitFault circuit fault
-of_a_circuit text fault h = h
+of_a_circuit : (text : List ℕ) → IsOptFault text faults.NoPause
+    → (circuit : Circuit) × (reading text ≡ Ok circuit) × IsCircuitFault circuit faults.NoPause
+of_a_circuit text h = h
 
-of_circuits_alone : (circuit : Circuit) (fault : CircuitFault) → (IsNetFault circuit (faults.Circuit fault) → IsCircuitFault circuit fault)
-    × (IsNetFault circuit (faults.Line 3) → ⊥)
-of_circuits_alone circuit fault = (λ h. h, λ h. h)
-
-of_the_reader : IsReadFault (answers.Line 3) (Fault (faults.Line 3)) × IsReadFault (answers.TwoDrivers (codes "a")) (Fault (faults.TwoDrivers (codes "a")))
-    × IsReadFault (answers.NoDriver (codes "a")) (Fault (faults.NoDriver (codes "a"))) × IsReadFault answers.NoMemory stops.NoMemory
-of_the_reader = (refl, refl, refl, refl)
-
-not_for_its_length : IsReadFault answers.TooLong stops.NoMemory → ⊥
-not_for_its_length h = h
+not_for_its_length : (text : List ℕ) → IsOptFault text faults.TooLong → ⊥
+not_for_its_length text h = h
 
 -- ---- interfaces
 

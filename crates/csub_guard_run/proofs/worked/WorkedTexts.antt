@@ -14,7 +14,7 @@ use Rattle.csub_guard.specs.Names as names
 use Rattle.csub_guard.specs.Texts.{Describes}
 use Rattle.csub_guard.specs.Trees.{Program}
 use Rattle.csub_guard_read.specs.Faults.{ReadsAs, IsSyntaxFault, IsNameFault}
-use Rattle.csub_guard_run.specs.declared.language.GuardedTextFault.TheVariants.{Syntax, Twice, Undeclared, Again, Unset}
+use Rattle.csub_guard_read.specs.declared.refusal.GuardedFault.TheVariants.{Syntax, Twice, Undeclared, Again, Unset}
 use Rattle.csub_guard_run.specs.CountedRuns.{ReadsWholeTrace, RunsCounted, CountsProgram, CountsIn, CountsNet}
 use Rattle.csub_guard_run.specs.ProgramAnswers.{program_shows, call_answer, last_line, bare_inputs, bare_outputs}
 use Rattle.csub_guard_run.specs.Texts.{IsTextFault, Means}

@@ -8,7 +8,7 @@ use Rattle.csub_text.specs.Names as names
 use Rattle.csub_text.specs.Names.{NameFault, name_fault}
 use Rattle.csub_text.specs.Texts.{Describes}
 use Rattle.csub_text.specs.Trees.{Program}
-use Rattle.csub_read.specs.declared.refusal.CError.TheVariants as faults
+use Rattle.csub_read.specs.declared.refusal.CFault.TheVariants as faults
 use Rattle.csub_read.specs.Faults.{ReadsAs, ReadsFault}
 
 -- ---- the bound on texts is 256 MiB
@@ -21,9 +21,6 @@ not_at_the_bound text whole h = omega (arith, whole, h)
 
 read_at_the_bound : (text : List ℕ) (p : Program) → ReadsAs text p → length text ≤ 268435456
 read_at_the_bound text p h = h.short
-
-want_of_memory_says_nothing : ReadsFault [] faults.NoMemory
-want_of_memory_says_nothing = tt
 
 -- ---- what is read
 

@@ -4,7 +4,7 @@ use Rattle.net_ir.specs.Netlists.{Netlist}
 use Rattle.csub_text.specs.Names as names
 use Rattle.csub_text.specs.Written.{written, Means}
 use Rattle.csub_read.specs.Faults.{IsSyntaxFault, IsNameFault}
-use Rattle.csub_run.specs.declared.language.CTextFault.TheVariants.{Syntax, Twice, Undeclared, Unset}
+use Rattle.csub_read.specs.declared.refusal.CFault.TheVariants.{Syntax, Twice, Undeclared, Unset}
 use Rattle.csub_run.specs.Texts.{IsTextFault, IsWritten}
 
 syntax : (text : List ℕ) (at : ℕ) → IsTextFault text (Syntax at) → IsSyntaxFault text at

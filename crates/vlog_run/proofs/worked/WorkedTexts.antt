@@ -5,7 +5,7 @@ use Rattle.vlog_text.specs.Names as names
 use Rattle.vlog_text.specs.Trees.{VerilogModule}
 use Rattle.vlog_text.specs.Written.{written, Means}
 use Rattle.vlog_read.specs.Faults.{ReadsAs, IsSyntaxFault, IsNameFault}
-use Rattle.vlog_run.specs.declared.language.VerilogTextFault.TheVariants.{Syntax, Twice, Port, Undeclared, TwoDrivers, NoDriver, Loop}
+use Rattle.vlog_read.specs.declared.refusal.VlogFault.TheVariants.{Syntax, Twice, Port, Undeclared, TwoDrivers, NoDriver, Loop}
 use Rattle.vlog_run.specs.Loops.{IsLoop, HasNoLoop}
 use Rattle.vlog_run.specs.Texts.{IsTextFault, ReadsModule, IsWritten}
 

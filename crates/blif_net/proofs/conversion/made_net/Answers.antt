@@ -1,4 +1,5 @@
 use Rattle.std.proofs.Common.{sym, subst, ◌∙◌}
+use Rattle.std.proofs.lemmas.Result.{IfOk-weaker}
 use Rattle.net_ir.specs.Netlists.{Netlist}
 use Rattle.blif_text.specs.Plain.{plain_circuit}
 use Rattle.blif_text.proofs.Exports.{described-sound}
@@ -15,8 +16,7 @@ returns c =
     let circuit = plain_circuit c.args.blif.now in
     let sound = described-sound c.requires.described.0 circuit c.requires.described.1 in
     let drawing = c.in_ok-drawing.drawing in
-    let a = c.in_ok-net.ensures in
-    subst (λ (net : Netlist). IsNetOf circuit net) (sym a.net_is)
+    IfOk-weaker c.assembled_net.result _ _ (λ net a. subst (λ (net : Netlist). IsNetOf circuit net) (sym a.net_is)
     (net-is circuit sound c.requires.fits c.args.order.now c.requires.order drawing.gates.items drawing.nets.items
     c.in_ok-drawing.ensures.settles c.in_ok-drawing.ensures.count c.in_ok-drawing.ensures.deep
-    a.named a.are_named)
+    a.named a.are_named)) c.assembled_net.ensures

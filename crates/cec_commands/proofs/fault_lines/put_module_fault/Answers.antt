@@ -1,10 +1,13 @@
 use Rattle.cec_commands.proofs.fault_lines.put_module_fault.Goals as goal
 
+pub returns-in-TooLong : goal.returns-in-TooLong
+returns-in-TooLong g c = rw c.in-TooLong.is c.write_pieces.ensures
+
 pub returns-in-Syntax : goal.returns-in-Syntax
 returns-in-Syntax g c = rw c.in-Syntax.is c.put_numbered.ensures
 
 pub returns-in-Twice : goal.returns-in-Twice
-returns-in-Twice g c = rw (c.in-Twice.is, ← c.bytes.ensures) c.write_pieces.ensures
+returns-in-Twice g c = rw (c.in-Twice.is, ← c.bytes.ensures) c.write_pieces-in-Twice.ensures
 
 pub returns-in-Port : goal.returns-in-Port
 returns-in-Port g c = rw (c.in-Port.is, ← c.bytes-in-Port.ensures) c.write_pieces-in-Port.ensures

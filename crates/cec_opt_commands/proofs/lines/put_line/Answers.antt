@@ -6,6 +6,9 @@ returns-in-Usage g c = rw (c.in-Usage.is, ← c.as_bytes.ensures.value) c.put_sa
 pub returns-in-FileFault : goal.returns-in-FileFault
 returns-in-FileFault g c = rw (c.in-FileFault.is, ← c.as_bytes-in-FileFault.ensures.value) c.put_said-in-FileFault.ensures
 
+pub returns-in-BadText : goal.returns-in-BadText
+returns-in-BadText g c = rw c.in-BadText.is c.put_blif_fault.ensures
+
 pub returns-in-BadComponent : goal.returns-in-BadComponent
 returns-in-BadComponent g c = rw c.in-BadComponent.is c.put_component_fault.ensures
 

@@ -1,13 +1,13 @@
 use Rattle.std.proofs.Common.{◌≡◌, ℕ, List, [], None, map, sym, ap, ◌∙◌, Bor}
 use Rattle.std.specs.Prelude.{find}
 use Rattle.std.specs.HashSet.{contains_by}
-use Rattle.std.proofs.lemmas.Result.{err_from_is_err_and, on_ok_weaker, IfErr-weaker}
+use Rattle.std.proofs.lemmas.Result.{err_from_is_err_and, on_ok_weaker}
 use Rattle.base_types.specs.Names.{is_same_name}
 use Rattle.net_ir.specs.NameLists.{is_among, first_again}
 use Rattle.net_ir.proofs.Exports.{find-same}
-use Rattle.csub_text.specs.Names.{declared, declared_twice, is_wrong, name_found, uses, undeclared, unset}
+use Rattle.csub_text.specs.Names.{declared, declared_twice, is_wrong, name_found, uses, undeclared}
 use Rattle.csub_text.specs.Views.{program_of}
-use Rattle.csub_read.specs.NameTests.{use_of, wrong_use, NamesFault, UnsetFault}
+use Rattle.csub_read.specs.NameTests.{use_of, wrong_use}
 use Rattle.csub_read.proofs.NameFaults.{wrong-same, uses-fault, reads-fault, names-fit}
 use Rattle.csub_read.proofs.names.check_names.Goals as goal
 
@@ -51,4 +51,4 @@ returns-clause-fault c =
     find-same (wrong_use known) (is_wrong (declared p)) us (wrong-same known (declared p) (λ n. c.in_ok-known.ensures.members n ∙ ap (is_among n) names))
     ∙ ap (find (is_wrong (declared p))) (ap (map use_of) c.deref-2.ensures.value ∙ c.in_ok-uses.ensures) in
     let each : undeclared p ≡ None = ap name_found (sym same ∙ c.in_ok-check_uses.ensures.all) in
-    IfErr-weaker c.check_reads.result (UnsetFault (unset p)) (NamesFault p) (reads-fault p once each) c.check_reads.ensures.fault
+    reads-fault p once each c.check_reads.result c.check_reads.ensures.fault

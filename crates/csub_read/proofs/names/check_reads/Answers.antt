@@ -3,14 +3,15 @@ use Rattle.std.specs.Prelude.{find, filter}
 use Rattle.std.specs.HashSet.{contains_by}
 use Rattle.std.specs.List.{list_any}
 use Rattle.std.proofs.lemmas.List.{drop_all}
-use Rattle.std.proofs.lemmas.Result.{err_from_is_err_and, on_ok_weaker, IfErr-weaker}
+use Rattle.std.proofs.lemmas.Result.{err_from_is_err_and, on_ok_weaker}
 use Rattle.base_facts.proofs.Lists.{drop-at}
 use Rattle.base_types.specs.Names.{is_same_name}
+use Rattle.base_types.specs.Stops.{IfFault}
 use Rattle.net_ir.specs.NameLists.{is_among}
 use Rattle.csub_text.specs.Names.{names_in, unset, unset_from}
 use Rattle.csub_text.specs.Views.{assign_of, expr_of, program_of}
 use Rattle.csub_read.specs.NameTests.{UnsetFault}
-use Rattle.csub_read.proofs.NameFaults.{unset-by, unset-set}
+use Rattle.csub_read.proofs.NameFaults.{unset-set}
 use Rattle.csub_read.proofs.UnsetLocals.{filter-none, unset-step, unset-last}
 use Rattle.csub_read.proofs.names.check_reads.Goals as goal
 
@@ -82,5 +83,4 @@ returns-clause-fault c =
     let is : unset (program_of p) ≡ found = c.loop-assign.invariant
     ∙ ap (λ items. unset_from (filter (λ n. not (old n)) p.locals.items) (map assign_of items) (expr_of p.answer)) none
     ∙ unset-last known old p.locals.items (expr_of p.answer) same in
-    IfErr-weaker c.check_set-2.result (UnsetFault found) (UnsetFault (unset (program_of p)))
-    (unset-by found (unset (program_of p)) is) c.check_set-2.ensures.fault
+    subst (λ o. IfFault c.check_set-2.result (UnsetFault o)) (sym is) c.check_set-2.ensures.fault

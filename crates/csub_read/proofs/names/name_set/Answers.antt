@@ -11,7 +11,7 @@ returns-then-not-branch-clause-fault c =
     c.loop-name.invariant.once
     ∙ again-here bytes c.args.names.now i (record { ref_ptr = (0, 0); now = [] }) (omega arith)
     (sym (c.loop-name.invariant.members key.now) ∙ not-false _ (sym c.in_ok-insert.ensures.added ∙ c.if-not-branch.true))
-    ∙ ap Some (sym c.in_ok-from_bytes.ensures)
+    ∙ ap Some (sym c.in_ok-copy.ensures)
 
 pub loop-name-preserved : goal.loop-name-preserved
 loop-name-preserved c =

@@ -18,8 +18,8 @@ returns-in-Ok-clause-spells c =
     spells-by c.args.text.now (map kind_in all) c.in-Ok.program
     (kinds-are kind_of (tokens c.args.text.now) all (ap (map (token_by kind_of)) c.as_slice.ensures.value ∙ c.in_ok-tokens.ensures)) c.in-Ok.ensures
 
-pub place_at-requires-clause-within : goal.place_at-requires-clause-within
-place_at-requires-clause-within c =
+pub place_at-at-requires-clause-within : goal.place_at-at-requires-clause-within
+place_at-at-requires-clause-within c =
     let ks = map kind_in c.as_slice.result.now in
     let read = subst (λ e. GivesKinds parts_in (Err e) (whole (text_rule makes_expr nesting_limit) ks)) c.in-Err-Fault.field-0-is c.in-Err-Fault.ensures in
     let low = left-low IsText nesting_limit ks c.in-Err-Fault.fault (least-by ks c.in-Err-Fault.fault read) in
@@ -34,6 +34,6 @@ returns-in-Err-Fault-clause-fault c =
     let ks = map kind_in c.as_slice.result.now in
     let read = subst (λ e. GivesKinds parts_in (Err e) (whole (text_rule makes_expr nesting_limit) ks)) c.in-Err-Fault.field-0-is c.in-Err-Fault.ensures in
     let same = c.as_slice.ensures.value ∙ sym c.as_slice-in-Err-Fault.ensures.value in
-    fault-place kind_of IsText nesting_limit (tokens c.args.text.now) (length c.args.text.now) all fault c.place_at.result
+    fault-place kind_of IsText nesting_limit (tokens c.args.text.now) (length c.args.text.now) all fault c.place_at-at.result
     (ap (map (token_by kind_of)) c.as_slice-in-Err-Fault.ensures.value ∙ c.in_ok-tokens.ensures)
-    (subst (λ ts. IsLeastPlace IsText nesting_limit (map kind_in ts) fault) same (least-by ks fault read)) c.place_at.ensures
+    (subst (λ ts. IsLeastPlace IsText nesting_limit (map kind_in ts) fault) same (least-by ks fault read)) c.place_at-at.ensures
