@@ -1,9 +1,5 @@
 // Typed indices, so that a wire is never taken for a signal.
 
-/// A module of a program, by its place in the text, from 0.
-#[derive(Clone, Copy)]
-pub struct ModId(pub u32);
-
 /// A signal of a kernel program, from 0: the inputs, those that are input and output, the outputs, each kind in
 /// declared order, then the local ones.
 #[derive(Clone, Copy, Debug, PartialEq)]

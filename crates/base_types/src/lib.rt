@@ -28,7 +28,7 @@ pub use bounds::{Limits, limits_are_as_stated};
 pub use code_set::CodeSet;
 pub use draws::Draw;
 pub use files::{DiskFiles, FileEntry, FileFault, Files, MapFiles, SteadyFiles};
-pub use indices::{InstId, ModId, NetId, PathId, SigId, WireId};
+pub use indices::{InstId, NetId, PathId, SigId, WireId};
 pub use interface::{InputRelation, SignalInfo, copy_relations};
 pub use memory::NoMemory;
 pub use names::{is_digit, is_letter, is_name_byte};

@@ -3,7 +3,7 @@
 //! A source is compiled by `cec_compile`, its netlist is optimized by `net_opt`, and its BLIF text, its C text or its
 //! structural Verilog is written. The compiler-correctness theorem holds of the text, as of those of `cec_compile`; the
 //! wires of the graph have no names in it. `coded_net` gives the lighter one of the plain and the encoded netlist, or
-//! the encoded one, both optimized for events that meet the source's relations.
+//! the encoded one, both optimized by `net_relations` for events that meet the source's relations.
 #![tactic(auto)]
 
 mod light;

@@ -1,8 +1,8 @@
 //! Coverings of sources: for each point of a source a trace that reaches it, or the answer that no trace does.
 //!
 //! The source is flattened by `est_front`. `est_cover` makes a program of it that shows which of its points are
-//! reached, portion by portion. Each of these programs is compiled and optimized as `cec` does it, and
-//! `cec_prove_sources` decides whether the signal of a point is ever present.
+//! reached, portion by portion. Each of these programs is compiled by `cec_compile` and optimized by
+//! `net_opt`, and `cec_prove_sources` decides whether the signal of a point is ever present.
 #![tactic(auto)]
 
 mod coverings;

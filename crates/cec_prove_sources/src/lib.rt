@@ -1,10 +1,10 @@
 //! Properties of sources: from the bytes of a source to the answer that an outgoing signal is never, or always,
 //! present, to a survey of all outgoing signals, and to the answer that two sources do the same.
 //!
-//! A source is compiled by `cec_compile`, its netlist is optimized by `net_opt`, and `net_search` decides whether the
-//! net of the signal, or its negation, is ever true where the relations of the source are met. Of two sources
-//! `net_pair` makes one netlist, whose one net is true where they differ. What the netlist keeps of the source carries
-//! the answer back to the reactions of the source.
+//! A source is compiled by `cec_compile`, and `net_search` decides whether the net of the signal, or its negation, is
+//! ever true where the relations of the source are met. If that stays open, it is asked of the netlist that `net_opt`
+//! makes of this one. Of two sources `net_pair` makes one netlist, whose one net is true where they differ. What the
+//! netlist keeps of the source carries the answer back to the reactions of the source.
 #![tactic(auto)]
 
 mod comparing;

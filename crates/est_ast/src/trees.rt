@@ -71,8 +71,8 @@ pub enum Delay {
     Plain(SigExpr),
     /// The next instant, the first included, in which the test is true.
     Immediate(SigExpr),
-    /// The instant, the first not included, in which the test is true for the so-manieth time. The number has
-    /// a place.
+    /// The instant, the first not included, in which the test has been true this many times. The number has a
+    /// place.
     Count(u128, Span, SigExpr),
 }
 

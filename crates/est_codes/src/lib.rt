@@ -13,4 +13,4 @@ mod rows;
 mod walk;
 
 pub use refusal::CodeFault;
-pub use walk::{code_sets, codes};
+pub use walk::codes;

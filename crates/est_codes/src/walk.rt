@@ -36,17 +36,6 @@ pub fn codes(alloc: Global, body: &Kernel) -> Result<Codes, CodeFault>
     Ok(entry_sets(alloc, &entries)?)
 }
 
-/// The static codes of each statement of the body, by its number in preorder, whether or not the body has an
-/// instantaneous loop. Its only error is out of memory.
-pub fn code_sets(alloc: Global, body: &Kernel) -> Result<Codes, NoMemory>
-    requires { KeepsLimits (term_of body.now) }
-    ensures { IfOk result (λ codes. AreCodesOf codes (term_of body.now)) }
-{
-    let mut entries = Vec::new(alloc);
-    list_entries(body, &mut entries)?;
-    entry_sets(alloc, &entries)
-}
-
 // The sets of the statements that have these entries.
 fn entry_sets(alloc: Global, entries: &[Entry]) -> Result<Codes, NoMemory>
     ensures { IfOk result (λ codes. (found : Found) (body : Term) → Lists [] entries.now found body

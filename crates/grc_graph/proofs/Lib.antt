@@ -12,7 +12,6 @@ mod RowReads
 mod RowFacts
 mod WireRuns
 mod StatementPaths
-mod WireSearching
 mod WireNames
 mod WireFilling
 mod NeighbourReads

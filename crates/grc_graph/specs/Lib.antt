@@ -21,7 +21,6 @@ pub mod CodeTables
 pub mod PlainInstances
 pub mod WireOrders
 pub mod GraphRuns
-pub mod PathTargets
 pub mod PlainGraphs
 pub mod LayoutFacts
 pub mod Layouts
@@ -36,7 +35,6 @@ pub mod StatementViews
 pub mod InstanceLaws
 pub mod Rows
 pub mod WireTables
-pub mod NamedWires
 pub mod Neighbouring
 pub mod WireNames
 pub mod PlainWireNames

@@ -17,8 +17,6 @@ use crate::instances::Instances;
 use crate::loops::LoopBodies;
 use crate::neighbours::Neighbours;
 use crate::trees::SelTree;
-use crate::wire_names::WireName;
-use crate::wire_search::Search;
 use crate::wires::{Node, Wire};
 use base_types::{InstId, WireId};
 use est_kernel::{Codes, KernelProgram};
@@ -66,10 +64,8 @@ pub struct Graph {
 
 impl Graph {
     ghost use Rattle.std.specs.Prelude.{◌≡◌, ◌<◌, slice_get, Some};
-    ghost use Rattle.grc_graph.specs.NamedWires.{FindsName};
     ghost use Rattle.grc_graph.specs.Neighbouring.{instances_in, names_in};
     ghost use Rattle.grc_graph.specs.PlainGraphs.{instances_of, names_of};
-    ghost use Rattle.grc_graph.specs.PlainWireNames.{wire_name_of};
 
     /// The wires by number. It takes no memory.
     pub fn wires(&self) -> &[Wire]
@@ -128,19 +124,5 @@ impl Graph {
         ensures { slice_get self.now.next.items leaf ≡ Some result.now }
     {
         &self.next[leaf as usize]
-    }
-
-    /// The number of the wire with this name, the first where several have it; None where no wire has it. The
-    /// time is linear in the body and in the wires. It takes no memory.
-    pub fn wire_at(&self, name: &WireName) -> Option<WireId>
-        ensures { FindsName self.now result (wire_name_of name.now) }
-    {
-        let search = Search::new(self, name);
-        for number in 0..self.wires.len() {
-            if search.finds(self.wires[number]) {
-                return Some(WireId(number as u32));
-            }
-        }
-        None
     }
 }

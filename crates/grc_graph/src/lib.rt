@@ -19,7 +19,6 @@ mod orders;
 mod statements;
 mod trees;
 mod wire_names;
-mod wire_search;
 mod wires;
 
 pub use code_tables::{codes_end, has_some_code, instance_codes, resumed_codes, started_codes};
