@@ -12,6 +12,7 @@ ghost use Rattle.cec_prove_commands.specs.Views.{subject_is};
 
 use crate::outcome::{InputFault, ProveOutcome, Which};
 use base_types::{Limits, Sink, SinkFault, write_pieces};
+use blif_read::BlifFault;
 use cec_cycles::Stuck;
 use cec_refusals::{RefusedSource, put_blif_fault, put_refusal};
 use cec_words::Misuse;
