@@ -1,6 +1,6 @@
 // The line about an outcome.
 
-ghost use Rattle.std.specs.Prelude.{◌≡◌, ◌≤◌, ◌++◌, ℕ, List, Option, codes, length, map};
+ghost use Rattle.std.specs.Prelude.{◌≡◌, ◌≤◌, ◌++◌, ℕ, List, Option, length, map};
 ghost use Rattle.std.specs.String.{string_bytes};
 ghost use Rattle.base_types.specs.Writing.{Wrote};
 ghost use Rattle.cec_text_io.specs.ErrorLines.{GainsLine};
