@@ -1,5 +1,5 @@
 -- Written by hand: what a fault says of a text, row by row, and where the bound on texts lies.
-use Rattle.std.proofs.Common.{◌≡◌, ◌≤◌, ℕ, List, [], length, Some, sym, ◌∙◌, arith}
+use Rattle.std.proofs.Common.{◌≡◌, ◌≤◌, ℕ, List, length, Some, sym, ◌∙◌, arith}
 use Rattle.net_expressions.specs.Lexemes.{IsFaultPlace}
 use Rattle.csub_text.specs.Grammar.{WrittenProgram}
 use Rattle.csub_text.specs.Tokens.{tokens, kinds}
