@@ -60,8 +60,8 @@ use Rattle.csub_run.specs.ProgramAnswers.{bare_inputs}
 use Rattle.cec_commands.specs.declared.outcome.Outcome.{Outcome}
 use Rattle.cec_commands.specs.declared.outcome.Outcome.TheVariants.{Done, Usage, FileFault, Static, Cyclic, Trace, BadText, Limit, WriteFault, NoMemory}
 use Rattle.cec_commands.specs.declared.outcome.Outcome.TheVariants.{NotConstructive}
-use Rattle.cec_commands.specs.declared.outcome.Which.{Which}
-use Rattle.cec_commands.specs.declared.outcome.Which.TheVariants.{First, Second}
+use Rattle.cec_words.specs.declared.common.Which.{Which}
+use Rattle.cec_words.specs.declared.common.Which.TheVariants.{First, Second}
 use Rattle.cec_compile.specs.declared.refusal.Limit as bounds
 use Rattle.cec_compile.specs.declared.refusal.Limit.TheVariants as limits
 use Rattle.cec_compile.specs.declared.refusal.Refusal.TheVariants as refusals

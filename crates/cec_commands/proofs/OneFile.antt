@@ -12,7 +12,7 @@ use Rattle.cec_commands.specs.declared.outcome.Outcome.{Outcome}
 use Rattle.cec_commands.specs.declared.outcome.Outcome.TheVariants.{Done, Usage, FileFault as Unread, Static, Cyclic, Trace, BadText, Limit, WriteFault}
 use Rattle.cec_commands.specs.declared.outcome.Outcome.TheVariants.{NoMemory}
 use Rattle.cec_commands.specs.declared.outcome.Outcome.TheVariants.{NotConstructive}
-use Rattle.cec_commands.specs.declared.outcome.Which.TheVariants.{First}
+use Rattle.cec_words.specs.declared.common.Which.TheVariants.{First}
 use Rattle.cec_compile.specs.declared.refusal.Limit as bounds
 use Rattle.cec_compile.specs.declared.refusal.Limit.TheVariants as limits
 use Rattle.cec_compile.specs.declared.refusal.Refusal as refused

@@ -17,7 +17,7 @@ use Rattle.cec_commands.specs.declared.outcome.Outcome.{Outcome}
 use Rattle.cec_commands.specs.declared.outcome.Outcome.TheVariants.{Done, Usage, FileFault as Unread, Static, Cyclic, Trace, BadText, Limit, WriteFault}
 use Rattle.cec_commands.specs.declared.outcome.Outcome.TheVariants.{NoMemory}
 use Rattle.cec_commands.specs.declared.outcome.Outcome.TheVariants.{NotConstructive}
-use Rattle.cec_commands.specs.declared.outcome.Which.TheVariants.{First, Second}
+use Rattle.cec_words.specs.declared.common.Which.TheVariants.{First, Second}
 use Rattle.cec_commands.specs.declared.reactions.ReactionFault.{ReactionFault}
 use Rattle.cec_commands.specs.declared.reactions.ReactionFault.TheVariants as stops
 use Rattle.cec_compile.specs.declared.refusal.Limit.TheVariants as limits

@@ -18,8 +18,8 @@ use Rattle.run_over_traces.proofs.Exports.{front-of}
 use Rattle.cec_commands.specs.declared.outcome.Outcome.{Outcome}
 use Rattle.cec_commands.specs.declared.outcome.Outcome.TheVariants.{Done, Usage, FileFault, Static, Cyclic, Trace, BadText, Limit, WriteFault, NoMemory}
 use Rattle.cec_commands.specs.declared.outcome.Outcome.TheVariants.{NotConstructive}
-use Rattle.cec_commands.specs.declared.outcome.Which.{Which}
-use Rattle.cec_commands.specs.declared.outcome.Which.TheVariants.{First}
+use Rattle.cec_words.specs.declared.common.Which.{Which}
+use Rattle.cec_words.specs.declared.common.Which.TheVariants.{First}
 use Rattle.cec_commands.specs.declared.unknown_wires.UnknownWires.{UnknownWires}
 use Rattle.cec_commands.specs.Accepted.{ComesToStop}
 use Rattle.cec_commands.specs.Jobs.{Job, RunTri}

@@ -17,8 +17,8 @@ use Rattle.cec_commands.specs.declared.outcome.Outcome.{Outcome}
 use Rattle.cec_commands.specs.declared.outcome.Outcome.TheVariants.{Done, Usage, FileFault, Static, Cyclic, Trace}
 use Rattle.cec_commands.specs.declared.outcome.Outcome.TheVariants.{BadText}
 use Rattle.cec_commands.specs.declared.outcome.Outcome.TheVariants.{Limit, WriteFault, NoMemory}
-use Rattle.cec_commands.specs.declared.outcome.Which.{Which}
-use Rattle.cec_commands.specs.declared.outcome.Which.TheVariants.{First, Second}
+use Rattle.cec_words.specs.declared.common.Which.{Which}
+use Rattle.cec_words.specs.declared.common.Which.TheVariants.{First, Second}
 use Rattle.cec_commands.specs.declared.text_faults.TextFault.{TextFault}
 use Rattle.cec_compile.specs.declared.refusal.Limit.TheVariants as limits
 use Rattle.cec_compile.specs.declared.refusal.Refusal.TheVariants as refusals

@@ -10,8 +10,8 @@ use Rattle.cec_commands.specs.declared.lines.Subject as lines
 use Rattle.cec_commands.specs.declared.outcome.Outcome.{Outcome}
 use Rattle.cec_commands.specs.declared.outcome.Outcome.TheVariants.{Done, FileFault as Unread, Trace, Limit}
 use Rattle.cec_commands.specs.declared.outcome.Outcome.TheVariants.{WriteFault, NoMemory}
-use Rattle.cec_commands.specs.declared.outcome.Which.{Which}
-use Rattle.cec_commands.specs.declared.outcome.Which.TheVariants.{First, Second}
+use Rattle.cec_words.specs.declared.common.Which.{Which}
+use Rattle.cec_words.specs.declared.common.Which.TheVariants.{First, Second}
 use Rattle.cec_compile.specs.declared.refusal.Limit as bounds
 use Rattle.cec_compile.specs.declared.refusal.Limit.TheVariants as limits
 use Rattle.cec_text_io.specs.Contents.{Content, Holds}

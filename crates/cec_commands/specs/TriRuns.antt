@@ -18,7 +18,7 @@ use Rattle.cec_commands.specs.declared.outcome.Outcome.{Outcome}
 use Rattle.cec_commands.specs.declared.outcome.Outcome.TheVariants.{Done, FileFault, Static, Trace, Limit}
 use Rattle.cec_commands.specs.declared.outcome.Outcome.TheVariants.{NotConstructive}
 use Rattle.cec_commands.specs.declared.outcome.Outcome.TheVariants.{WriteFault, NoMemory}
-use Rattle.cec_commands.specs.declared.outcome.Which.TheVariants.{Second}
+use Rattle.cec_words.specs.declared.common.Which.TheVariants.{Second}
 use Rattle.cec_compile.specs.declared.refusal.Limit.TheVariants as limits
 use Rattle.cec_compile.specs.declared.refusal.Refusal.TheVariants as refusals
 use Rattle.cec_commands.specs.declared.unknown_wires.UnknownWires.{UnknownWires}

@@ -24,11 +24,12 @@ pub use cec_compile::{
     Compiled, Cycle, Graphed, Limit, Refusal, blif_of, c_of, compile, encoded_blif_of, graph_of,
     guarded_c_of, source_graph, verilog_of,
 };
+pub use cec_words::Which;
 pub use command::cec;
 pub use laws::{
     accepted_requests_are_done, compiling_sources_are_not_refused, stopping_runs_are_told,
 };
-pub use outcome::{Outcome, Which};
+pub use outcome::Outcome;
 pub use steady::cec_steadily;
 pub use text_faults::TextFault;
 pub use unknown_wires::UnknownWires;

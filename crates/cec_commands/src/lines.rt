@@ -8,9 +8,10 @@ ghost use Rattle.cec_commands.specs.Subjects.{plain_subject};
 
 use crate::fault_lines::{put_text_fault, put_trace_fault, put_unknown};
 use crate::jobs::Job;
-use crate::outcome::{Outcome, Which};
+use crate::outcome::Outcome;
 use base_types::{Limits, Sink, SinkFault, write_pieces};
 use cec_compile::Limit;
+use cec_words::Which;
 use est_front::put_fault;
 
 /// What a line may speak of: the names of the two files, the name that was asked for the main module, and the source.

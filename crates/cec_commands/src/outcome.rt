@@ -9,6 +9,7 @@ use crate::unknown_wires::UnknownWires;
 use base_types::FileFault;
 use cec_compile::{Cycle, Limit, Refusal};
 use cec_text_io::Written;
+use cec_words::Which;
 use est_front::Fault;
 use run_over_traces::RunFault;
 use run_trace_io::TraceFault;
@@ -39,15 +40,6 @@ pub enum Outcome {
     /// The program is not constructive in this instant of the trace, and these wires stay unknown there. The lines of
     /// the instants before it were written.
     NotConstructive(UnknownWires),
-}
-
-/// The place of a file among the command's files.
-#[derive(Clone, Copy)]
-pub enum Which {
-    /// The first file of the command.
-    First,
-    /// The second file of the command, a trace.
-    Second,
 }
 
 impl From<Refusal> for Outcome {

@@ -32,8 +32,8 @@ use Rattle.cec_prove_commands.specs.declared.outcome.InputFault.TheVariants.{Bad
 use Rattle.cec_prove_commands.specs.declared.outcome.ProveOutcome.{ProveOutcome}
 use Rattle.cec_prove_commands.specs.declared.outcome.ProveOutcome.TheVariants.{Refuted, Surveyed, PartlySurveyed, Covered, PartlyCovered}
 use Rattle.cec_prove_commands.specs.declared.outcome.ProveOutcome.TheVariants.{BadInput, WriteFault, NoMemory}
-use Rattle.cec_prove_commands.specs.declared.outcome.Which.{Which}
-use Rattle.cec_prove_commands.specs.declared.outcome.Which.TheVariants.{First, Second}
+use Rattle.cec_words.specs.declared.common.Which.{Which}
+use Rattle.cec_words.specs.declared.common.Which.TheVariants.{First, Second}
 
 -- ---- what an answer says of the program
 

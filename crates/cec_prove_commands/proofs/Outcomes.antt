@@ -31,8 +31,8 @@ use Rattle.cec_prove_commands.specs.declared.outcome.InputFault.{InputFault}
 use Rattle.cec_prove_commands.specs.declared.outcome.InputFault.TheVariants.{Unread, Refused, TooLong}
 use Rattle.cec_prove_commands.specs.declared.outcome.ProveOutcome.{ProveOutcome}
 use Rattle.cec_prove_commands.specs.declared.outcome.ProveOutcome.TheVariants.{Told, BadInput}
-use Rattle.cec_prove_commands.specs.declared.outcome.Which.{Which}
-use Rattle.cec_prove_commands.specs.declared.outcome.Which.TheVariants.{First, Second}
+use Rattle.cec_words.specs.declared.common.Which.{Which}
+use Rattle.cec_words.specs.declared.common.Which.TheVariants.{First, Second}
 
 -- ---- what the program writes about itself
 

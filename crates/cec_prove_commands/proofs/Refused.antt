@@ -21,8 +21,8 @@ use Rattle.cec_prove_commands.specs.declared.outcome.InputFault.{InputFault}
 use Rattle.cec_prove_commands.specs.declared.outcome.InputFault.TheVariants.{Refused, NotConstructive, UndecidedCycle, TooManyNets}
 use Rattle.cec_prove_commands.specs.declared.outcome.ProveOutcome.{ProveOutcome}
 use Rattle.cec_prove_commands.specs.declared.outcome.ProveOutcome.TheVariants.{BadInput, WriteFault, NoMemory}
-use Rattle.cec_prove_commands.specs.declared.outcome.Which.{Which}
-use Rattle.cec_prove_commands.specs.declared.outcome.Which.TheVariants.{First, Second}
+use Rattle.cec_words.specs.declared.common.Which.{Which}
+use Rattle.cec_words.specs.declared.common.Which.TheVariants.{First, Second}
 use Rattle.cec_prove_commands.proofs.Answering.{as_written, lines_left}
 
 -- ---- each cause

@@ -32,7 +32,7 @@ use Rattle.cec_prove_commands.specs.Words.{AskText, SurveyText, CompareTexts}
 use Rattle.cec_prove_commands.specs.declared.answers.Answer.{Answer}
 use Rattle.cec_prove_commands.specs.declared.answers.Answer.TheVariants as answers
 use Rattle.cec_prove_commands.specs.declared.outcome.ProveOutcome.{ProveOutcome}
-use Rattle.cec_prove_commands.specs.declared.outcome.Which.TheVariants.{First, Second}
+use Rattle.cec_words.specs.declared.common.Which.TheVariants.{First, Second}
 
 -- an answer is one to a task about these texts, the second of which a comparison alone reads
 abbrev pub IsAnswer : Answer → Task → Job → (first second : List ℕ) → Type 0

@@ -18,7 +18,7 @@ use Rattle.cec_prove_commands.specs.declared.outcome.ProveOutcome.TheVariants.{P
 use Rattle.cec_prove_commands.specs.declared.outcome.ProveOutcome.TheVariants.{NoAssumed, OtherGiven, OtherOutgoing}
 use Rattle.cec_prove_commands.specs.declared.outcome.ProveOutcome.TheVariants.{OtherRelations, Usage, BadInput}
 use Rattle.cec_prove_commands.specs.declared.outcome.ProveOutcome.TheVariants.{WriteFault, NoMemory}
-use Rattle.cec_prove_commands.specs.declared.outcome.Which.{Which}
+use Rattle.cec_words.specs.declared.common.Which.{Which}
 
 -- of a source that does not compile: that of `cec`
 abbrev pub refusal_status : refusals.Refusal → ℕ

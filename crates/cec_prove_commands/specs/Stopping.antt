@@ -11,7 +11,7 @@ use Rattle.cec_prove_commands.specs.Statuses.{refusal_outcome, written_outcome}
 use Rattle.cec_prove_commands.specs.declared.outcome.InputFault.TheVariants as faults
 use Rattle.cec_prove_commands.specs.declared.outcome.ProveOutcome.{ProveOutcome}
 use Rattle.cec_prove_commands.specs.declared.outcome.ProveOutcome.TheVariants.{BadInput}
-use Rattle.cec_prove_commands.specs.declared.outcome.Which.{Which}
+use Rattle.cec_words.specs.declared.common.Which.{Which}
 
 -- the trace of a source that is not constructive was to be written
 pub record IsStuckOutcome (stuck : Stuck) (done : ProveOutcome) (s : SinkChange) (outcome : ProveOutcome) : Type 0 where

@@ -19,8 +19,8 @@ use Rattle.cec_prove_commands.specs.declared.outcome.ProveOutcome.TheVariants.{P
 use Rattle.cec_prove_commands.specs.declared.outcome.ProveOutcome.TheVariants.{PartlySurveyed, Undecided, NoSignal}
 use Rattle.cec_prove_commands.specs.declared.outcome.ProveOutcome.TheVariants.{NoAssumed, OtherGiven, OtherOutgoing}
 use Rattle.cec_prove_commands.specs.declared.outcome.ProveOutcome.TheVariants.{BadInput, WriteFault, NoMemory}
-use Rattle.cec_prove_commands.specs.declared.outcome.Which.{Which}
-use Rattle.cec_prove_commands.specs.declared.outcome.Which.TheVariants.{First, Second}
+use Rattle.cec_words.specs.declared.common.Which.{Which}
+use Rattle.cec_words.specs.declared.common.Which.TheVariants.{First, Second}
 
 -- The text describes a circuit whose outputs have names, and this is so of the circuit.
 pub record TextAnswered (text : List ℕ) (Says : Device → Type 0) : Type 0 where

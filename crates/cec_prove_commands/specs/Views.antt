@@ -10,7 +10,7 @@ use Rattle.cec_prove_commands.specs.declared.words.Task as tasks
 use Rattle.cec_prove_commands.specs.declared.words.Task.TheVariants as doing
 use Rattle.cec_prove_commands.specs.declared.outcome.ProveOutcome.{ProveOutcome}
 use Rattle.cec_prove_commands.specs.declared.outcome.ProveOutcome.TheVariants.{BadInput}
-use Rattle.cec_prove_commands.specs.declared.outcome.Which.TheVariants.{Second}
+use Rattle.cec_words.specs.declared.common.Which.TheVariants.{Second}
 use Rattle.cec_prove_commands.specs.Lines.{Subject}
 use Rattle.cec_prove_commands.specs.Words.{Command, Asks, Surveys, Covers, Compares, Job, Request, Tell, Do, Task, Ask}
 use Rattle.cec_prove_commands.specs.Words.{Survey, Cover, Compare, AskText, SurveyText, CompareTexts}

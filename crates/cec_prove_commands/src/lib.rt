@@ -17,5 +17,6 @@ mod texts;
 mod words;
 mod writing;
 
+pub use cec_words::Which;
 pub use command::cec_prove;
-pub use outcome::{InputFault, ProveOutcome, Which};
+pub use outcome::{InputFault, ProveOutcome};

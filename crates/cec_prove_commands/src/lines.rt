@@ -10,12 +10,12 @@ ghost use Rattle.cec_prove_commands.specs.Lines.{progress_line, refused_of, stuc
 ghost use Rattle.cec_words.specs.CommonWords.{misuse_is};
 ghost use Rattle.cec_prove_commands.specs.Views.{subject_is};
 
-use crate::outcome::{InputFault, ProveOutcome, Which};
+use crate::outcome::{InputFault, ProveOutcome};
 use base_types::{Limits, Sink, SinkFault, write_pieces};
 use blif_read::BlifFault;
 use cec_cycles::Stuck;
 use cec_refusals::{RefusedSource, put_blif_fault, put_refusal};
-use cec_words::Misuse;
+use cec_words::{Misuse, Which};
 use itoa::Buffer;
 
 /// What a line speaks of: the names of the files, the signals, the main module, and the source.

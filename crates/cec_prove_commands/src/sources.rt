@@ -11,7 +11,6 @@ ghost use Rattle.cec_prove_commands.specs.Views.{job_is, task_is};
 ghost use Rattle.cec_prove_commands.specs.Words.{Ask, Compare, Cover, Survey as OfSignals, is_of_texts};
 
 use crate::answers::Answer;
-use crate::outcome::Which;
 use crate::texts::{text_claim_answer, text_comparison_answer, text_survey_answer};
 use crate::words::{Job, Task};
 use base_types::Limits;
@@ -21,6 +20,7 @@ use cec_prove_cycles::{
     CyclePairRefusal, constructive_comparison_of, constructive_survey_of, constructive_verdict_of,
 };
 use cec_prove_sources::{Claim, Comparison, Question, Survey, Verdict};
+use cec_words::Which;
 use grc_order::First;
 use std::alloc::Global;
 

@@ -3,10 +3,11 @@
 ghost use Rattle.base_types.specs.SinkChanges.{change};
 ghost use Rattle.cec_prove_commands.specs.Stopping.{IsRefusedOutcome};
 
-use crate::outcome::{InputFault, ProveOutcome, Which, refusal_outcome, written_outcome};
+use crate::outcome::{InputFault, ProveOutcome, refusal_outcome, written_outcome};
 use base_types::Sink;
 use cec_cycles::CycleRefusal;
 use cec_text_io::write_whole;
+use cec_words::Which;
 
 /// The outcome of a source that is refused. Of one that is not constructive the trace is written.
 pub(crate) fn refused<O: Sink>(which: Which, refusal: CycleRefusal, out: &mut O) -> ProveOutcome

@@ -13,12 +13,12 @@ ghost use Rattle.cec_prove_commands.specs.Views.{job_is};
 ghost use Rattle.cec_prove_commands.specs.Words.{AskText, CompareTexts, SurveyText};
 
 use crate::answers::Answer;
-use crate::outcome::Which;
 use crate::words::Job;
 use base_types::{Limits, Stop};
 use blif_read::BlifFault;
 use cec_prove_sources::{Claim, Comparison, Question, Survey, Verdict};
 use cec_prove_texts::{PairFault, text_comparison_of, text_survey_of, text_verdict_of};
+use cec_words::Which;
 use std::alloc::Global;
 
 /// The answer to a claim about a text.

@@ -16,7 +16,7 @@ use Rattle.cec_compile.specs.Refusals.{KeepsGraphLimits}
 use Rattle.cec_prove_sources.specs.Verdicts.{IsNone}
 use Rattle.cec_prove_covers.specs.declared.coverings.Covering.{Covering}
 use Rattle.cec_prove_covers.specs.declared.coverings.Covering.TheVariants.{Whole, Partly, NoAssumed}
-use Rattle.cec_prove_covers.specs.declared.nets.CoveredNet.{CoveredNet}
+use Rattle.cec_compile.specs.declared.made.Made.{Made}
 use Rattle.cec_prove_covers.specs.Coverings.{AreReaches}
 use Rattle.cec_prove_covers.specs.Lines.{Reach, covering_text, is_decided}
 
@@ -47,7 +47,7 @@ pub record IsAnalysedCover (flat : Flat) (analysed : Analysed) : Type 0 where
   pub codes : AreCodesOf analysed.codes (term_of analysed.program.body)
 
 -- a netlist keeps what the program of a covered one means
-pub record IsCoveredNet (flat : Flat) (net : CoveredNet) : Type 0 where
+pub record IsCoveredNet (flat : Flat) (net : Made) : Type 0 where
   pub program : IsCoveredProgram flat (program_of net.program)
   pub keeps : NetKeeps (netlist_of net.net) (program_of net.program)
 

@@ -9,9 +9,8 @@ ghost use Rattle.est_kernel.specs.WellFormed.{HasNames, IsWellFormed};
 ghost use Rattle.cec_compile.specs.Graphs.{IsBuilt};
 ghost use Rattle.cec_prove_covers.specs.Stages.{IsCoveredNet, IsCoveredProgram};
 
-use crate::nets::CoveredNet;
 use base_types::NoMemory;
-use cec_compile::{Refusal, built_graph};
+use cec_compile::{Made, Refusal, built_graph};
 use cec_cycles::{Constructiveness, constructiveness_of};
 use est_front::Analysed;
 use grc_graph::Graph;
@@ -22,7 +21,7 @@ pub(crate) fn constructive_net(
     alloc: Global,
     analysed: Analysed,
     effort: u64,
-) -> Result<Option<CoveredNet>, NoMemory>
+) -> Result<Option<Made>, NoMemory>
     requires formed { IsWellFormed (program_of analysed.program) }
     requires names { HasNames (program_of analysed.program) }
     requires no_loop { NoInstantLoop (term_of analysed.program.body) }
@@ -38,7 +37,7 @@ pub(crate) fn constructive_net(
 }
 
 // A program with a netlist, by its graph.
-fn graph_net(alloc: Global, graph: Graph, effort: u64) -> Result<Option<CoveredNet>, NoMemory>
+fn graph_net(alloc: Global, graph: Graph, effort: u64) -> Result<Option<Made>, NoMemory>
     requires { IsBuilt graph (program_of graph.program) }
     ensures { (flat : PlainFlat) → IsCoveredProgram flat (program_of graph.program)
         → IfOk result (λ o. IfSome o (IsCoveredNet flat)) }
@@ -46,7 +45,7 @@ fn graph_net(alloc: Global, graph: Graph, effort: u64) -> Result<Option<CoveredN
     match constructiveness_of(alloc, &graph, effort) {
         Ok(Constructiveness::Constructive(net)) => {
             let Graph { program, .. } = graph;
-            Ok(Some(CoveredNet { program, net }))
+            Ok(Some(Made { program, net }))
         }
         Ok(_) => Ok(None),
         Err(NoMemory) => Err(NoMemory),

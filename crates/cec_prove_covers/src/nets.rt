@@ -17,7 +17,7 @@ ghost use Rattle.cec_prove_covers.specs.Stages.{IsAnalysedCover, IsCoveredNet, I
 
 use crate::cycles::constructive_net;
 use base_types::{Limits, NoMemory, SignalInfo, Stop};
-use cec_compile::{Compiled, Refusal, compile_program};
+use cec_compile::{Compiled, Made, Refusal, compile_program};
 use est_ast::Flat;
 use est_codes::{CodeFault, codes};
 use est_cover::{cover_program, is_named};
@@ -26,16 +26,8 @@ use est_front::Analysed;
 use est_kernel::KernelProgram;
 use grc_graph::Graph;
 use grc_order::Picker;
-use net_ir::Net;
 use net_opt::optimize;
 use std::alloc::Global;
-
-/// A program, and an optimized netlist that keeps what it means.
-#[derive(Drop)]
-pub(crate) struct CoveredNet {
-    pub(crate) program: KernelProgram,
-    pub(crate) net: Net,
-}
 
 /// The program of a flat program with new outgoing signals of these names for the points from this one on, and its
 /// netlist. None where that program passes a limit, or where its dependencies have a cycle and it was not shown within
@@ -47,7 +39,7 @@ pub(crate) fn covered_net<P: Picker>(
     names: &[SignalInfo],
     picker: &mut P,
     effort: u64,
-) -> Result<Option<CoveredNet>, NoMemory>
+) -> Result<Option<Made>, NoMemory>
     requires flat { IsFlat (flat_of flat.now) }
     requires room { length flat.now.signals.items + length names.now ≤ 4096 }
     requires new { AreNew (take (visible_count (flat_of flat.now)) (flat_of flat.now).signals)
@@ -71,7 +63,7 @@ fn acyclic_net<P: Picker>(
     first: usize,
     names: &[SignalInfo],
     picker: &mut P,
-) -> Result<Option<CoveredNet>, NoMemory>
+) -> Result<Option<Made>, NoMemory>
     requires flat { IsFlat (flat_of flat.now) }
     requires named { IsNamed (flat_of flat.now) }
     requires room { length flat.now.signals.items + length names.now ≤ 4096 }
@@ -93,7 +85,7 @@ fn cyclic_net(
     first: usize,
     names: &[SignalInfo],
     effort: u64,
-) -> Result<Option<CoveredNet>, NoMemory>
+) -> Result<Option<Made>, NoMemory>
     requires flat { IsFlat (flat_of flat.now) }
     requires named { IsNamed (flat_of flat.now) }
     requires room { length flat.now.signals.items + length names.now ≤ 4096 }
@@ -186,7 +178,7 @@ fn compiled_net<P: Picker>(
     alloc: Global,
     analysed: Analysed,
     picker: &mut P,
-) -> Result<Option<CoveredNet>, NoMemory>
+) -> Result<Option<Made>, NoMemory>
     requires formed { IsWellFormed (program_of analysed.program) }
     requires names { HasNames (program_of analysed.program) }
     requires no_loop { NoInstantLoop (term_of analysed.program.body) }
@@ -202,22 +194,22 @@ fn compiled_net<P: Picker>(
 }
 
 // A compiled program with its optimized netlist.
-fn optimized(alloc: Global, compiled: Compiled) -> Result<CoveredNet, NoMemory>
+fn optimized(alloc: Global, compiled: Compiled) -> Result<Made, NoMemory>
     ensures { (flat : PlainFlat) (p : PlainProgram) → IsCompiled compiled p → IsCoveredProgram flat p
         → IfOk result (IsCoveredNet flat) }
 {
     let given = program_and_net(compiled);
     let net = optimize(alloc, &given.net)?;
-    let CoveredNet { program, .. } = given;
-    Ok(CoveredNet { program, net })
+    let Made { program, .. } = given;
+    Ok(Made { program, net })
 }
 
 // The program of a compiled program and its netlist, as it was compiled.
-fn program_and_net(compiled: Compiled) -> CoveredNet
+fn program_and_net(compiled: Compiled) -> Made
     ensures program { result.program ≡ compiled.graph.program }
     ensures net { result.net ≡ compiled.net }
 {
     let Compiled { graph, net, .. } = compiled;
     let Graph { program, .. } = graph;
-    CoveredNet { program, net }
+    Made { program, net }
 }

@@ -11,9 +11,10 @@ ghost use Rattle.cec_prove_covers.specs.Portions.{HasLines, IsAsked};
 ghost use Rattle.cec_prove_covers.specs.Stages.{IsCoveredNet};
 
 use crate::lines::{is_decided, push_point};
-use crate::nets::{CoveredNet, covered_net};
+use crate::nets::covered_net;
 use crate::reaching::signal_reach;
 use base_types::{NoMemory, SignalInfo};
+use cec_compile::Made;
 use cec_prove_sources::Finding;
 use est_ast::Flat;
 use est_cover::{Point, new_names, program_points};
@@ -137,7 +138,7 @@ fn push_unknown(
 fn push_reaches(
     alloc: Global,
     asked: &Asked<'_>,
-    net: &CoveredNet,
+    net: &Made,
     first: usize,
     end: usize,
     lines: &mut Lines,
@@ -194,7 +195,7 @@ fn both(left: bool, right: bool) -> bool
 fn point_reach(
     alloc: Global,
     asked: &Asked<'_>,
-    net: &CoveredNet,
+    net: &Made,
     first: usize,
     number: usize,
 ) -> Result<Finding, NoMemory>

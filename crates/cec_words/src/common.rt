@@ -12,6 +12,15 @@ pub enum About {
     Version,
 }
 
+/// The place of a file among the files of a command.
+#[derive(Clone, Copy)]
+pub enum Which {
+    /// The only file, or the first one.
+    First,
+    /// The second file: a trace, or the other one of a comparison.
+    Second,
+}
+
 /// What is wrong with words that have no meaning: the fault, and after it the word that has it.
 #[derive(Clone, Copy)]
 pub struct Misuse<'a> {

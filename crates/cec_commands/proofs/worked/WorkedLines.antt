@@ -5,7 +5,7 @@ use Rattle.cec_compile.specs.declared.refusal.Limit.TheVariants as limits
 use Rattle.cec_compile.specs.declared.refusal.Refusal.TheVariants as refusals
 use Rattle.cec_commands.specs.declared.outcome.Outcome.{Outcome}
 use Rattle.cec_commands.specs.declared.outcome.Outcome.TheVariants.{Done, Usage, FileFault, Trace, Limit, WriteFault, NoMemory}
-use Rattle.cec_commands.specs.declared.outcome.Which.TheVariants.{First, Second}
+use Rattle.cec_words.specs.declared.common.Which.TheVariants.{First, Second}
 use Rattle.cec_commands.specs.Lines.{Subject, line_of}
 use Rattle.cec_commands.specs.Statuses.{status_of, outcome_of, written_outcome}
 use Rattle.cec_text_io.specs.declared.writing.Written.TheVariants as ends

@@ -9,7 +9,7 @@ use Rattle.cec_compile.specs.declared.refusal.Limit.TheVariants as limits
 use Rattle.cec_commands.specs.declared.jobs.Task.TheVariants.{Text, Grc, Check}
 use Rattle.cec_commands.specs.declared.outcome.Outcome.{Outcome}
 use Rattle.cec_commands.specs.declared.outcome.Outcome.TheVariants.{Done, Usage, FileFault, Trace, Limit, WriteFault, NoMemory}
-use Rattle.cec_commands.specs.declared.outcome.Which.TheVariants.{First, Second}
+use Rattle.cec_words.specs.declared.common.Which.TheVariants.{First, Second}
 use Rattle.cec_commands.specs.Jobs.{Job, Help, Make, Run, RunTri, Exec, Generate, Load, c_form, form_by, request_asked, request_by, word_at}
 use Rattle.cec_commands.specs.Outcomes.{IsOutcomeOf, AgreesOnFile, AgreesOnTwo, CountsFiles, ExecutesIn}
 use Rattle.cec_commands.specs.Outcomes.{IsFileOf, IsLongTrace, IsWriting, MakesOn, RunsOn, written_of}

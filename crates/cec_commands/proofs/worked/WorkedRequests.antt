@@ -54,7 +54,7 @@ use Rattle.cec_commands.specs.Runs.{ShowsRun, RunsVia, RunsSource, LeavesRun, li
 use Rattle.cec_commands.specs.TriRuns.{IsGraphSource, ReactsOn, event_count, ReactsOver, StopsTrace, StopsOver, LeavesReactions}
 use Rattle.cec_commands.specs.declared.jobs.Task.TheVariants.{Text, Grc, Check}
 use Rattle.cec_commands.specs.declared.outcome.Outcome.TheVariants.{Done, Usage, FileFault, Static, Trace, Limit, NotConstructive, WriteFault, NoMemory}
-use Rattle.cec_commands.specs.declared.outcome.Which.TheVariants.{First, Second}
+use Rattle.cec_words.specs.declared.common.Which.TheVariants.{First, Second}
 use Rattle.cec_commands.specs.declared.text_faults.TextFault.{TextFault}
 use Rattle.cec_commands.specs.declared.text_faults.TextFault.TheVariants as told
 use Rattle.cec_commands.specs.declared.unknown_wires.UnknownWires.{UnknownWires}

@@ -13,10 +13,10 @@ ghost use Rattle.cec_commands.specs.Subjects.{CountsTrace, LongTrace};
 use crate::commands::texts::do_in_form;
 use crate::jobs::{TextTask, form_by};
 use crate::lines::{Subject, report};
-use crate::outcome::{Outcome, Which, unread};
+use crate::outcome::{Outcome, unread};
 use base_types::{Files, Limits, Sink};
 use cec_compile::Limit;
-use cec_words::Via;
+use cec_words::{Via, Which};
 use std::alloc::Global;
 
 /// Runs the text in a file over the trace in another, and says how it ended.

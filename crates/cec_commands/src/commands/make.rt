@@ -14,10 +14,11 @@ use crate::answers::{counts, listing};
 use crate::commands::texts::do_in_form;
 use crate::jobs::{Job, Task, TextTask};
 use crate::lines::{report, subject_of};
-use crate::outcome::{Outcome, Which, unread};
+use crate::outcome::{Outcome, unread};
 use crate::writing::write_whole;
 use base_types::{Files, Limits, Sink};
 use cec_compile::Limit;
+use cec_words::Which;
 use std::alloc::Global;
 
 /// Does a task on the source in a file, and says how it ended.

@@ -10,9 +10,10 @@ ghost use Rattle.cec_commands.specs.Outcomes.{IsOutcomeOf, CountsFiles, GainsOut
 use crate::commands::texts::do_in_form;
 use crate::jobs::{Job, TextTask};
 use crate::lines::{report, subject_of};
-use crate::outcome::{Outcome, Which, unread};
+use crate::outcome::{Outcome, unread};
 use base_types::{Files, Limits, Sink};
 use cec_compile::{Limit, TextForm};
+use cec_words::Which;
 use std::alloc::Global;
 
 /// Runs the source in a file over the trace in another, and says how it ended.

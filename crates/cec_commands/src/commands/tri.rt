@@ -19,11 +19,12 @@ ghost use Rattle.cec_commands.specs.TriRuns.{LeavesReactions, ReactsOn, ReactsOv
 
 use crate::jobs::Job;
 use crate::lines::{report, subject_of};
-use crate::outcome::{Outcome, Which, run_outcome, unread};
+use crate::outcome::{Outcome, run_outcome, unread};
 use crate::reactions::{ReactionFault, run_reactions};
 use crate::unknown_wires::unknown_wires;
 use base_types::{Files, InputRelation, Limits, NoMemory, SignalInfo, Sink, Text, copy_relations};
 use cec_compile::{Limit, graph_of};
+use cec_words::Which;
 use est_kernel::KernelProgram;
 use grc_graph::Graph;
 use grc_ternary_run::TriRunner;

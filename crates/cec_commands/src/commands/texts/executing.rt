@@ -9,10 +9,11 @@ ghost use Rattle.cec_commands.specs.Runs.{LeavesRun};
 ghost use Rattle.cec_commands.specs.Subjects.{CountsTrace, LongTrace};
 ghost use Rattle.cec_commands.specs.Targets.{language_of};
 
-use crate::outcome::{Outcome, Which, run_outcome, unread};
+use crate::outcome::{Outcome, run_outcome, unread};
 use crate::targets::Target;
 use base_types::{Files, Limits, Sink, Stop};
 use cec_compile::{Limit, TextForm};
+use cec_words::Which;
 use std::alloc::Global;
 
 /// Runs a text of a form over the trace in a file, in a language.

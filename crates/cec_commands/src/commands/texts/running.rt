@@ -18,11 +18,11 @@ ghost use Rattle.cec_commands.specs.Runs.{LeavesRun, RunsSource};
 ghost use Rattle.cec_commands.specs.Subjects.{CountsTrace, LongTrace};
 
 use crate::jobs::Job;
-use crate::outcome::{Outcome, Which, run_outcome, unread};
+use crate::outcome::{Outcome, run_outcome, unread};
 use crate::targets::Target;
 use base_types::{Draw, Files, InputRelation, Limits, NoMemory, Sink};
 use cec_compile::{Limit, Made, Refusal, TextForm};
-use cec_words::Pick;
+use cec_words::{Pick, Which};
 use est_kernel::KernelProgram;
 use grc_order::{Drawn, First, Last};
 use run_over_traces::{RunFault, net_interface};

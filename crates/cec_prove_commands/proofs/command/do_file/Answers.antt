@@ -9,7 +9,7 @@ use Rattle.cec_prove_commands.specs.Outcomes.{GainsOut, IsOutcomeOf, IsTextOf}
 use Rattle.cec_prove_commands.specs.Statuses.{unread_outcome}
 use Rattle.cec_prove_commands.specs.Views.{job_is}
 use Rattle.cec_prove_commands.specs.Words.{Do}
-use Rattle.cec_prove_commands.specs.declared.outcome.Which.TheVariants.{First}
+use Rattle.cec_words.specs.declared.common.Which.TheVariants.{First}
 use Rattle.cec_prove_commands.proofs.Outcomes.{counts-later, held_short, unread_agrees, unread_counts, unread_err, unread_out}
 use Rattle.cec_prove_commands.proofs.command.do_file.Goals as goal
 

@@ -6,7 +6,7 @@ use Rattle.cec_text_io.proofs.Exports.{held_read}
 use Rattle.cec_prove_commands.specs.Outcomes.{IsTextOf}
 use Rattle.cec_prove_commands.specs.Statuses.{unread_outcome}
 use Rattle.cec_prove_commands.specs.Views.{job_is}
-use Rattle.cec_prove_commands.specs.declared.outcome.Which.TheVariants.{Second}
+use Rattle.cec_words.specs.declared.common.Which.TheVariants.{Second}
 use Rattle.cec_prove_commands.proofs.Outcomes.{both_held, read_counts, second_agrees, second_counts, texts_agree, unread_err, unread_out}
 use Rattle.cec_prove_commands.proofs.Outcomes.{held_short, texts_err, texts_out, texts_read}
 use Rattle.cec_prove_commands.proofs.command.do_second.Goals as goal

@@ -14,7 +14,7 @@ use Rattle.cec_text_io.proofs.Exports.{held_read}
 use Rattle.cec_compile.proofs.Exports.{made_source, made_keeps}
 use Rattle.cec_commands.proofs.TextSizes.{long_text, made_relations_few}
 use Rattle.cec_commands.proofs.RunLines.{given_wide, runs_via}
-use Rattle.cec_commands.specs.declared.outcome.Which.TheVariants.{Second}
+use Rattle.cec_words.specs.declared.common.Which.TheVariants.{Second}
 use Rattle.cec_compile.specs.declared.refusal.Limit.TheVariants as limits
 use Rattle.cec_commands.proofs.TwoFiles.{run_left, run_ran, run_trace_unread, count_trace_unread, leaves_unread, long_trace_unread, refused_runs}
 use Rattle.cec_commands.proofs.commands.texts.running.run_in.Goals as goal
