@@ -1,11 +1,13 @@
 // The line about an outcome.
 
-ghost use Rattle.std.specs.Prelude.{◌≡◌, ◌≤◌, ◌⊎◌, length};
+ghost use Rattle.std.specs.Prelude.{◌≡◌, ◌≤◌, ◌⊎◌, [], length, unwrap_or};
 ghost use Rattle.base_types.specs.Writing.{Appends, Stops, Wrote};
+ghost use Rattle.cec_commands.specs.JobViews.{plain_job};
 ghost use Rattle.cec_commands.specs.Lines.{file_name, limit_word, line_of};
 ghost use Rattle.cec_commands.specs.Subjects.{plain_subject};
 
 use crate::fault_lines::{put_text_fault, put_trace_fault, put_unknown};
+use crate::jobs::Job;
 use crate::outcome::{Outcome, Which};
 use base_types::{Limits, Sink, SinkFault, write_pieces};
 use cec_compile::Limit;
@@ -29,6 +31,21 @@ pub(crate) fn subject_of_none() -> Subject<'static>
         trace: "",
         main: b"",
         source: b"",
+    }
+}
+
+/// What a line about a command on a source, and maybe a trace, may speak of.
+pub(crate) fn subject_of<'a>(job: Job<'a>, trace: &'a str, source: &'a [u8]) -> Subject<'a>
+    ensures name { (plain_subject result).name ≡ (plain_job job.entry).name }
+    ensures trace { (plain_subject result).trace ≡ trace.now }
+    ensures main { (plain_subject result).main ≡ unwrap_or (plain_job job.entry).main [] }
+    ensures source { (plain_subject result).source ≡ source.now }
+{
+    Subject {
+        name: job.name,
+        trace,
+        main: job.main.unwrap_or(b""),
+        source,
     }
 }
 

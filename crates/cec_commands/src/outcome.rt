@@ -2,12 +2,15 @@
 
 ghost use Rattle.std.specs.Prelude.{◌≡◌};
 ghost use Rattle.cec_commands.specs.Statuses.{outcome_of, status_of, written_outcome};
+ghost use Rattle.cec_commands.specs.Subjects.{run_outcome, unread_outcome};
 
 use crate::text_faults::TextFault;
 use crate::unknown_wires::UnknownWires;
+use base_types::FileFault;
 use cec_compile::{Cycle, Limit, Refusal};
 use cec_text_io::Written;
 use est_front::Fault;
+use run_over_traces::RunFault;
 use run_trace_io::TraceFault;
 
 /// How a command ended, with the cause of each refusal.
@@ -90,5 +93,28 @@ impl Outcome {
             Outcome::NoMemory => 10,
             Outcome::NotConstructive(_) => 12,
         }
+    }
+}
+
+/// The outcome where a file was not read.
+pub(crate) fn unread(file: Which, limit: Limit, fault: FileFault) -> Outcome
+    ensures { result ≡ unread_outcome file limit fault }
+{
+    match fault {
+        FileFault::Failed => Outcome::FileFault(file),
+        FileFault::TooLong => Outcome::Limit(limit),
+        FileFault::NoMemory => Outcome::NoMemory,
+    }
+}
+
+/// The outcome of a run over a trace.
+pub(crate) fn run_outcome(ended: Result<(), RunFault>) -> Outcome
+    ensures { result ≡ run_outcome ended }
+{
+    match ended {
+        Ok(()) => Outcome::Done,
+        Err(RunFault::Trace(fault)) => Outcome::Trace(fault),
+        Err(RunFault::Write) => Outcome::WriteFault,
+        Err(RunFault::NoMemory) => Outcome::NoMemory,
     }
 }

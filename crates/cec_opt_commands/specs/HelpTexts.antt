@@ -1,8 +1,8 @@
 -- To believe: the list of the commands, and the version.
 use Rattle.std.specs.Prelude.{ℕ, List, [], ◌∷◌, codes}
 use Rattle.std.specs.List.{concat}
-use Rattle.cec_opt_commands.specs.declared.words.About.{About}
-use Rattle.cec_opt_commands.specs.declared.words.About.TheVariants.{Commands, Version}
+use Rattle.cec_words.specs.declared.common.About.{About}
+use Rattle.cec_words.specs.declared.common.About.TheVariants.{Commands, Version}
 
 abbrev pub help_text : List ℕ
 help_text =

@@ -1,4 +1,3 @@
-pub mod GivenNames
 pub mod Layouts
 pub mod Relations
 pub mod Resets

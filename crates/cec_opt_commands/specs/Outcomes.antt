@@ -1,5 +1,5 @@
 -- To believe: what each outcome of the top call says.
-use Rattle.std.specs.Prelude.{◌≡◌, ◌⊎◌, ℕ, ◌<◌, ◌≤◌, ⊤, List, [], length, Option, Result, Ok, Err}
+use Rattle.std.specs.Prelude.{◌≡◌, ◌⊎◌, ℕ, ◌<◌, ◌≤◌, ⊤, List, [], length, Option, Result, Ok, Err, Some}
 use Rattle.base_types.specs.declared.bounds.TheConstants.Limits.{TEXT_BYTES}
 use Rattle.base_types.specs.Items.{Item}
 use Rattle.base_types.specs.Reading.{KeepsFaults, Notes}

@@ -7,7 +7,7 @@ use Rattle.vlog_reset.specs.declared.options.Manner.{Manner}
 use Rattle.cec_opt_sources.specs.declared.light.Coding.{Coding}
 use Rattle.cec_opt_sources.specs.declared.light.Coding.TheVariants.{Lighter, Encoded}
 use Rattle.cec_opt_texts.specs.Related.{result_then}
-use Rattle.cec_opt_commands.specs.GivenNames.{is_plain}
+use Rattle.cec_words.specs.CommonWords.{is_plain}
 
 -- what the words have said so far
 pub record Wanted : Type 0 where

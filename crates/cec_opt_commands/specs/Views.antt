@@ -1,10 +1,9 @@
--- Inner: the plain form of what is asked for, of what is wrong with words, and of what a line speaks of.
-use Rattle.std.specs.Prelude.{ℕ, List, ◌++◌, map, option_map}
+-- Inner: the plain form of what is asked for, and of what a line speaks of.
+use Rattle.std.specs.Prelude.{map, option_map}
 use Rattle.std.specs.String.{string_bytes}
 use Rattle.vlog_reset.specs.Views as reset_views
 use Rattle.cec_opt_commands.specs.declared.lines.Subject as subjects
 use Rattle.cec_opt_commands.specs.declared.resets.Wanted as wanted
-use Rattle.cec_opt_commands.specs.declared.words.Misuse as misuses
 use Rattle.cec_opt_commands.specs.declared.words.Options as options
 use Rattle.cec_opt_commands.specs.declared.words.Request as requests
 use Rattle.cec_opt_commands.specs.declared.words.Request.TheVariants as asks
@@ -37,9 +36,6 @@ abbrev pub plain_request : requests.Request → Request
 plain_request (asks.Tell about) = Tell about
 plain_request (asks.Do task given name) = Do (plain_task task) (given_by (map string_bytes given.now)) name.now
 plain_request (asks.Make task name main) = Make (plain_task task) name.now (option_map (λ s. s.now) main)
-
-abbrev pub misuse_is : misuses.Misuse → List ℕ
-misuse_is misuse = misuse.fault.now ++ misuse.word.now
 
 abbrev pub subject_is : subjects.Subject → Subject
 subject_is s = record { name = s.name.now; main = s.main.now; source = s.source.now }

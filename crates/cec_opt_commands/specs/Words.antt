@@ -7,12 +7,11 @@ use Rattle.vlog_reset.specs.Options.{ModuleOptions}
 use Rattle.cec_opt_sources.specs.declared.light.Coding.{Coding}
 use Rattle.cec_opt_sources.specs.declared.light.Coding.TheVariants.{Lighter}
 use Rattle.cec_opt_texts.specs.Related.{GivenRelation, result_then}
-pub use Rattle.cec_opt_commands.specs.GivenNames.{is_plain}
+use Rattle.cec_words.specs.CommonWords.{about_of, is_plain}
+use Rattle.cec_words.specs.declared.common.About.{About}
 use Rattle.cec_opt_commands.specs.Layouts.{layout_of, no_layout, one_layout}
 use Rattle.cec_opt_commands.specs.Relations.{given_by, is_relation, rest_by}
 use Rattle.cec_opt_commands.specs.Resets.{Wanted, coding_of, plain_reset, wanted_by}
-use Rattle.cec_opt_commands.specs.declared.words.About.{About}
-use Rattle.cec_opt_commands.specs.declared.words.About.TheVariants.{Commands, Version}
 use Rattle.cec_opt_commands.specs.declared.words.Form.{Form}
 use Rattle.cec_opt_commands.specs.declared.words.Form.TheVariants as forms
 
@@ -43,13 +42,6 @@ task_of word =
     else if is_same_name word (codes "blif") then Some (Write forms.Blif)
     else if is_same_name word (codes "c") then Some (Write forms.C)
     else if is_same_name word (codes "check") then Some Check
-    else None
-
--- what a word asks about the program
-abbrev pub about_of : List ℕ → Option About
-about_of word =
-    if is_same_name word (codes "--help") then Some Commands
-    else if is_same_name word (codes "--version") then Some Version
     else None
 
 -- the command of a task

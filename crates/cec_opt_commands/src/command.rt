@@ -17,9 +17,10 @@ use crate::lines::{Subject, named, put_waiting, report, report_after, report_mis
 use crate::outcome::{OptOutcome, source_unread_outcome};
 use crate::sources::do_source_task;
 use crate::texts::do_task;
-use crate::words::{About, Request, Task, request_by};
+use crate::words::{Request, Task, request_by};
 use base_types::{Files, Limits, Sink};
 use cec_text_io::write_whole;
+use cec_words::About;
 use std::alloc::Global;
 
 const HELP: &[u8] =

@@ -5,9 +5,9 @@ ghost use Rattle.std.specs.Result.{result_map_both};
 ghost use Rattle.std.specs.String.{string_bytes};
 ghost use Rattle.cec_opt_commands.specs.Layouts.{file_of, is_layout, is_packed, layout_of, no_layout, one_layout};
 ghost use Rattle.cec_opt_commands.specs.Layouts.{with_file, with_layout, with_packed};
-ghost use Rattle.cec_opt_commands.specs.Views.{misuse_is};
+ghost use Rattle.cec_words.specs.CommonWords.{misuse_is};
 
-use crate::words::{Misuse, faulty};
+use cec_words::{Misuse, faulty};
 use csub_embed::{EmbedFile, EmbedLayout};
 
 /// What the words for the layout have said so far.

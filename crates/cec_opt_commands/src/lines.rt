@@ -6,13 +6,14 @@ ghost use Rattle.cec_text_io.specs.ErrorLines.{GainsLine};
 ghost use Rattle.cec_refusals.specs.Views.{refused_is};
 ghost use Rattle.cec_opt_commands.specs.Lines.{component_fault_text, line_of, named};
 ghost use Rattle.cec_opt_commands.specs.Lines.{reset_fault_text, own_line, refused_of, stuck_text, told_first};
-ghost use Rattle.cec_opt_commands.specs.Views.{misuse_is, subject_is};
+ghost use Rattle.cec_words.specs.CommonWords.{misuse_is};
+ghost use Rattle.cec_opt_commands.specs.Views.{subject_is};
 
 use crate::outcome::OptOutcome;
-use crate::words::Misuse;
 use base_types::{Limits, Sink, SinkFault, write_pieces};
 use cec_cycles::Stuck;
 use cec_refusals::{RefusedSource, put_blif_fault, put_refusal};
+use cec_words::Misuse;
 use csub_embed::EmbedFault;
 use itoa::Buffer;
 use vlog_reset::ResetFault;

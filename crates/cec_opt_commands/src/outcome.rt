@@ -6,7 +6,7 @@ ghost use Rattle.cec_opt_commands.specs.Statuses.{stop_outcome, unmade_outcome, 
 ghost use Rattle.cec_opt_commands.specs.declared.outcome.OptOutcome.TheVariants.{BadComponent, BadModule};
 
 use base_types::{FileFault, Stop};
-use blif_read::{BlifFault, BlifFault};
+use blif_read::BlifFault;
 use cec_compile::{Cycle, Limit, Refusal};
 use cec_cycles::Stuck;
 use cec_opt_faults::Unmade;

@@ -24,10 +24,11 @@ ghost use Rattle.cec_opt_commands.specs.Resets.{
   with_value,
   with_word,
 };
-ghost use Rattle.cec_opt_commands.specs.Views.{misuse_is, wanted_is};
+ghost use Rattle.cec_words.specs.CommonWords.{misuse_is};
+ghost use Rattle.cec_opt_commands.specs.Views.{wanted_is};
 
-use crate::words::{Misuse, faulty, is_plain};
 use cec_opt_sources::Coding;
+use cec_words::{Misuse, faulty, is_plain};
 use vlog_reset::{Manner, ResetOptions};
 
 /// What the words have said so far.

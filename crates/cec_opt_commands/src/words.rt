@@ -8,14 +8,12 @@ ghost use Rattle.cec_opt_commands.specs.Relations.{given_by};
 ghost use Rattle.cec_opt_commands.specs.Resets.{plain_reset};
 ghost use Rattle.cec_opt_commands.specs.Words.{
   about_asked,
-  about_of,
   command_of,
   embed_asked,
   file_wanted,
   first_asked,
   given_request,
   is_embed,
-  is_plain,
   is_reset,
   laid_asked,
   no_file,
@@ -36,12 +34,14 @@ ghost use Rattle.cec_opt_commands.specs.Words.{
   with_option,
   with_source,
 };
-ghost use Rattle.cec_opt_commands.specs.Views.{misuse_is, options_are, plain_request, plain_task, wanted_is};
+ghost use Rattle.cec_words.specs.CommonWords.{about_of, is_plain, misuse_is};
+ghost use Rattle.cec_opt_commands.specs.Views.{options_are, plain_request, plain_task, wanted_is};
 
 use crate::layouts::{layout_of, no_layout, one_layout};
 use crate::relations::{first_relation, is_relation, rest_by};
 use crate::resets::{Wanted, coding_of, plain_reset, wanted_by};
 use cec_opt_sources::Coding;
+use cec_words::{About, Misuse, about_of, faulty, is_plain};
 use csub_embed::EmbedLayout;
 use vlog_reset::ResetOptions;
 
@@ -70,15 +70,6 @@ pub(crate) enum Task<'a> {
     Check,
 }
 
-/// What the program can write about itself.
-#[derive(Clone, Copy, Debug, PartialEq, Eq)]
-pub(crate) enum About {
-    /// The list of the commands.
-    Commands,
-    /// The name and the version of the program.
-    Version,
-}
-
 /// What is asked for.
 #[derive(Clone, Copy)]
 pub(crate) enum Request<'a> {
@@ -97,15 +88,6 @@ pub(crate) struct Options<'a> {
     main: Option<&'a [u8]>,
 }
 
-/// What is wrong with words that have no meaning: the fault, and after it the word that has it.
-#[derive(Clone, Copy)]
-pub(crate) struct Misuse<'a> {
-    /// What is wrong.
-    pub(crate) fault: &'a [u8],
-    /// The word, empty where there is none.
-    pub(crate) word: &'a [u8],
-}
-
 /// What the words ask for, or what is wrong with them. It takes no memory.
 pub(crate) fn request_by(words: &[String]) -> Result<Request<'_>, Misuse<'_>>
     ensures { result_map_both plain_request misuse_is result ≡ request_by (map string_bytes words.now) }
@@ -114,13 +96,6 @@ pub(crate) fn request_by(words: &[String]) -> Result<Request<'_>, Misuse<'_>>
         None => Err(faulty(b"no command", b"")),
         Some((word, rest)) => first_asked(word.as_bytes(), rest),
     }
-}
-
-/// A fault and its word.
-pub(crate) fn faulty<'a>(fault: &'a [u8], word: &'a [u8]) -> Misuse<'a>
-    ensures { misuse_is result ≡ fault.now ++ word.now }
-{
-    Misuse { fault, word }
 }
 
 // What a first word and the words after it ask for.
@@ -376,19 +351,6 @@ fn one_option<'a>(
     }
 }
 
-// What a word asks about the program.
-fn about_of(word: &[u8]) -> Option<About>
-    ensures { result ≡ about_of word.now }
-{
-    if word == b"--help".as_slice() {
-        Some(About::Commands)
-    } else if word == b"--version".as_slice() {
-        Some(About::Version)
-    } else {
-        None
-    }
-}
-
 // Before any option.
 fn no_options<'a>() -> Options<'a>
     ensures { options_are result ≡ no_options }
@@ -441,16 +403,6 @@ fn takes_value(word: &[u8]) -> bool
     ensures { result ≡ takes_value word.now }
 {
     word == b"--source".as_slice() || word == b"--main".as_slice() || is_relation(word)
-}
-
-/// Whether a word is a file or a name: it is not empty and does not begin with `-`.
-pub(crate) fn is_plain(word: &[u8]) -> bool
-    ensures { result ≡ is_plain word.now }
-{
-    match word.first() {
-        Some(byte) => *byte != b'-',
-        None => false,
-    }
 }
 
 // The task of a command.

@@ -4,7 +4,6 @@ use Rattle.cec_prove_commands.specs.declared.lines.Subject as subjects
 use Rattle.cec_prove_commands.specs.declared.words.Command as commands
 use Rattle.cec_prove_commands.specs.declared.words.Command.TheVariants as commanded
 use Rattle.cec_prove_commands.specs.declared.words.Job as jobs
-use Rattle.cec_prove_commands.specs.declared.words.Misuse as misuses
 use Rattle.cec_prove_commands.specs.declared.words.Request as requests
 use Rattle.cec_prove_commands.specs.declared.words.Request.TheVariants as asks
 use Rattle.cec_prove_commands.specs.declared.words.Task as tasks
@@ -43,9 +42,6 @@ job_is job = record {
 abbrev pub request_is : requests.Request → Request
 request_is (asks.Tell about) = Tell about
 request_is (asks.Do job) = Do (job_is job)
-
-abbrev pub misuse_is : misuses.Misuse → List ℕ
-misuse_is misuse = misuse.fault.now ++ misuse.word.now
 
 abbrev pub subject_is : subjects.Subject → Subject
 subject_is s = record {

@@ -4,8 +4,8 @@ use Rattle.std.specs.Prelude.{codes, Option, Some, None, Result, Ok, Err, nat_le
 use Rattle.base_types.specs.Names.{is_same_name}
 use Rattle.cec_prove_sources.specs.declared.questions.Claim.{Claim}
 use Rattle.cec_prove_sources.specs.declared.questions.Claim.TheVariants.{Never, Always}
-use Rattle.cec_prove_commands.specs.declared.words.About.{About}
-use Rattle.cec_prove_commands.specs.declared.words.About.TheVariants.{Commands, Version}
+use Rattle.cec_words.specs.CommonWords.{about_of, is_plain}
+use Rattle.cec_words.specs.declared.common.About.{About}
 
 -- a command
 pub data Command : Type 0 where
@@ -50,11 +50,6 @@ pub data Request : Type 0 where
   -- a task
   Do : (job : Job) → Request
 
--- a name: not empty, and its first byte is not `-`
-abbrev pub is_plain : List ℕ → Bool
-is_plain [] = false
-is_plain (c ∷ cs) = not (c == 45)
-
 abbrev pub command_of : List ℕ → Option Command
 command_of word =
     if is_same_name word (codes "never") then Some (Asks Never)
@@ -62,13 +57,6 @@ command_of word =
     else if is_same_name word (codes "all") then Some Surveys
     else if is_same_name word (codes "cover") then Some Covers
     else if is_same_name word (codes "same") then Some Compares
-    else None
-
--- what a word asks about the program
-abbrev pub about_of : List ℕ → Option About
-about_of word =
-    if is_same_name word (codes "--help") then Some Commands
-    else if is_same_name word (codes "--version") then Some Version
     else None
 
 -- ---- options, each at most once

@@ -4,6 +4,7 @@ ghost use Rattle.std.specs.Prelude.{◌≡◌};
 ghost use Rattle.cec_prove_commands.specs.Answers.{is_open};
 
 use crate::outcome::Which;
+use blif_read::BlifFault;
 use cec_cycles::CycleRefusal;
 use cec_prove_covers::Covering;
 use cec_prove_sources::{Comparison, Survey, Verdict};

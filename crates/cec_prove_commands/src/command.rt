@@ -18,10 +18,11 @@ ghost use Rattle.cec_prove_commands.specs.Words.{is_comparison, is_of_texts, req
 use crate::lines::{Subject, report, report_after, report_misuse};
 use crate::outcome::{ProveOutcome, Which, unread_outcome, written_outcome};
 use crate::search::{Searched, patient_answer};
-use crate::words::{About, Job, Request, Task, is_comparison, is_of_texts, request_by};
+use crate::words::{Job, Request, Task, is_comparison, is_of_texts, request_by};
 use crate::writing::answer_outcome;
 use base_types::{Files, Limits, Sink};
 use cec_text_io::write_whole;
+use cec_words::About;
 use std::alloc::Global;
 
 const HELP: &[u8] = b"cec-prove never SIGNAL FILE    whether SIGNAL is never present

@@ -7,13 +7,15 @@ ghost use Rattle.cec_refusals.specs.BlifFaults.{blif_fault_text};
 ghost use Rattle.cec_refusals.specs.Views.{refused_is};
 ghost use Rattle.cec_prove_commands.specs.Lines.{fault_line, input_line, line_begin, line_of, misuse_line, own_line};
 ghost use Rattle.cec_prove_commands.specs.Lines.{progress_line, refused_of, stuck_text, which_of};
-ghost use Rattle.cec_prove_commands.specs.Views.{misuse_is, subject_is};
+ghost use Rattle.cec_words.specs.CommonWords.{misuse_is};
+ghost use Rattle.cec_prove_commands.specs.Views.{subject_is};
 
 use crate::outcome::{InputFault, ProveOutcome, Which};
-use crate::words::Misuse;
 use base_types::{Limits, Sink, SinkFault, write_pieces};
+use blif_read::BlifFault;
 use cec_cycles::Stuck;
 use cec_refusals::{RefusedSource, put_blif_fault, put_refusal};
+use cec_words::Misuse;
 use itoa::Buffer;
 
 /// What a line speaks of: the names of the files, the signals, the main module, and the source.

@@ -3,10 +3,10 @@
 ghost use Rattle.std.specs.Prelude.{◌≡◌, ◌++◌, map, option_map, None};
 ghost use Rattle.std.specs.Result.{result_map_both};
 ghost use Rattle.std.specs.String.{string_bytes};
-ghost use Rattle.cec_prove_commands.specs.Views.{command_is, job_is, misuse_is, request_is, task_is};
+ghost use Rattle.cec_words.specs.CommonWords.{about_of, is_plain, misuse_is};
+ghost use Rattle.cec_prove_commands.specs.Views.{command_is, job_is, request_is, task_is};
 ghost use Rattle.cec_prove_commands.specs.Words.{
   about_asked,
-  about_of,
   bad_option,
   claim_asked,
   command_asked,
@@ -17,7 +17,6 @@ ghost use Rattle.cec_prove_commands.specs.Words.{
   is_comparison,
   is_flag,
   is_of_texts,
-  is_plain,
   job_asked,
   last_option,
   level_of,
@@ -34,15 +33,7 @@ ghost use Rattle.cec_prove_commands.specs.Words.{
 };
 
 use cec_prove_sources::Claim;
-
-/// What the program can write about itself.
-#[derive(Clone, Copy)]
-pub(crate) enum About {
-    /// The list of the commands.
-    Commands,
-    /// The name and the version of the program.
-    Version,
-}
+use cec_words::{About, Misuse, about_of, faulty, is_plain};
 
 /// A command.
 #[derive(Clone, Copy)]
@@ -99,15 +90,6 @@ pub(crate) enum Request<'a> {
     Do(Job<'a>),
 }
 
-/// What is wrong with words that have no meaning: the fault, and after it the word that has it.
-#[derive(Clone, Copy)]
-pub(crate) struct Misuse<'a> {
-    /// What is wrong.
-    pub(crate) fault: &'a [u8],
-    /// The word, empty where there is none.
-    pub(crate) word: &'a [u8],
-}
-
 /// What the words ask for, or what is wrong with them. It takes no memory.
 pub(crate) fn request_by(words: &[String]) -> Result<Request<'_>, Misuse<'_>>
     ensures { result_map_both request_is misuse_is result ≡ request_by (map string_bytes words.now) }
@@ -116,13 +98,6 @@ pub(crate) fn request_by(words: &[String]) -> Result<Request<'_>, Misuse<'_>>
         None => Err(faulty(b"no command", b"")),
         Some((word, rest)) => first_asked(word.as_bytes(), rest),
     }
-}
-
-// A fault and its word.
-fn faulty<'a>(fault: &'a [u8], word: &'a [u8]) -> Misuse<'a>
-    ensures { misuse_is result ≡ fault.now ++ word.now }
-{
-    Misuse { fault, word }
 }
 
 // What a first word and the words after it ask for.
@@ -240,19 +215,6 @@ fn plain_job<'a>(task: Task<'a>, name: &'a str) -> Job<'a>
     }
 }
 
-// What a word asks about the program.
-fn about_of(word: &[u8]) -> Option<About>
-    ensures { result ≡ about_of word.now }
-{
-    if word == b"--help".as_slice() {
-        Some(About::Commands)
-    } else if word == b"--version".as_slice() {
-        Some(About::Version)
-    } else {
-        None
-    }
-}
-
 // The command that a word is.
 fn command_of(word: &[u8]) -> Option<Command>
     ensures { option_map command_is result ≡ command_of word.now }
@@ -269,16 +231,6 @@ fn command_of(word: &[u8]) -> Option<Command>
         Some(Command::Compares)
     } else {
         None
-    }
-}
-
-// Whether a word is a name: it is not empty and does not begin with `-`.
-fn is_plain(word: &[u8]) -> bool
-    ensures { result ≡ is_plain word.now }
-{
-    match word.first() {
-        Some(byte) => *byte != b'-',
-        None => false,
     }
 }
 

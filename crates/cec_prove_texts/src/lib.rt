@@ -1,7 +1,7 @@
 //! Properties of BLIF texts: from the bytes of a text to the answer that an output is never, or always, true, to a
 //! survey of all outputs, and to the answer that two texts do the same.
 //!
-//! `cec_opt_texts` makes a netlist of a text's circuit, and `cec_prove_sources` answers about that netlist, whose inputs
+//! `cec_opt_texts` makes a netlist of a text's circuit, and `cec_prove_sources` answers about that netlist. Its inputs
 //! have no relations. A circuit shows what its netlist shows, and so the answer is one about the text.
 #![tactic(auto)]
 

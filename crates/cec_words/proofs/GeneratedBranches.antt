@@ -17,7 +17,8 @@ use Rattle.cec_words.specs.OptionNames as settings
 use Rattle.cec_words.specs.OptionNames.{Setting}
 use Rattle.cec_words.specs.Parts as parts
 use Rattle.cec_words.specs.Parts.{Spelling, Bare, Valued, Part, WordStep, Waits, Ends, Way, Text, Tri}
-use Rattle.cec_words.specs.Commands.{command_of, options, is_plain, way_of, pick_of, named, number_within, part_of, spelled_step, step_of}
+use Rattle.cec_words.specs.CommonWords.{is_plain}
+use Rattle.cec_words.specs.Commands.{command_of, options, way_of, pick_of, named, number_within, part_of, spelled_step, step_of}
 use Rattle.cec_words.specs.Numbers.{number, is_empty}
 use Rattle.cec_words.specs.Readings.{Gathered, with_part, after_step, gathered, head, each_once, source, run_asked, exec_asked, on_one, on_two, asked}
 use Rattle.cec_words.specs.Readings.{asked_once, asked_behind, asked_by}

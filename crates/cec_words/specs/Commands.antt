@@ -4,6 +4,7 @@ use Rattle.std.specs.Prelude.{drop, slice_index, codes, if◌then◌else◌, Opt
 use Rattle.std.specs.Prelude.{option_and_then}
 use Rattle.base_types.specs.Names.{is_same_name}
 use Rattle.base_types.specs.declared.bounds.TheConstants.Limits.{BRANCHES, LOAD_INSTANTS}
+use Rattle.cec_words.specs.CommonWords.{is_plain}
 use Rattle.cec_words.specs.declared.asked.Via.TheVariants as vias
 use Rattle.cec_words.specs.declared.asked.Pick.{Pick}
 use Rattle.cec_words.specs.declared.asked.Pick.TheVariants.{First, Last, Drawn}
@@ -38,11 +39,6 @@ options commands.Check = settings.Main ∷ []
 options commands.Run = settings.Via ∷ settings.Main ∷ settings.Pick ∷ settings.Encode ∷ []
 options commands.Exec = settings.Via ∷ []
 options commands.Gen = settings.Start ∷ settings.Branches ∷ settings.Run ∷ []
-
--- a file, or a value in a word of its own: not empty, and its first byte is not `-`
-abbrev pub is_plain : List ℕ → Bool
-is_plain [] = false
-is_plain (c ∷ cs) = not (c == 45)
 
 -- how a word spells an option: as its name alone, or as its name, a `=` and a value that is not empty
 abbrev pub spelling_of : Setting → List ℕ → Option Spelling

@@ -1,3 +1,4 @@
+pub mod CommonWords
 pub mod Numbers
 pub mod CommandNames
 pub mod OptionNames

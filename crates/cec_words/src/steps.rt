@@ -2,7 +2,7 @@
 
 ghost use Rattle.std.specs.Prelude.{◌≡◌, codes, map, option_map, IfSome};
 ghost use Rattle.base_types.specs.Names.{is_same_name};
-ghost use Rattle.cec_words.specs.Commands.{command_of, options, spelling_of, named, is_plain, way_of};
+ghost use Rattle.cec_words.specs.Commands.{command_of, options, spelling_of, named, way_of};
 ghost use Rattle.cec_words.specs.Commands.{pick_of, part_of, step_of};
 ghost use Rattle.cec_words.specs.OptionNames.{option_name};
 ghost use Rattle.cec_words.specs.Spellings.{IsWithin};
@@ -10,6 +10,7 @@ ghost use Rattle.cec_words.specs.Views.{plain_command, plain_setting, plain_spel
 ghost use Rattle.cec_words.specs.Views.{plain_step};
 
 use crate::asked::{Pick, Value, Via};
+use crate::common::is_plain;
 use crate::numbers::number;
 use base_types::Limits;
 
@@ -116,16 +117,6 @@ pub fn step_of(command: Command, waiting: Option<Setting>, at: usize, word: &[u8
             let part = part_of(setting, Value { word: at, start }, &word[start..])?;
             Some(Step::Ends(part))
         }
-    }
-}
-
-// Whether a word is a file or a value: it is not empty and does not begin with `-`.
-fn is_plain(word: &[u8]) -> bool
-    ensures { result ≡ is_plain word.now }
-{
-    match word.first() {
-        Some(byte) => *byte != b'-',
-        None => false,
     }
 }
 

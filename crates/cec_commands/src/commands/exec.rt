@@ -8,19 +8,15 @@ ghost use Rattle.cec_commands.specs.Jobs.{Exec};
 ghost use Rattle.cec_commands.specs.Lines.{GainsErr};
 ghost use Rattle.cec_commands.specs.Outcomes.{IsOutcomeOf, CountsFiles, ExecutesOn, GainsOut};
 ghost use Rattle.cec_commands.specs.Runs.{LeavesRun};
-ghost use Rattle.cec_commands.specs.Subjects.{CountsTrace, LongTrace, run_outcome};
-ghost use Rattle.cec_commands.specs.Targets.{language_of};
+ghost use Rattle.cec_commands.specs.Subjects.{CountsTrace, LongTrace};
 
-use crate::commands::make::unread;
 use crate::commands::texts::do_in_form;
 use crate::jobs::{TextTask, form_by};
 use crate::lines::{Subject, report};
-use crate::outcome::{Outcome, Which};
-use crate::targets::Target;
-use base_types::{Files, Limits, Sink, Stop};
-use cec_compile::{Limit, TextForm};
+use crate::outcome::{Outcome, Which, unread};
+use base_types::{Files, Limits, Sink};
+use cec_compile::Limit;
 use cec_words::Via;
-use run_over_traces::RunFault;
 use std::alloc::Global;
 
 /// Runs the text in a file over the trace in another, and says how it ended.
@@ -102,47 +98,4 @@ fn exec_bytes<F: Files, O: Sink>(
         files,
         out,
     )
-}
-
-/// Runs a text of a form over the trace in a file, in a language.
-pub(crate) fn exec_in<T: Target, F: Files, O: Sink>(
-    alloc: Global,
-    form: TextForm,
-    text: &[u8],
-    trace: &str,
-    files: &mut F,
-    out: &mut O,
-) -> Outcome
-    requires fits { length text.now ≤ Limits.TEXT_BYTES }
-    requires form { T.serves form }
-    ensures agrees { ExecutesOn (language_of form) result text.now }
-    ensures long_trace { LongTrace (F.content files.old) trace.now result }
-    ensures files_counted { CountsTrace trace.now result
-        (F.faults files.old) (F.faults files.new) (F.last_failed files.old) (F.last_failed files.new) }
-    ensures files_stay { F.content files.new ≡ F.content files.old }
-    ensures out { LeavesRun (λ ended. Holds (F.content files.old) trace.now
-        (λ items. RunsBy (language_of form) text.now items (change O.told O.faults out.old out.new) ended))
-        (change O.told O.faults out.old out.new) result }
-{
-    let machine = match T::read(alloc, form, text) {
-        Ok(machine) => machine,
-        Err(Stop::Fault(fault)) => return Outcome::BadText(fault),
-        Err(Stop::NoMemory) => return Outcome::NoMemory,
-    };
-    match files.read(alloc, trace, Limits::TRACE_BYTES) {
-        Ok(trace) => run_outcome(T::run_read::<O>(alloc, form, machine, trace, out)),
-        Err(fault) => unread(Which::Second, Limit::Trace, fault),
-    }
-}
-
-/// The outcome of a run over a trace.
-pub(crate) fn run_outcome(ended: Result<(), RunFault>) -> Outcome
-    ensures { result ≡ run_outcome ended }
-{
-    match ended {
-        Ok(()) => Outcome::Done,
-        Err(RunFault::Trace(fault)) => Outcome::Trace(fault),
-        Err(RunFault::Write) => Outcome::WriteFault,
-        Err(RunFault::NoMemory) => Outcome::NoMemory,
-    }
 }

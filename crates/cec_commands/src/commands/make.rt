@@ -1,28 +1,23 @@
 // The commands that make a text of a source.
 
-ghost use Rattle.std.specs.Prelude.{◌≡◌, ◌≤◌, length, Some, option_map, unwrap_or, []};
+ghost use Rattle.std.specs.Prelude.{◌≡◌, ◌≤◌, length, Some};
 ghost use Rattle.base_types.specs.Reading.{KeepsFaults};
 ghost use Rattle.base_types.specs.SinkChanges.{change};
 ghost use Rattle.cec_commands.specs.Answers.{IsAnswer};
 ghost use Rattle.cec_commands.specs.Jobs.{Make};
 ghost use Rattle.cec_commands.specs.JobViews.{plain_job};
 ghost use Rattle.cec_commands.specs.Lines.{GainsErr};
-ghost use Rattle.cec_compile.specs.SourceTexts.{IsSourceText};
 ghost use Rattle.cec_commands.specs.Outcomes.{IsOutcomeOf, CountsFiles, GainsOut, LeavesAnswer};
-ghost use Rattle.cec_commands.specs.Outcomes.{OutcomeLeavesPieces, MakesOn};
-ghost use Rattle.cec_commands.specs.Subjects.{plain_subject, unread_outcome};
+ghost use Rattle.cec_commands.specs.Outcomes.{MakesOn};
 
 use crate::answers::{counts, listing};
 use crate::commands::texts::do_in_form;
 use crate::jobs::{Job, Task, TextTask};
-use crate::lines::{Subject, report};
-use crate::outcome::{Outcome, Which};
-use crate::targets::Target;
+use crate::lines::{report, subject_of};
+use crate::outcome::{Outcome, Which, unread};
 use crate::writing::write_whole;
-use base_types::{Draw, FileFault, Files, Limits, Sink};
-use cec_compile::{Limit, TextForm};
-use cec_words::Pick;
-use grc_order::{Drawn, First, Last, Picker};
+use base_types::{Files, Limits, Sink};
+use cec_compile::Limit;
 use std::alloc::Global;
 
 /// Does a task on the source in a file, and says how it ended.
@@ -57,32 +52,6 @@ pub(crate) fn make_text<F: Files, O: Sink, E: Sink>(
     }
 }
 
-/// What a line about a command on a source, and maybe a trace, may speak of.
-pub(crate) fn subject_of<'a>(job: Job<'a>, trace: &'a str, source: &'a [u8]) -> Subject<'a>
-    ensures name { (plain_subject result).name ≡ (plain_job job.entry).name }
-    ensures trace { (plain_subject result).trace ≡ trace.now }
-    ensures main { (plain_subject result).main ≡ unwrap_or (plain_job job.entry).main [] }
-    ensures source { (plain_subject result).source ≡ source.now }
-{
-    Subject {
-        name: job.name,
-        trace,
-        main: job.main.unwrap_or(b""),
-        source,
-    }
-}
-
-/// The outcome where a file was not read.
-pub(crate) fn unread(file: Which, limit: Limit, fault: FileFault) -> Outcome
-    ensures { result ≡ unread_outcome file limit fault }
-{
-    match fault {
-        FileFault::Failed => Outcome::FileFault(file),
-        FileFault::TooLong => Outcome::Limit(limit),
-        FileFault::NoMemory => Outcome::NoMemory,
-    }
-}
-
 // Does a task on a source, writes what it makes to `out`, and says how it ended. It reads no file.
 fn do_task<F: Files, O: Sink>(
     alloc: Global,
@@ -111,50 +80,5 @@ fn do_task<F: Files, O: Sink>(
             Ok(text) => write_whole(&text, out),
             Err(refusal) => Outcome::from(refusal),
         },
-    }
-}
-
-/// Writes the text of a source of a form, in a language, piece by piece.
-pub(crate) fn write_in<T: Target, O: Sink>(
-    alloc: Global,
-    form: TextForm,
-    job: Job<'_>,
-    source: &[u8],
-    out: &mut O,
-) -> Outcome
-    requires short { length source.now ≤ Limits.SOURCE_BYTES }
-    requires form { T.serves form }
-    ensures agrees { MakesOn (plain_job job.entry).main result source.now }
-    ensures out { OutcomeLeavesPieces (IsSourceText form (plain_job job.entry).main source.now)
-        (change O.told O.faults out.old out.new) result }
-{
-    match job.pick {
-        Pick::First => write_picked::<T, First, O>(alloc, form, source, job.main, &mut First, out),
-        Pick::Last => write_picked::<T, Last, O>(alloc, form, source, job.main, &mut Last, out),
-        Pick::Drawn(start) => {
-            let mut drawn = Drawn(Draw::new(start));
-            write_picked::<T, Drawn, O>(alloc, form, source, job.main, &mut drawn, out)
-        }
-    }
-}
-
-// Writes the text of a source of a form, in a language, along the order that a picker makes, and says how that ended.
-fn write_picked<T: Target, P: Picker, O: Sink>(
-    alloc: Global,
-    form: TextForm,
-    source: &[u8],
-    main: Option<&[u8]>,
-    picker: &mut P,
-    out: &mut O,
-) -> Outcome
-    requires short { length source.now ≤ Limits.SOURCE_BYTES }
-    requires form { T.serves form }
-    ensures agrees { MakesOn (option_map (λ m. m.now) main.entry) result source.now }
-    ensures out { OutcomeLeavesPieces (IsSourceText form (option_map (λ m. m.now) main.entry) source.now)
-        (change O.told O.faults out.old out.new) result }
-{
-    match T::write::<P, O>(alloc, form, source, main, picker, out) {
-        Ok(ended) => Outcome::from(ended),
-        Err(refusal) => Outcome::from(refusal),
     }
 }

@@ -4,9 +4,13 @@ ghost use Rattle.std.specs.Prelude.{◌≡◌};
 ghost use Rattle.base_types.specs.SinkChanges.{change};
 ghost use Rattle.cec_commands.specs.TextTasks.{CountsTask, FitsTask, LeavesTask, LongTaskTrace, SaysOfTask};
 
-use crate::commands::exec::exec_in;
-use crate::commands::make::write_in;
-use crate::commands::run::run_in;
+mod executing;
+mod running;
+mod writing;
+
+use crate::commands::texts::executing::exec_in;
+use crate::commands::texts::running::run_in;
+use crate::commands::texts::writing::write_in;
 use crate::jobs::TextTask;
 use crate::outcome::Outcome;
 use crate::targets::{GuardedTarget, NetTarget, Target};

@@ -17,11 +17,9 @@ ghost use Rattle.cec_commands.specs.ReactionEnds.{LeavesTrace};
 ghost use Rattle.cec_commands.specs.Subjects.{CountsTrace, LongTrace};
 ghost use Rattle.cec_commands.specs.TriRuns.{LeavesReactions, ReactsOn, ReactsOver, StopsOver};
 
-use crate::commands::exec::run_outcome;
-use crate::commands::make::{subject_of, unread};
 use crate::jobs::Job;
-use crate::lines::report;
-use crate::outcome::{Outcome, Which};
+use crate::lines::{report, subject_of};
+use crate::outcome::{Outcome, Which, run_outcome, unread};
 use crate::reactions::{ReactionFault, run_reactions};
 use crate::unknown_wires::unknown_wires;
 use base_types::{Files, InputRelation, Limits, NoMemory, SignalInfo, Sink, Text, copy_relations};

@@ -16,7 +16,7 @@ use Rattle.cec_opt_commands.specs.Lines.{line_of, named, source_subject}
 use Rattle.cec_opt_commands.specs.Statuses.{refusal_outcome, source_unread_outcome, status_of, written_of, written_outcome}
 use Rattle.cec_opt_commands.specs.Words.{Do, Make, Tell, Write, Embed, Check, request_by}
 use Rattle.cec_opt_commands.specs.declared.words.Form.TheVariants as forms
-use Rattle.cec_opt_commands.specs.declared.words.About.TheVariants.{Commands, Version}
+use Rattle.cec_words.specs.declared.common.About.TheVariants.{Commands, Version}
 use Rattle.cec_opt_commands.specs.declared.outcome.OptOutcome.TheVariants.{Done, Usage, FileFault, BadText, TooLong, Refused, WriteFault}
 use Rattle.cec_opt_commands.specs.declared.outcome.OptOutcome.TheVariants.{BadComponent, NoMemory}
 use Rattle.cec_text_io.specs.declared.writing.Written.TheVariants as ends

@@ -10,5 +10,5 @@ returns-in-Err g c = stops-early _ _ _ _ (line_begin (subject_is c.args.subject)
 
 pub returns : goal.returns
 returns g c =
-    wrote-behind _ _ _ _ _ _ (line_begin (subject_is c.args.subject) c.args.which) (blif_fault_text c.args.fault.now ++ codes "\n") c.put_fault.result
+    wrote-behind _ _ _ _ _ _ (line_begin (subject_is c.args.subject) c.args.which) (blif_fault_text c.args.fault.now ++ codes "\n") c.put_blif_fault.result
     c.in_default.ensures c.put_blif_fault.ensures

@@ -5,7 +5,7 @@ use Rattle.cec_text_io.proofs.Exports.{held_read}
 use Rattle.cec_commands.specs.ExecTexts.{RunsBy}
 use Rattle.cec_commands.specs.Targets.{language_of}
 use Rattle.cec_commands.proofs.TwoFiles.{leaves_ran, long_trace_unread}
-use Rattle.cec_commands.proofs.commands.exec.exec_in.Goals as goal
+use Rattle.cec_commands.proofs.commands.texts.executing.exec_in.Goals as goal
 
 pub returns-in-Ok-read-clause-out : goal.returns-in-Ok-read-clause-out
 returns-in-Ok-read-clause-out g c =

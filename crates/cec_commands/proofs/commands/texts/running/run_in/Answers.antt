@@ -17,7 +17,7 @@ use Rattle.cec_commands.proofs.RunLines.{given_wide, runs_via}
 use Rattle.cec_commands.specs.declared.outcome.Which.TheVariants.{Second}
 use Rattle.cec_compile.specs.declared.refusal.Limit.TheVariants as limits
 use Rattle.cec_commands.proofs.TwoFiles.{run_left, run_ran, run_trace_unread, count_trace_unread, leaves_unread, long_trace_unread, refused_runs}
-use Rattle.cec_commands.proofs.commands.run.run_in.Goals as goal
+use Rattle.cec_commands.proofs.commands.texts.running.run_in.Goals as goal
 
 pub returns-then-len-gt-TEXT_BYTES-clause-agrees : goal.returns-then-len-gt-TEXT_BYTES-clause-agrees
 returns-then-len-gt-TEXT_BYTES-clause-agrees g c =
@@ -26,15 +26,15 @@ returns-then-len-gt-TEXT_BYTES-clause-agrees g c =
     long_text c.args.form c.args.source.now (plain_job c.args.job).main made.0 made.1.items c.requires.short c.in-Ok.ensures.made c.in-Ok.ensures.text
     c.in-Ok.ensures.guarded long
 
-pub run_made-requires-clause-few : goal.run_made-requires-clause-few
-run_made-requires-clause-few g c =
+pub run_by_names-requires-clause-few : goal.run_by_names-requires-clause-few
+run_by_names-requires-clause-few g c =
     made_relations_few c.args.form c.args.source.now (plain_job c.args.job).main c.in-Ok.made.0 c.requires.short c.in-Ok.ensures.made
 
 pub returns-in-Ok-read-clause-agrees : goal.returns-in-Ok-read-clause-agrees
 returns-in-Ok-read-clause-agrees g c =
     let job = plain_job c.args.job in
     rw c.run_outcome.ensures
-    (run_ran c.args.form job c.args.source.now c.run_made.result
+    (run_ran c.args.form job c.args.source.now c.run_by_names.result
     (made_source c.args.form c.args.source.now job.main c.in-Ok.made.0 c.requires.short c.in-Ok.ensures.made))
 
 pub returns-in-Ok-read-clause-out : goal.returns-in-Ok-read-clause-out
@@ -45,9 +45,9 @@ returns-in-Ok-read-clause-out g c =
     let m = c.in-Ok.ensures.made in
     let s = m.source in
     let p = s.program in
-    let came = change g.O.Sink.told g.O.Sink.faults c.args.out.now c.run_made.new.out in
+    let came = change g.O.Sink.told g.O.Sink.faults c.args.out.now c.run_by_names.new.out in
     rw c.run_outcome.ensures
-    (run_left content c.args.trace.now c.args.form main c.args.source.now came c.run_made.result c.in-Ok-read.items.items
+    (run_left content c.args.trace.now c.args.form main c.args.source.now came c.run_by_names.result c.in-Ok-read.items.items
     (held_read content c.args.trace.now TRACE_BYTES c.in-Ok-read.items c.in-Ok-read.ensures.bytes)
     (record {
       program = p;
@@ -56,10 +56,10 @@ returns-in-Ok-read-clause-out g c =
       compiles = s.compiled.compiles;
       ran = runs_via c.args.form main c.args.source.now c.in-Ok.made.1.items (netlist_of made.net) p (given_wide p s.compiled.formed)
           (made_keeps c.args.form c.args.source.now main made m) c.in-Ok-read.items.items (map relation_of made.program.relations.items) came
-          c.run_made.result (ap (λ (q : Program). q.relations) m.program) c.in-Ok.ensures.guarded
+          c.run_by_names.result (ap (λ (q : Program). q.relations) m.program) c.in-Ok.ensures.guarded
           (subst (λ text. RunsText c.args.form text (output_names (netlist_of made.net)) (netlist_of made.net)
-          (beginning c.in-Ok-read.items.items (netlist_of made.net).inputs (map relation_of made.program.relations.items)) came c.run_made.result)
-          c.deref.ensures.value c.run_made.ensures);
+          (beginning c.in-Ok-read.items.items (netlist_of made.net).inputs (map relation_of made.program.relations.items)) came c.run_by_names.result)
+          c.deref.ensures.value c.run_by_names.ensures);
     }))
 
 pub returns-in-Err-read-clause-long_trace : goal.returns-in-Err-read-clause-long_trace

@@ -2,7 +2,7 @@ use Rattle.std.specs.Prelude.{option_map}
 use Rattle.base_types.specs.SinkChanges.{change}
 use Rattle.cec_compile.specs.SourceTexts.{IsSourceText}
 use Rattle.cec_commands.proofs.Pieces.{refused_pieces, writing_makes, written_pieces, written_writes}
-use Rattle.cec_commands.proofs.commands.make.write_picked.Goals as goal
+use Rattle.cec_commands.proofs.commands.texts.writing.write_picked.Goals as goal
 
 pub returns-in-Ok-clause-agrees : goal.returns-in-Ok-clause-agrees
 returns-in-Ok-clause-agrees g c =

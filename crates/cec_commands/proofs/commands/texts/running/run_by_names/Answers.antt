@@ -4,7 +4,7 @@ use Rattle.net_ir.specs.Netlists.{output_names}
 use Rattle.net_ir.specs.Runs.{netlist_of}
 use Rattle.run_trace_io.specs.Answers.{beginning}
 use Rattle.cec_commands.proofs.RunLines.{runs_nothing}
-use Rattle.cec_commands.proofs.commands.run.run_made.Goals as goal
+use Rattle.cec_commands.proofs.commands.texts.running.run_by_names.Goals as goal
 
 pub returns-in-Err : goal.returns-in-Err
 returns-in-Err g c =
