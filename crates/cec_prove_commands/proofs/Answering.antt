@@ -9,16 +9,20 @@ use Rattle.cec_text_io.specs.declared.writing.Written.TheVariants as ends
 use Rattle.cec_prove_covers.specs.Coverings.{HasCovering, SaysCovering}
 use Rattle.cec_prove_covers.specs.declared.coverings.Covering.{Covering}
 use Rattle.cec_prove_cycles.specs.Answers.{HasConstructiveComparison, HasConstructiveSurvey, HasConstructiveVerdict}
+use Rattle.cec_prove_sources.specs.DeviceSameness.{IsDeviceComparison}
+use Rattle.cec_prove_sources.specs.DeviceSurveys.{IsDeviceSurvey}
+use Rattle.cec_prove_sources.specs.DeviceVerdicts.{IsDeviceVerdict}
+use Rattle.cec_prove_sources.specs.Devices.{Device}
 use Rattle.cec_prove_sources.specs.Sameness.{IsComparison}
 use Rattle.cec_prove_sources.specs.Surveys.{IsSurvey}
 use Rattle.cec_prove_sources.specs.Verdicts.{IsVerdict, PlainQuestion}
 use Rattle.cec_prove_sources.specs.declared.questions.Comparison.{Comparison}
 use Rattle.cec_prove_sources.specs.declared.questions.Survey.{Survey}
 use Rattle.cec_prove_sources.specs.declared.questions.Verdict.{Verdict}
-use Rattle.cec_prove_texts.specs.Devices.{Device, circuit_device}
-use Rattle.cec_prove_texts.specs.Sameness.{HasTextComparison, IsDeviceComparison}
-use Rattle.cec_prove_texts.specs.Surveys.{HasTextSurvey, IsDeviceSurvey}
-use Rattle.cec_prove_texts.specs.Verdicts.{HasTextVerdict, IsDeviceVerdict}
+use Rattle.cec_prove_texts.specs.Devices.{circuit_device}
+use Rattle.cec_prove_texts.specs.Sameness.{HasTextComparison}
+use Rattle.cec_prove_texts.specs.Surveys.{HasTextSurvey}
+use Rattle.cec_prove_texts.specs.Verdicts.{HasTextVerdict}
 use Rattle.blif_read.specs.declared.fault.BlifFault.{BlifFault}
 use Rattle.cec_prove_commands.specs.Answers.{IsAnswer, IsWrittenBy, SaysOfTexts}
 use Rattle.cec_prove_commands.specs.Outcomes.{Answered, ClaimSays, Compared, ComparisonSays, CoveringSays, IsClaimTraceBy, IsCoveringBy, IsCoveringOf}

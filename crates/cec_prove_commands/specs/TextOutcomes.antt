@@ -4,13 +4,15 @@ use Rattle.base_types.specs.declared.bounds.TheConstants.Limits.{TEXT_BYTES}
 use Rattle.blif_text.specs.Circuits.{Circuit}
 use Rattle.net_ir.specs.NameLists.{is_among}
 use Rattle.cec_opt_texts.specs.Faults.{IsOptFault}
+use Rattle.cec_prove_sources.specs.DeviceSameness.{AreDifferentDevices, AreSameDevices, SharesNames}
+use Rattle.cec_prove_sources.specs.DeviceSurveys.{IsDeviceSurveyText}
+use Rattle.cec_prove_sources.specs.DeviceVerdicts.{AnswersDeviceBroken, AnswersDeviceHolds, DeviceHasSignals}
+use Rattle.cec_prove_sources.specs.DeviceVerdicts.{IsNoOutput}
+use Rattle.cec_prove_sources.specs.Devices.{Device}
 use Rattle.cec_prove_sources.specs.Verdicts.{PlainQuestion}
 use Rattle.cec_prove_sources.specs.declared.questions.Layout.TheVariants.{LinePerInstant}
-use Rattle.cec_prove_texts.specs.Devices.{DescribesNamed, Device, circuit_device}
+use Rattle.cec_prove_texts.specs.Devices.{DescribesNamed, circuit_device}
 use Rattle.cec_prove_texts.specs.Faults.{IsPairFault}
-use Rattle.cec_prove_texts.specs.Sameness.{AreDifferentDevices, AreSameDevices, SharesNames}
-use Rattle.cec_prove_texts.specs.Surveys.{IsDeviceSurveyText}
-use Rattle.cec_prove_texts.specs.Verdicts.{AnswersDeviceBroken, AnswersDeviceHolds, DeviceHasSignals, IsNoOutput}
 use Rattle.cec_prove_texts.specs.declared.fault.PairFault.TheVariants as pairs
 use Rattle.cec_prove_commands.specs.declared.outcome.InputFault.{InputFault}
 use Rattle.cec_prove_commands.specs.declared.outcome.InputFault.TheVariants.{BadText, TooLong}

@@ -1,5 +1,5 @@
 -- Traces that are read, with relations and without them.
-use Rattle.std.proofs.Common.{◌≡◌, ℕ, ◌+◌, Bool, List, [], ◌∷◌, None, sym, subst}
+use Rattle.std.proofs.Common.{ℕ, ◌+◌, Bool, List, [], ◌∷◌, None, subst}
 use Rattle.base_types.specs.Items.{Item, Event, Reset, EachEvent}
 use Rattle.base_types.specs.Relations.{Relation, MeetsAll}
 use Rattle.run_trace_io.specs.Answers.{IsTrace, beginning}

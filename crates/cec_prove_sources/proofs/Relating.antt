@@ -1,13 +1,12 @@
 -- Where an event meets relations, the values of an instant with these inputs meet their clauses.
-use Rattle.std.proofs.Common.{◌≡◌, ◌≢◌, ◌<◌, ℕ, zero, suc, ◌==◌, Bool, true, false, not, ◌&&◌, ◌||◌, List, [], ◌∷◌, ◌++◌, length, get_or, refl, sym, ap, ◌∙◌}
-use Rattle.std.proofs.Common.{subst, ⊎_elim, arith}
-use Rattle.std.specs.Prelude.{All, Contains, IsTrue, if◌then◌else◌, nat_le, slice_index_or}
-use Rattle.std.specs.List.{flat_map, list_all}
-use Rattle.std.proofs.lemmas.Bool.{true≢false, cases_Bool, eqb-false}
-use Rattle.base_types.specs.Relations.{Relation, Implies, Excludes, IsPresent, Meets, MeetsAll}
+use Rattle.std.proofs.Common.{◌≡◌, ◌≢◌, ◌<◌, ℕ, suc, ◌==◌, Bool, true, false, not, ◌&&◌, ◌||◌, List, [], ◌∷◌, length, refl, sym, ◌∙◌}
+use Rattle.std.proofs.Common.{subst, arith}
+use Rattle.std.specs.Prelude.{All, Contains, if◌then◌else◌, nat_le, slice_index_or}
+use Rattle.std.specs.List.{flat_map}
+use Rattle.std.proofs.lemmas.Bool.{eqb-false}
+use Rattle.base_types.specs.Relations.{Relation, Implies, Excludes, Meets, MeetsAll}
 use Rattle.est_kernel.specs.WellFormed.{RelatesGiven}
-use Rattle.sat_kernel.specs.declared.literals.Literal.{Literal}
-use Rattle.sat_kernel.specs.Clauses.{IsModel, clause_value}
+use Rattle.sat_kernel.specs.Clauses.{IsModel}
 use Rattle.net_never.specs.GateClauses.{signed}
 use Rattle.net_never.proofs.Exports.{model-both}
 use Rattle.base_facts.proofs.Lists.{contains-later}

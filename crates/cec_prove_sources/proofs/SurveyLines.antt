@@ -1,30 +1,22 @@
--- A survey with one more signal.
-use Rattle.std.proofs.Common.{◌≡◌, ◌<◌, ◌+◌, ℕ, suc, Bool, true, ◌&&◌, List, [], ◌∷◌, ◌++◌, length, map, get_or, Option, refl, sym, ap, subst, ◌∙◌, arith}
+-- A survey with one more output.
+use Rattle.std.proofs.Common.{◌≡◌, ℕ, Bool, true, ◌&&◌, List, [], ◌∷◌, ◌++◌, length, Option, refl, sym, ap, ◌∙◌, arith}
 use Rattle.std.proofs.Math.Bool.{and-true}
-use Rattle.std.proofs.lemmas.List.{append-nil, append_assoc, get_or-map, length-map}
+use Rattle.std.proofs.lemmas.List.{append-nil, append_assoc}
 use Rattle.std.proofs.lemmas.List.Folds.{list_all-append}
-use Rattle.std.specs.List.{list_all}
-use Rattle.est_kernel.specs.Plain.{Program}
-use Rattle.net_ir.specs.declared.netlist.NetOut.{NetOut}
-use Rattle.cec_prove_sources.specs.Surveys.{ArePresences, IsPresence, IsSurveyText, Presence, is_known, presence_text, survey_text}
-use Rattle.cec_prove_sources.specs.Verdicts.{HasPlace}
-use Rattle.cec_prove_sources.specs.Views.{AddsPresence}
+use Rattle.std.proofs.lemmas.Slice.Zip.{AllZip-long, all_zipped_more}
+use Rattle.std.specs.List.{AllZip, list_all}
+use Rattle.cec_prove_sources.specs.DeviceFindings.{AddsDevicePresence}
+use Rattle.cec_prove_sources.specs.DeviceSurveys.{IsDevicePresence, IsDeviceSurveyText}
+use Rattle.cec_prove_sources.specs.Devices.{Device}
+use Rattle.cec_prove_sources.specs.Surveys.{Presence, is_known, presence_text, survey_text}
 
-presences-more : (p : Program) (assumed : Option (List ℕ)) (names : List (List ℕ)) (known : List Presence) (name : List ℕ) (k : Presence)
-    → ArePresences p assumed names known → IsPresence p assumed name k → ArePresences p assumed (names ++ name ∷ []) (known ++ k ∷ [])
-presences-more p assumed [] [] name k are is = (is, tt)
-presences-more p assumed [] (j ∷ known) name k are is = absurd are
-presences-more p assumed (n ∷ names) [] name k are is = absurd are
-presences-more p assumed (n ∷ names) (j ∷ known) name k are is = (are.0, presences-more p assumed names known name k are.1 is)
+pub AllZip-weaker : {A B : Type 0} (P Q : A → B → Type 0) → ((a : A) (b : B) → P a b → Q a b) → (xs : List A) (ys : List B) → AllZip P xs ys → AllZip Q xs ys
+AllZip-weaker P Q more [] [] all = all
+AllZip-weaker P Q more [] (y ∷ ys) all = absurd all
+AllZip-weaker P Q more (x ∷ xs) [] all = absurd all
+AllZip-weaker P Q more (x ∷ xs) (y ∷ ys) all = (more x y all.0, AllZip-weaker P Q more xs ys all.1)
 
-presences-long : (p : Program) (assumed : Option (List ℕ)) (names : List (List ℕ)) (known : List Presence) → ArePresences p assumed names known
-    → length known ≡ length names
-presences-long p assumed [] [] are = refl
-presences-long p assumed [] (j ∷ known) are = absurd are
-presences-long p assumed (n ∷ names) [] are = absurd are
-presences-long p assumed (n ∷ names) (j ∷ known) are = ap suc (presences-long p assumed names known are.1)
-
-pub text-more : (names : List (List ℕ)) (known : List Presence) (name : List ℕ) (k : Presence) → length known ≡ length names
+text-more : (names : List (List ℕ)) (known : List Presence) (name : List ℕ) (k : Presence) → length known ≡ length names
     → survey_text (names ++ name ∷ []) (known ++ k ∷ []) ≡ survey_text names known ++ presence_text name k
 text-more [] [] name k e = append-nil (presence_text name k)
 text-more [] (j ∷ known) name k e = absurd (omega arith)
@@ -33,24 +25,17 @@ text-more (n ∷ names) (j ∷ known) name k e =
     ap (λ t. presence_text n j ++ t) (text-more names known name k (omega arith))
     ∙ sym (append_assoc (presence_text n j) (survey_text names known) (presence_text name k))
 
-pub survey-none : (p : Program) (assumed : Option (List ℕ)) → IsSurveyText p assumed [] [] true
-survey-none p assumed = record { presences = []; known = tt; written = refl; each_known = refl }
+pub survey-none : (d : Device) (assumed : Option (List ℕ)) → IsDeviceSurveyText d assumed [] [] true
+survey-none d assumed = record { presences = []; known = tt; written = refl; each_known = refl }
 
-pub survey-more : (p : Program) (assumed : Option (List ℕ)) (names : List (List ℕ)) (name text new : List ℕ) (whole sure : Bool)
-    → IsSurveyText p assumed names text whole → AddsPresence p assumed name text new sure
-    → IsSurveyText p assumed (names ++ name ∷ []) new (whole && sure)
-survey-more p assumed names name text new whole sure survey adds = record {
+pub survey-more : (d : Device) (assumed : Option (List ℕ)) (names : List (List ℕ)) (name text new : List ℕ) (whole sure : Bool)
+    → IsDeviceSurveyText d assumed names text whole → AddsDevicePresence d assumed name text new sure
+    → IsDeviceSurveyText d assumed (names ++ name ∷ []) new (whole && sure)
+survey-more d assumed names name text new whole sure survey adds = record {
   presences = survey.presences ++ adds.presence ∷ [];
-  known = presences-more p assumed names survey.presences name adds.presence survey.known adds.is;
+  known = all_zipped_more (IsDevicePresence d assumed) names survey.presences name adds.presence survey.known adds.is;
   written = adds.lines ∙ ap (λ t. t ++ presence_text name adds.presence) survey.written
-      ∙ sym (text-more names survey.presences name adds.presence (presences-long p assumed names survey.presences survey.known));
+      ∙ sym (text-more names survey.presences name adds.presence (AllZip-long (IsDevicePresence d assumed) names survey.presences survey.known));
   each_known = (λ i. survey.each_known i && adds.sure_of_it i) ∙ ap (λ b. list_all is_known survey.presences && b) (sym (and-true (is_known adds.presence)))
       ∙ sym (list_all-append is_known survey.presences (adds.presence ∷ []));
-}
-
--- the place of an output by its own name
-pub own-place : (outputs : List NetOut) (k : ℕ) (d : NetOut) → k < length outputs → HasPlace (map (λ (o : NetOut). o.name) outputs) (get_or outputs k d).name k
-own-place outputs k d low = record {
-  low = subst (λ n. k < n) (sym (length-map outputs (λ (o : NetOut). o.name))) low;
-  is = get_or-map (λ (o : NetOut). o.name) outputs k d [] low;
 }

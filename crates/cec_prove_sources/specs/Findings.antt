@@ -1,5 +1,4 @@
 -- Contract: what the search for a proof or a trace finds.
-use Rattle.std.specs.Prelude.{⊤}
 use Rattle.est_kernel.specs.Plain.{Program}
 use Rattle.cec_prove_sources.specs.Verdicts.{AnswersBroken, AnswersHolds, HasSignals, PlainQuestion}
 use Rattle.cec_prove_sources.specs.declared.questions.Finding.{Finding}

@@ -1,7 +1,14 @@
 pub mod Claims
+pub mod DeviceClaims
+pub mod DeviceFindings
+pub mod DeviceSameness
+pub mod DeviceSurveys
+pub mod DeviceVerdicts
+pub mod Devices
 pub mod Findings
 pub mod Interfaces
 pub mod NetClaims
+pub mod NetDevices
 pub mod PairRuns
 pub mod Reading
 pub mod RelationClauses

@@ -1,6 +1,6 @@
 -- To believe: what a survey says of the outgoing signals of a source.
-use Rattle.std.specs.Prelude.{◌≡◌, ℕ, Bool, true, false, List, [], ◌∷◌, ◌++◌, Option, Some, None, IfSome, codes, ⊤}
-use Rattle.std.specs.List.{list_all}
+use Rattle.std.specs.Prelude.{◌≡◌, ℕ, Bool, true, false, List, [], ◌∷◌, ◌++◌, Option, Some, None, IfSome, codes}
+use Rattle.std.specs.List.{AllZip, list_all}
 use Rattle.est_kernel.specs.Plain.{Program, outgoing_names}
 use Rattle.est_front.specs.Sources.{StandsFor}
 use Rattle.cec_compile.specs.Refusals.{Compiles}
@@ -33,14 +33,6 @@ IsPresence p assumed name Never = AnswersHolds p (about claims.Never name assume
 IsPresence p assumed name Always = AnswersHolds p (about claims.Always name assumed)
 IsPresence p assumed name (Found present absent) =
     BreaksIfAny p claims.Never name assumed present × BreaksIfAny p claims.Always name assumed absent
-
--- the same of several signals, in order
-abbrev pub ArePresences : Program → Option (List ℕ) → List (List ℕ) → List Presence → Type 0
-ArePresences p assumed [] [] = ⊤
-ArePresences p assumed (name ∷ names) (known ∷ others) =
-    IsPresence p assumed name known × ArePresences p assumed names others
-ArePresences p assumed [] (known ∷ others) = ⊥
-ArePresences p assumed (name ∷ names) [] = ⊥
 
 -- ---- lines
 
@@ -80,7 +72,7 @@ is_known (Found None absent) = false
 pub record IsSurveyText (p : Program) (assumed : Option (List ℕ)) (names : List (List ℕ)) (text : List ℕ)
     (whole : Bool) : Type 0 where
   pub presences : List Presence
-  pub known : ArePresences p assumed names presences
+  pub known : AllZip (IsPresence p assumed) names presences
   pub written : text ≡ survey_text names presences
   pub each_known : whole ≡ list_all is_known presences
 

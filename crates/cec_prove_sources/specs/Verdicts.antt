@@ -1,15 +1,12 @@
 -- To believe: what the answer to a question says of a source. `Open` says only that the program has the signals.
-use Rattle.std.specs.Prelude.{◌≡◌, ◌<◌, ◌≤◌, ℕ, Bool, false, List, [], length, Option, Some, None, slice_index_or, ⊤}
-use Rattle.base_types.specs.declared.bounds.TheConstants.Limits.{TRACE_BYTES}
+use Rattle.std.specs.Prelude.{◌≡◌, ◌<◌, ℕ, Bool, false, List, [], length, Option, Some, None, slice_index_or, ⊤}
 use Rattle.est_kernel.specs.Plain.{Program, given_names, outgoing_names}
 use Rattle.est_front.specs.Sources.{StandsFor}
 use Rattle.net_ir.specs.NameLists.{is_among}
-use Rattle.net_never.specs.Reached.{items_of}
-use Rattle.run_trace_io.specs.Answers.{IsTrace, beginning}
 use Rattle.cec_compile.specs.Refusals.{Compiles}
 use Rattle.cec_prove_sources.specs.Claims.{ClaimHolds, IsBroken}
 use Rattle.cec_prove_sources.specs.TextClaims.{TextsShow}
-use Rattle.cec_prove_sources.specs.TraceTexts.{trace_text}
+use Rattle.cec_prove_sources.specs.TraceTexts.{IsTraceOver}
 use Rattle.cec_prove_sources.specs.declared.questions.Claim.{Claim}
 use Rattle.cec_prove_sources.specs.declared.questions.Layout.{Layout}
 use Rattle.cec_prove_sources.specs.declared.questions.Layout.TheVariants.{LinePerInstant}
@@ -45,12 +42,9 @@ pub record HasSignals (p : Program) (q : PlainQuestion) : Type 0 where
   pub assumed : Option ℕ
   pub asks : AsksOf p q place assumed
 
--- A text is the trace of these events in one of the two layouts. `cec run` reads it: it is not too long, its items are
--- these events, and each of them meets the relations.
-pub record IsTraceOf (layout : Layout) (p : Program) (events : List (List Bool)) (trace : List ℕ) : Type 0 where
-  pub spelled : trace ≡ trace_text layout (given_names p) events
-  pub short : length trace ≤ TRACE_BYTES
-  pub reads : IsTrace (beginning trace (given_names p) p.relations) (items_of events) None
+-- A text is the trace of these events, over the given signals and relations of the program, and `cec run` reads it.
+abbrev pub IsTraceOf : Layout → Program → (events : List (List Bool)) → (trace : List ℕ) → Type 0
+IsTraceOf layout p events trace = IsTraceOver layout (given_names p) p.relations events trace
 
 -- the claim holds of the program, and of the texts that are made of it
 pub record AnswersHolds (p : Program) (q : PlainQuestion) : Type 0 where

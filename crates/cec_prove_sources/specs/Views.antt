@@ -1,11 +1,10 @@
 -- Inner: the plain form of questions and answers.
-use Rattle.std.specs.Prelude.{◌≡◌, ℕ, Bool, List, ◌++◌, Vec, Option, option_map}
+use Rattle.std.specs.Prelude.{ℕ, List, Vec, Option, option_map}
 use Rattle.std.specs.declared.alloc.Global.{Global}
-use Rattle.est_kernel.specs.Plain.{Program}
 use Rattle.cec_prove_sources.specs.declared.questions.Presence as presences
 use Rattle.cec_prove_sources.specs.declared.questions.Presence.TheVariants as known
 use Rattle.cec_prove_sources.specs.declared.questions.Question.{Question}
-use Rattle.cec_prove_sources.specs.Surveys.{Presence, Never, Always, Found, IsPresence, is_known, presence_text}
+use Rattle.cec_prove_sources.specs.Surveys.{Presence, Never, Always, Found}
 use Rattle.cec_prove_sources.specs.Verdicts.{PlainQuestion}
 
 abbrev pub plain_question : Question → PlainQuestion
@@ -22,10 +21,3 @@ abbrev pub plain_presence : presences.Presence → Presence
 plain_presence known.Never = Never
 plain_presence known.Always = Always
 plain_presence (known.Found present absent) = Found (plain_trace present) (plain_trace absent)
-
--- a text gained the lines of a signal, and whether it is known when the signal is present
-pub record AddsPresence (p : Program) (assumed : Option (List ℕ)) (name old new : List ℕ) (sure : Bool) : Type 0 where
-  pub presence : Presence
-  pub is : IsPresence p assumed name presence
-  pub lines : new ≡ old ++ presence_text name presence
-  pub sure_of_it : sure ≡ is_known presence

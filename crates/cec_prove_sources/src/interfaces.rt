@@ -1,4 +1,4 @@
-// Whether two programs have the same interface.
+// Whether two interfaces are the same.
 
 ghost use Rattle.std.specs.Prelude.{◌≡◌, map, nat_eq};
 ghost use Rattle.std.specs.Cmp.Lexicographic.{pointwise};
@@ -10,14 +10,14 @@ use base_types::{InputRelation, SigId, Text};
 use net_ir::NetOut;
 
 /// Reports whether two lists of names are the same.
-pub fn are_same_names(left: &[Text], right: &[Text]) -> bool
+pub(crate) fn are_same_names(left: &[Text], right: &[Text]) -> bool
     ensures { result ≡ pointwise is_same_name left.now right.now }
 {
     left == right
 }
 
 /// Reports whether the names of two lists of outputs are the same.
-pub fn are_same_outputs(left: &[NetOut], right: &[NetOut]) -> bool
+pub(crate) fn are_same_outputs(left: &[NetOut], right: &[NetOut]) -> bool
     ensures { result ≡ pointwise is_same_name (map (λ o. o.name) left.now) (map (λ o. o.name) right.now) }
 {
     for (k, output) in left.iter().enumerate() {

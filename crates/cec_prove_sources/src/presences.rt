@@ -1,33 +1,32 @@
 // When an outgoing signal is present.
 
-ghost use Rattle.std.specs.Prelude.{◌≡◌, ◌++◌, codes, IfOk, OnOk, option_map};
-ghost use Rattle.est_kernel.specs.Plain.{program_of};
-ghost use Rattle.est_kernel.specs.WellFormed.{IsWellFormed};
+ghost use Rattle.std.specs.Prelude.{◌≡◌, ◌++◌, codes, map, IfOk, OnOk, option_map};
+ghost use Rattle.base_types.specs.Relations.{relation_of};
 ghost use Rattle.net_ir.specs.Runs.{netlist_of};
-ghost use Rattle.cec_compile.specs.NetMeaning.{NetKeeps};
-ghost use Rattle.cec_prove_sources.specs.Surveys.{BreaksIfAny, IsPresence, about, found_word, is_known, presence_text};
-ghost use Rattle.cec_prove_sources.specs.Surveys.{trace_line};
-ghost use Rattle.cec_prove_sources.specs.Verdicts.{AsksOf};
-ghost use Rattle.cec_prove_sources.specs.Views.{AddsPresence, plain_presence, plain_question, plain_trace};
+ghost use Rattle.cec_prove_sources.specs.DeviceFindings.{AddsDevicePresence};
+ghost use Rattle.cec_prove_sources.specs.DeviceSurveys.{BreaksDeviceIfAny, IsDevicePresence};
+ghost use Rattle.cec_prove_sources.specs.DeviceVerdicts.{AsksDevice};
+ghost use Rattle.cec_prove_sources.specs.NetDevices.{RelatesInputs, device_of};
+ghost use Rattle.cec_prove_sources.specs.Surveys.{about, found_word, is_known, presence_text, trace_line};
+ghost use Rattle.cec_prove_sources.specs.Views.{plain_presence, plain_question, plain_trace};
 
-use crate::findings::{PlacedQuestion, found};
+use crate::device_findings::{PlacedQuestion, device_finding};
 use crate::questions::{Claim, Finding, Layout, Presence, Question};
-use base_types::NoMemory;
-use est_kernel::KernelProgram;
+use base_types::{InputRelation, NoMemory};
 use net_ir::Net;
 use std::alloc::Global;
 
 /// An outgoing signal by its name and its place, and the one that is assumed.
 #[derive(Clone, Copy)]
-pub struct Signal<'a> {
+pub(crate) struct Signal<'a> {
     pub name: &'a [u8],
     pub place: usize,
     pub assumed: Option<&'a [u8]>,
     pub assumed_place: Option<usize>,
 }
 
-/// A question about a signal, whose trace is laid out in one line.
-pub fn question_about(signal: Signal<'_>, claim: Claim) -> PlacedQuestion<'_>
+// A question about a signal, whose trace is laid out in one line.
+fn question_about(signal: Signal<'_>, claim: Claim) -> PlacedQuestion<'_>
     ensures question { plain_question result.question
         ≡ about claim signal.entry.name.now (option_map (λ n. n.now) signal.entry.assumed) }
     ensures claim { result.question.claim ≡ claim }
@@ -48,31 +47,25 @@ pub fn question_about(signal: Signal<'_>, claim: Claim) -> PlacedQuestion<'_>
 }
 
 // When a signal is present that is present in some reaction, or of which nothing is known.
-fn presence_beside(
+fn other_presence(
     alloc: Global,
-    program: &KernelProgram,
+    relations: &[InputRelation],
     net: &Net,
     signal: Signal<'_>,
     present: Option<Vec<u8>>,
     effort: u64,
 ) -> Result<Presence, NoMemory>
-    requires fits { IsWellFormed (program_of program.now) }
-    requires keeps { NetKeeps (netlist_of net.now) (program_of program.now) }
-    requires asks { AsksOf (program_of program.now)
+    requires fits { RelatesInputs (map relation_of relations.now) (netlist_of net.now) }
+    requires asks { AsksDevice (device_of relations.now net.now)
         (about Claim.Always signal.name.now (option_map (λ n. n.now) signal.assumed))
         signal.place signal.assumed_place }
-    requires breaks { BreaksIfAny (program_of program.now) Claim.Never signal.name.now
+    requires breaks { BreaksDeviceIfAny (device_of relations.now net.now) Claim.Never signal.name.now
         (option_map (λ n. n.now) signal.assumed) (plain_trace present) }
-    ensures { IfOk result (λ p. IsPresence (program_of program.now) (option_map (λ n. n.now) signal.entry.assumed)
-        signal.entry.name.now (plain_presence p)) }
+    ensures { IfOk result (λ p. IsDevicePresence (device_of relations.now net.now)
+        (option_map (λ n. n.now) signal.entry.assumed) signal.entry.name.now (plain_presence p)) }
 {
-    match found(
-        alloc,
-        program,
-        net,
-        question_about(signal, Claim::Always),
-        effort,
-    )? {
+    let asked = question_about(signal, Claim::Always);
+    match device_finding(alloc, relations, net, asked, effort)? {
         Finding::Holds => Ok(Presence::Always),
         Finding::Broken(absent) => Ok(Presence::Found(present, Some(absent))),
         Finding::Open(_) => Ok(Presence::Found(present, None)),
@@ -82,30 +75,24 @@ fn presence_beside(
 // When a signal is present.
 fn presence_of(
     alloc: Global,
-    program: &KernelProgram,
+    relations: &[InputRelation],
     net: &Net,
     signal: Signal<'_>,
     effort: u64,
 ) -> Result<Presence, NoMemory>
-    requires fits { IsWellFormed (program_of program.now) }
-    requires keeps { NetKeeps (netlist_of net.now) (program_of program.now) }
-    requires asks { AsksOf (program_of program.now)
+    requires fits { RelatesInputs (map relation_of relations.now) (netlist_of net.now) }
+    requires asks { AsksDevice (device_of relations.now net.now)
         (about Claim.Never signal.name.now (option_map (λ n. n.now) signal.assumed)) signal.place signal.assumed_place }
-    ensures { IfOk result (λ p. IsPresence (program_of program.now) (option_map (λ n. n.now) signal.entry.assumed)
-        signal.entry.name.now (plain_presence p)) }
+    ensures { IfOk result (λ p. IsDevicePresence (device_of relations.now net.now)
+        (option_map (λ n. n.now) signal.entry.assumed) signal.entry.name.now (plain_presence p)) }
 {
-    match found(
-        alloc,
-        program,
-        net,
-        question_about(signal, Claim::Never),
-        effort,
-    )? {
+    let asked = question_about(signal, Claim::Never);
+    match device_finding(alloc, relations, net, asked, effort)? {
         Finding::Holds => Ok(Presence::Never),
         Finding::Broken(present) => {
-            presence_beside(alloc, program, net, signal, Some(present), effort)
+            other_presence(alloc, relations, net, signal, Some(present), effort)
         }
-        Finding::Open(_) => presence_beside(alloc, program, net, signal, None, effort),
+        Finding::Open(_) => other_presence(alloc, relations, net, signal, None, effort),
     }
 }
 
@@ -138,8 +125,8 @@ fn found_word(present: &Option<Vec<u8>>, absent: &Option<Vec<u8>>) -> &'static [
     }
 }
 
-/// Appends the line of a signal, and those of the traces.
-pub fn push_presence(text: &mut Vec<u8>, name: &[u8], presence: &Presence) -> Result<(), NoMemory>
+// Appends the line of a signal, and those of the traces.
+fn push_presence(text: &mut Vec<u8>, name: &[u8], presence: &Presence) -> Result<(), NoMemory>
     ensures { OnOk result (text.new.items ≡ text.old.items ++ presence_text name.now (plain_presence presence.now)) }
 {
     text.extend_from_slice(name)?;
@@ -167,8 +154,8 @@ fn push_found(
     push_trace(text, name, b" absent:", absent)
 }
 
-/// Reports whether it is known when a signal is present.
-pub fn is_known(presence: &Presence) -> bool
+// Reports whether it is known when a signal is present.
+fn is_known(presence: &Presence) -> bool
     ensures { result ≡ is_known (plain_presence presence.now) }
 {
     match presence {
@@ -181,19 +168,18 @@ pub fn is_known(presence: &Presence) -> bool
 pub(crate) fn push_signal(
     alloc: Global,
     text: &mut Vec<u8>,
-    program: &KernelProgram,
+    relations: &[InputRelation],
     net: &Net,
     signal: Signal<'_>,
     effort: u64,
 ) -> Result<bool, NoMemory>
-    requires fits { IsWellFormed (program_of program.now) }
-    requires keeps { NetKeeps (netlist_of net.now) (program_of program.now) }
-    requires asks { AsksOf (program_of program.now)
+    requires fits { RelatesInputs (map relation_of relations.now) (netlist_of net.now) }
+    requires asks { AsksDevice (device_of relations.now net.now)
         (about Claim.Never signal.name.now (option_map (λ n. n.now) signal.assumed)) signal.place signal.assumed_place }
-    ensures { IfOk result (AddsPresence (program_of program.now) (option_map (λ n. n.now) signal.entry.assumed)
-        signal.entry.name.now text.old.items text.new.items) }
+    ensures { IfOk result (AddsDevicePresence (device_of relations.now net.now)
+        (option_map (λ n. n.now) signal.entry.assumed) signal.entry.name.now text.old.items text.new.items) }
 {
-    let presence = presence_of(alloc, program, net, signal, effort)?;
+    let presence = presence_of(alloc, relations, net, signal, effort)?;
     push_presence(text, signal.name, &presence)?;
     Ok(is_known(&presence))
 }

@@ -122,8 +122,8 @@ pub fn relation_clauses(alloc: Global, program: &KernelProgram) -> Result<Vec<Cl
     Ok(list)
 }
 
-// The clauses of relations, over the inputs of the program's netlist.
-fn push_relations(
+/// Appends the clauses of relations, over the inputs of a netlist.
+pub(crate) fn push_relations(
     alloc: Global,
     list: &mut Vec<Clause>,
     relations: &[InputRelation],

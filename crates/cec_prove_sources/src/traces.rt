@@ -66,7 +66,7 @@ fn push_instant(
 }
 
 /// The trace of events: for each the names of the given signals that are present, and `;`.
-pub fn trace_text(
+pub(crate) fn trace_text(
     alloc: Global,
     layout: Layout,
     names: &[Text],

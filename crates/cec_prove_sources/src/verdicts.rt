@@ -1,77 +1,24 @@
 // Whether a claim about an outgoing signal holds.
 
-ghost use Rattle.std.specs.Prelude.{◌≡◌, ◌≤◌, length, option_map, IfErr, IfOk};
-ghost use Rattle.est_kernel.specs.Plain.{outgoing_names, program_of};
+ghost use Rattle.std.specs.Prelude.{◌≤◌, length, option_map, IfErr, IfOk};
+ghost use Rattle.est_kernel.specs.Plain.{program_of};
 ghost use Rattle.est_kernel.specs.WellFormed.{IsWellFormed};
 ghost use Rattle.net_ir.specs.Runs.{netlist_of};
 ghost use Rattle.cec_compile.specs.Compiling.{IsCompiled};
 ghost use Rattle.cec_compile.specs.Following.{FollowsGraph};
 ghost use Rattle.cec_compile.specs.NetMeaning.{NetKeeps};
 ghost use Rattle.cec_compile.specs.Refusals.{IsRefused};
-ghost use Rattle.cec_prove_sources.specs.Verdicts.{AsksOf, HasPlace, HasVerdict, IsVerdict};
+ghost use Rattle.cec_prove_sources.specs.Verdicts.{HasVerdict, IsVerdict};
 ghost use Rattle.cec_prove_sources.specs.Views.{plain_question};
 
-use crate::findings::{PlacedQuestion, found};
-use crate::places::place_of;
-use crate::questions::{Finding, Layout, Question, Verdict};
+use crate::device_verdicts::{device_verdict, made_verdict};
+use crate::questions::{Question, Verdict};
 use base_types::{Limits, NoMemory};
 use cec_compile::{Compiled, Refusal, TextForm, compile, made_in};
 use est_kernel::KernelProgram;
 use grc_order::Picker;
 use net_ir::Net;
-use net_opt::optimize;
 use std::alloc::Global;
-
-// The answer about the signals with these places.
-fn decided(
-    alloc: Global,
-    program: &KernelProgram,
-    net: &Net,
-    question: Question<'_>,
-    place: usize,
-    assumed: Option<usize>,
-    effort: u64,
-) -> Result<Verdict, NoMemory>
-    requires fits { IsWellFormed (program_of program.now) }
-    requires keeps { NetKeeps (netlist_of net.now) (program_of program.now) }
-    requires asks { AsksOf (program_of program.now) (plain_question question) place assumed }
-    ensures { IfOk result (IsVerdict (program_of program.now) (plain_question question.entry)) }
-{
-    let asked = PlacedQuestion {
-        question,
-        place,
-        assumed,
-        layout: Layout::LinePerInstant,
-    };
-    match found(alloc, program, net, asked, effort)? {
-        Finding::Holds => Ok(Verdict::Holds),
-        Finding::Broken(trace) => Ok(Verdict::Broken(trace)),
-        Finding::Open(depth) => Ok(Verdict::Open(depth)),
-    }
-}
-
-// The answer about the signal with this place.
-fn placed_verdict(
-    alloc: Global,
-    program: &KernelProgram,
-    net: &Net,
-    question: Question<'_>,
-    place: usize,
-    effort: u64,
-) -> Result<Verdict, NoMemory>
-    requires fits { IsWellFormed (program_of program.now) }
-    requires keeps { NetKeeps (netlist_of net.now) (program_of program.now) }
-    requires signal { HasPlace (outgoing_names (program_of program.now)) question.signal.now place }
-    ensures { IfOk result (IsVerdict (program_of program.now) (plain_question question.entry)) }
-{
-    let Some(name) = question.assumed else {
-        return decided(alloc, program, net, question, place, None, effort);
-    };
-    match place_of(program, net, name) {
-        None => Ok(Verdict::NoAssumed),
-        Some(at) => decided(alloc, program, net, question, place, Some(at), effort),
-    }
-}
 
 /// The answer to a question about an outgoing signal of a program, by a netlist that keeps what the program means,
 /// however the netlist was made: what `verdict_of` says of a source's program. The effort is one of `net_search`. The
@@ -87,26 +34,7 @@ pub fn net_verdict(
     requires keeps { NetKeeps (netlist_of net.now) (program_of program.now) }
     ensures { IfOk result (IsVerdict (program_of program.now) (plain_question question.entry)) }
 {
-    match place_of(program, net, question.signal) {
-        None => Ok(Verdict::NoSignal),
-        Some(place) => placed_verdict(alloc, program, net, question, place, effort),
-    }
-}
-
-// The answer by the optimized netlist.
-fn small_verdict(
-    alloc: Global,
-    program: &KernelProgram,
-    net: &Net,
-    question: Question<'_>,
-    effort: u64,
-) -> Result<Verdict, NoMemory>
-    requires fits { IsWellFormed (program_of program.now) }
-    requires keeps { NetKeeps (netlist_of net.now) (program_of program.now) }
-    ensures { IfOk result (IsVerdict (program_of program.now) (plain_question question.entry)) }
-{
-    let small = optimize(alloc, net)?;
-    net_verdict(alloc, program, &small, question, effort)
+    device_verdict(alloc, &program.relations, net, question, effort)
 }
 
 // The share of the effort that goes to short traces by the program's own netlist.
@@ -150,25 +78,7 @@ fn encoded_verdict(
     ensures { IfOk result (IsVerdict (program_of compiled.graph.program) (plain_question question.entry)) }
 {
     let made = made_in(alloc, TextForm::EncodedBlif, compiled)?;
-    made_verdict(alloc, &made.program, &made.net, question, effort)
-}
-
-// The answer by a netlist, and by the optimized one where a third of the effort was not enough.
-fn made_verdict(
-    alloc: Global,
-    program: &KernelProgram,
-    net: &Net,
-    question: Question<'_>,
-    effort: u64,
-) -> Result<Verdict, NoMemory>
-    requires fits { IsWellFormed (program_of program.now) }
-    requires keeps { NetKeeps (netlist_of net.now) (program_of program.now) }
-    ensures { IfOk result (IsVerdict (program_of program.now) (plain_question question.entry)) }
-{
-    match net_verdict(alloc, program, net, question, effort / 3) {
-        Ok(Verdict::Open(_)) => small_verdict(alloc, program, net, question, effort / 3 * 2),
-        others => others,
-    }
+    made_verdict(alloc, &made.program.relations, &made.net, question, effort)
 }
 
 /// The answer to a question about an outgoing signal of a source. `Holds` is proved. It is about every list of events

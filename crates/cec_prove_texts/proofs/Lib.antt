@@ -1,5 +1,1 @@
-mod Rendering
-mod NetShows
 mod TextCircuits
-mod PairedNets
-mod SurveyRows

@@ -1,99 +1,21 @@
 // Whether two texts do the same.
 
-ghost use Rattle.std.specs.Prelude.{◌≤◌, ℕ, List, length, None, IfOk, IsTrue};
+ghost use Rattle.std.specs.Prelude.{◌≤◌, ℕ, List, length, IfOk};
 ghost use Rattle.base_types.specs.Stops.{FaultIs, IfFault};
 ghost use Rattle.net_ir.specs.Netlists.{Netlist};
 ghost use Rattle.net_ir.specs.Runs.{netlist_of};
-ghost use Rattle.net_never.specs.Reached.{events_of, is_reached};
-ghost use Rattle.net_pair.specs.Pairs.{IsPair};
 ghost use Rattle.cec_opt_texts.specs.Faults.{IsOptFault};
 ghost use Rattle.cec_opt_texts.specs.Optimized.{IsTextNet};
-ghost use Rattle.cec_prove_sources.specs.NetClaims.{assumed_clauses, bad_literal};
 ghost use Rattle.cec_prove_texts.specs.Faults.{IsPairFault};
-ghost use Rattle.cec_prove_texts.specs.NetDevices.{net_device};
-ghost use Rattle.cec_prove_texts.specs.Sameness.{HasTextComparison, IsDeviceComparison, SharesNames};
+ghost use Rattle.cec_prove_texts.specs.Sameness.{HasTextComparison};
 
 use crate::fault::PairFault;
-use crate::traces::trace_of;
-use base_types::{Limits, NoMemory, Stop};
+use base_types::{Limits, Stop};
 use blif_read::BlifFault;
 use cec_opt_texts::text_net;
-use cec_prove_sources::{
-    Claim, Comparison, Layout, are_same_names, are_same_outputs, assumed_clauses, bad_literal,
-    small_pair,
-};
+use cec_prove_sources::{Comparison, device_comparison};
 use net_ir::Net;
-use net_search::{Decision, decide};
 use std::alloc::Global;
-
-// The comparison where events lead to an instant that differs by the netlist of both. The trace is read again.
-fn different_by(
-    alloc: Global,
-    left: &Net,
-    right: &Net,
-    net: &Net,
-    events: &[Vec<bool>],
-) -> Result<Comparison, NoMemory>
-    requires names { SharesNames (net_device (netlist_of left.now)) (net_device (netlist_of right.now)) }
-    requires pair { IsPair (netlist_of left.now) (netlist_of right.now) (netlist_of net.now) }
-    requires reached { IsTrue (is_reached (netlist_of net.now) (assumed_clauses net.now.outputs.items None)
-        (bad_literal net.now.outputs.items Claim.Never 0) (events_of events.now)) }
-    ensures { IfOk result
-        (IsDeviceComparison (net_device (netlist_of left.now)) (net_device (netlist_of right.now))) }
-{
-    match trace_of(alloc, left, Layout::LinePerInstant, events)? {
-        Some(trace) => Ok(Comparison::Different(trace)),
-        None => Ok(Comparison::Open(0)),
-    }
-}
-
-// The comparison by the netlist of both.
-fn decided(
-    alloc: Global,
-    left: &Net,
-    right: &Net,
-    net: &Net,
-    effort: u64,
-) -> Result<Comparison, NoMemory>
-    requires names { SharesNames (net_device (netlist_of left.now)) (net_device (netlist_of right.now)) }
-    requires pair { IsPair (netlist_of left.now) (netlist_of right.now) (netlist_of net.now) }
-    ensures { IfOk result
-        (IsDeviceComparison (net_device (netlist_of left.now)) (net_device (netlist_of right.now))) }
-{
-    let allowed = assumed_clauses(alloc, net, None)?;
-    let bad = bad_literal(net, Claim::Never, 0);
-    match decide(alloc, net, &allowed, bad, effort)? {
-        Decision::Never => Ok(Comparison::Same),
-        Decision::Reached(events) => different_by(alloc, left, right, net, &events),
-        Decision::Unknown(depth) => Ok(Comparison::Open(depth)),
-    }
-}
-
-// The comparison of two netlists with the same names.
-fn paired(alloc: Global, left: &Net, right: &Net, effort: u64) -> Result<Comparison, NoMemory>
-    requires names { SharesNames (net_device (netlist_of left.now)) (net_device (netlist_of right.now)) }
-    ensures { IfOk result
-        (IsDeviceComparison (net_device (netlist_of left.now)) (net_device (netlist_of right.now))) }
-{
-    match small_pair(alloc, left, right)? {
-        None => Ok(Comparison::Open(0)),
-        Some(net) => decided(alloc, left, right, &net, effort),
-    }
-}
-
-// The comparison of two netlists.
-fn compared(alloc: Global, left: &Net, right: &Net, effort: u64) -> Result<Comparison, NoMemory>
-    ensures { IfOk result
-        (IsDeviceComparison (net_device (netlist_of left.now)) (net_device (netlist_of right.now))) }
-{
-    if !are_same_names(&left.inputs, &right.inputs) {
-        return Ok(Comparison::OtherGiven);
-    }
-    if !are_same_outputs(&left.outputs, &right.outputs) {
-        return Ok(Comparison::OtherOutgoing);
-    }
-    paired(alloc, left, right, effort)
-}
 
 // The first text has this fault.
 fn first_stop(stop: Stop<BlifFault>) -> Stop<PairFault>
@@ -167,6 +89,6 @@ pub fn text_comparison_of(
 {
     let left = first_net(alloc, first, second)?;
     let right = second_net(alloc, &left, first, second)?;
-    let comparison = compared(alloc, &left, &right, effort)?;
+    let comparison = device_comparison(alloc, &[], &left, &[], &right, effort)?;
     Ok(comparison)
 }

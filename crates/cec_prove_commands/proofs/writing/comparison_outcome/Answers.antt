@@ -4,8 +4,8 @@ use Rattle.base_types.specs.SinkChanges.{change}
 use Rattle.base_types.proofs.Exports.{appends-nothing}
 use Rattle.est_kernel.specs.Plain.{given_names, outgoing_names}
 use Rattle.cec_text_io.specs.Writings.{LeavesText}
+use Rattle.cec_prove_sources.specs.DeviceSameness.{AreDifferentDevices, AreSameDevices, SharesNames}
 use Rattle.cec_prove_sources.specs.Sameness.{AreDifferent, AreSame, SharesInterface}
-use Rattle.cec_prove_texts.specs.Sameness.{AreDifferentDevices, AreSameDevices, SharesNames}
 use Rattle.cec_prove_commands.specs.Outcomes.{ComparisonSays, IsDistinction, IsDistinctionBy}
 use Rattle.cec_prove_commands.specs.Statuses.{written_of}
 use Rattle.cec_prove_commands.specs.TextOutcomes.{IsTextDistinction, TextComparisonSays}
@@ -94,7 +94,7 @@ returns-in-OtherOutgoing-clause-out_of_texts g c = λ first second h. appends-no
 
 pub returns-in-OtherRelations-clause-says_of_texts : goal.returns-in-OtherRelations-clause-says_of_texts
 returns-in-OtherRelations-clause-says_of_texts g c = λ first second h.
-    let none = text_comparison_says first second _ _ (λ d e. ⊥) h c.in-OtherRelations.is (λ d e is. is) in absurd none.says
+    let none = text_comparison_says first second _ _ (λ d e. d.relations ≢ e.relations) h c.in-OtherRelations.is (λ d e is. is) in absurd (none.says refl)
 
 pub returns-in-OtherRelations-clause-out_of_texts : goal.returns-in-OtherRelations-clause-out_of_texts
 returns-in-OtherRelations-clause-out_of_texts g c = λ first second h. appends-nothing _ _

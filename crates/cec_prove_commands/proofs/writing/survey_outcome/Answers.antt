@@ -3,10 +3,10 @@ use Rattle.base_types.specs.SinkChanges.{change}
 use Rattle.base_types.proofs.Exports.{appends-nothing}
 use Rattle.cec_text_io.specs.Writings.{LeavesText}
 use Rattle.est_kernel.specs.Plain.{outgoing_names}
+use Rattle.cec_prove_sources.specs.DeviceSurveys.{IsDeviceSurveyText}
+use Rattle.cec_prove_sources.specs.DeviceVerdicts.{IsNoOutput}
 use Rattle.cec_prove_sources.specs.Surveys.{IsSurveyText}
 use Rattle.cec_prove_sources.specs.Verdicts.{IsNone}
-use Rattle.cec_prove_texts.specs.Surveys.{IsDeviceSurveyText}
-use Rattle.cec_prove_texts.specs.Verdicts.{IsNoOutput}
 use Rattle.cec_prove_commands.specs.Outcomes.{SurveySays, IsSurveyBy}
 use Rattle.cec_prove_commands.specs.Statuses.{written_of}
 use Rattle.cec_prove_commands.specs.TextOutcomes.{IsTextSurveyBy, IsTextSurveyOf, TextSurveySays}

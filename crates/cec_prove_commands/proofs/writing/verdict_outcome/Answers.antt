@@ -5,9 +5,9 @@ use Rattle.base_types.proofs.Exports.{appends-nothing}
 use Rattle.est_kernel.specs.Plain.{outgoing_names}
 use Rattle.net_ir.specs.NameLists.{is_among}
 use Rattle.cec_text_io.specs.Writings.{LeavesText}
+use Rattle.cec_prove_sources.specs.DeviceVerdicts.{AnswersDeviceBroken, AnswersDeviceHolds, DeviceHasSignals, IsNoOutput}
 use Rattle.cec_prove_sources.specs.Verdicts.{AnswersBroken, AnswersHolds, HasSignals, IsNone}
 use Rattle.cec_prove_sources.specs.declared.questions.Layout.TheVariants.{LinePerInstant}
-use Rattle.cec_prove_texts.specs.Verdicts.{AnswersDeviceBroken, AnswersDeviceHolds, DeviceHasSignals, IsNoOutput}
 use Rattle.cec_prove_commands.specs.Outcomes.{ClaimSays, IsClaimTraceBy, IsRefutation}
 use Rattle.cec_prove_commands.specs.Statuses.{written_of}
 use Rattle.cec_prove_commands.specs.TextOutcomes.{IsTextRefutation, TextClaimSays}

@@ -1,16 +1,29 @@
-use Rattle.std.proofs.Common.{◌∙◌, ap, subst}
+use Rattle.std.proofs.Common.{ap, map}
+use Rattle.base_types.specs.Relations.{relation_of}
 use Rattle.est_kernel.specs.Plain.{program_of}
 use Rattle.net_ir.specs.Runs.{netlist_of}
-use Rattle.sat_kernel.specs.Clauses.{plain_assumed}
-use Rattle.net_search.specs.Decisions.{IsDecision}
+use Rattle.cec_prove_sources.specs.DeviceFindings.{IsDeviceFinding}
+use Rattle.cec_prove_sources.specs.Findings.{IsFinding}
 use Rattle.cec_prove_sources.specs.Views.{plain_question}
-use Rattle.cec_prove_sources.proofs.Joint.{decided-holds}
+use Rattle.cec_prove_sources.proofs.Joint.{asks-device, of-program, program-finding, related-as}
 use Rattle.cec_prove_sources.proofs.findings.found.Goals as goal
 
-pub returns-in-Never : goal.returns-in-Never
-returns-in-Never c =
-    let net = netlist_of c.args.net.now in
+pub device_finding-requires-clause-fits : goal.device_finding-requires-clause-fits
+device_finding-requires-clause-fits c =
+    related-as (netlist_of c.args.net.now) (program_of c.args.program.now) (map relation_of c.deref.result.now) (ap (map relation_of) c.deref.ensures.value)
+    c.requires.fits c.requires.keeps
+
+pub device_finding-requires-clause-asks : goal.device_finding-requires-clause-asks
+device_finding-requires-clause-asks c =
     let asked = c.args.asked in
-    decided-holds net (program_of c.args.program.now) (plain_question asked.question) asked.place asked.assumed _ _ c.requires.fits c.requires.keeps
-    c.requires.asks (ap plain_assumed c.deref.ensures.value ∙ c.in_ok-allowed.ensures) c.bad_literal-bad.ensures
-    (subst (IsDecision net (plain_assumed c.deref.result.now) c.bad_literal-bad.result) c.in-Never.is c.in_ok-decide.ensures)
+    asks-device (netlist_of c.args.net.now) (program_of c.args.program.now) (map relation_of c.deref.result.now) (plain_question asked.question) asked.place
+    asked.assumed c.requires.keeps c.requires.asks
+
+pub returns : goal.returns
+returns c =
+    let net = netlist_of c.args.net.now in
+    let p = program_of c.args.program.now in
+    let layout = c.args.asked.layout in
+    let q = plain_question c.args.asked.question in
+    of-program (λ d. IsDeviceFinding layout d q) (IsFinding layout p q) net (map relation_of c.deref.result.now) p.relations c.device_finding.result
+    (ap (map relation_of) c.deref.ensures.value) (program-finding net p c.requires.fits c.requires.keeps layout q) c.device_finding.ensures
