@@ -5,8 +5,8 @@
 //! ever true where the relations of the source are met. If that stays open, it is asked of the netlist that `net_opt`
 //! makes of this one. Of two sources `net_pair` makes one netlist, whose one net is true where they differ.
 //!
-//! The calls whose names begin with `device` are about a netlist whose inputs have relations, and `cec_prove_texts`
-//! asks them too. What the netlist keeps of the source carries an answer back to the reactions of the source.
+//! The modules whose names begin with `device` ask of a netlist whose inputs have relations, and `cec_prove_texts` asks
+//! by them too. What the netlist keeps of the source carries an answer back to the reactions of the source.
 #![tactic(auto)]
 
 mod comparing;

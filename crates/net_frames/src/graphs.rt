@@ -28,7 +28,7 @@ pub enum AndNode {
 }
 
 /// An and-inverter graph. Operands have lower numbers than the node that reads them, and no two nodes have the same
-/// operands. AndNode 0 is true.
+/// operands. Node 0 is true.
 #[derive(Drop)]
 pub struct AndGraph {
     nodes: Vec<AndNode>,
